@@ -1,0 +1,11 @@
+pub mod NumberLists
+pub mod TextLists
+pub mod Scaling
+pub mod Numerals
+pub mod Stored
+pub mod TextFields
+pub mod Rows
+pub mod Naming
+pub mod Pushing
+pub mod Reading
+pub mod Loading

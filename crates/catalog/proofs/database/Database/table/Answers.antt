@@ -1,0 +1,12 @@
+use Rattle.std.proofs.Common.{◌∙◌, sym, ap, Some, List, get_or}
+use Rattle.definitions.specs.Table.{Table}
+use Rattle.catalog.proofs.Naming.{named_some, named_none}
+use Rattle.catalog.proofs.database.Database.table.Goals as goal
+
+pub returns-in-Some : goal.returns-in-Some
+returns-in-Some c =
+    ap Some (c.index.ensures ∙ ap (λ (ts : List Table). get_or ts c.in-Some.place c.index.result.now) c.self.view_is)
+    ∙ sym ((named_some c.args.self.now c.args.name.now c.in-Some.place (c.in-Some.ensures).place).is c.index.result.now)
+
+pub returns-in-None : goal.returns-in-None
+returns-in-None c = sym (named_none c.args.self.now c.args.name.now 0 (sym (c.in-None.ensures).place))

@@ -1,0 +1,27 @@
+use Rattle.std.proofs.Common.{◌≡◌, ◌∙◌, ap, rules, take, map, arith, true, false}
+use Rattle.std.specs.String.{string_bytes}
+use Rattle.std.proofs.lemmas.List.{take_all}
+use Rattle.catalog.specs.Meaning.{definitions_of}
+use Rattle.catalog.specs.Stored.{empty_column}
+use Rattle.catalog.proofs.Rows.{untyped_at, empty_filled, new_is}
+use Rattle.catalog.proofs.table.Table.new.Goals as goal
+
+-- all columns are made
+made : (c : goal.In_ok-name) → c.loop-column.made.items ≡ map empty_column (definitions_of c.args.columns.now)
+made c =
+    let all : take c.loop-column.column-index c.args.columns.now ≡ c.args.columns.now = take_all c.loop-column.column-index c.args.columns.now c.loop-column-test.false in
+    c.loop-column.invariant.made ∙ ap (λ ns. map empty_column (definitions_of ns)) all
+
+pub returns-in_default-clause-err : goal.returns-in_default-clause-err
+returns-in_default-clause-err c = untyped_at c.args.columns.now c.loop-column.column-index _ c.loop-column-test.true (λ t. let clash : false ≡ true = (c.in_default.ensures).in_range.1 t in cc)
+
+pub invariant_of-result : goal.invariant_of-result
+invariant_of-result c = record {
+  filled = rw (made c) (empty_filled (definitions_of c.args.columns.now));
+  few = omega arith;
+}
+
+pub returns-clause-ok : goal.returns-clause-ok
+returns-clause-ok c =
+    let name : string_bytes c.in_ok-name.name ≡ c.args.name.now = search rules in
+    new_is _ _ _ (definitions_of c.args.columns.now) name (made c)

@@ -1,0 +1,15 @@
+pub use Rattle.definitions.specs.Table
+pub use Rattle.definitions.specs.Refusal
+pub use Rattle.definitions.specs.Loading
+pub mod Meaning
+pub mod Stored
+pub mod Numbers
+pub mod NumberTypes
+pub mod Texts
+pub mod Fields
+pub mod Cells
+pub mod Columns
+pub mod Tables
+pub mod Creates
+pub mod Loads
+pub mod Files

@@ -1,0 +1,92 @@
+-- The cells of columns as lists of values, and these as the rows of a table.
+use Rattle.std.specs.Prelude.{ℕ, zero, suc, ℤ, ◌-◌, ◌≤◌, List, [], ◌∷◌, ◌++◌, Option, Some, None, length, map, take, replicate, slice_index_or, ◌≡◌, ⊤}
+use Rattle.std.specs.List.{AllByRecursion}
+use Rattle.std.specs.Str.{IsAscii}
+use Rattle.definitions.specs.Value.{Value, Null, Number, Text, SqlType, Char, scale_of}
+use Rattle.definitions.specs.Statement.{Name, ColumnDefinition}
+use Rattle.definitions.specs.Table.{Column, Row, Table}
+
+-- a column without its name: the type of its values, and these
+pub record CellList : Type 0 where
+  pub type : SqlType
+  pub values : List Value
+
+-- a column with its values
+pub record StoredColumn : Type 0 where
+  pub header : Column
+  pub values : List Value
+
+-- the value of a cell of numbers
+abbrev pub number_or_null : SqlType → Option ℤ → Value
+number_or_null type None = Null
+number_or_null type (Some units) = Number units (scale_of type)
+
+-- a text with spaces behind it, as many as make it n characters long
+abbrev pub padded : ℕ → List ℕ → List ℕ
+padded n codes = codes ++ replicate (n - length codes) 32
+
+-- how long the texts of a type are
+abbrev pub length_of : SqlType → ℕ
+length_of (Char n) = n
+length_of _ = 0
+
+-- the value of a cell of texts
+abbrev pub text_or_null : SqlType → Option (List ℕ) → Value
+text_or_null type None = Null
+text_or_null type (Some codes) = Text (padded (length_of type) codes)
+
+-- characters that a column has room for
+abbrev pub FitsIn : SqlType → List ℕ → Type 0
+FitsIn type codes = (length codes ≤ length_of type) × IsAscii codes
+
+-- cells under a name
+abbrev pub named : Name → CellList → StoredColumn
+named name l = record { header = record { name = name; type = l.type }; values = l.values }
+
+-- a column that a definition makes, without values
+abbrev pub empty_column : ColumnDefinition → StoredColumn
+empty_column d = named d.name (record { type = d.type; values = [] })
+
+-- a column with one more value, or the first values of it alone
+abbrev pub with_value : StoredColumn → Value → StoredColumn
+with_value c v = record c { values = c.values ++ v ∷ [] }
+
+abbrev pub cut_to : ℕ → StoredColumn → StoredColumn
+cut_to rows c = record c { values = take rows c.values }
+
+abbrev pub headers : List StoredColumn → List Column
+headers = map (λ (c : StoredColumn). c.header)
+
+abbrev pub value_at : ℕ → StoredColumn → Value
+value_at k c = slice_index_or c.values k Null
+
+-- the k-th row, and the first rows
+abbrev pub row_at : ℕ → List StoredColumn → Row
+row_at k = map (value_at k)
+
+abbrev pub rows_of : ℕ → List StoredColumn → List Row
+rows_of zero cs = []
+rows_of (suc n) cs = rows_of n cs ++ row_at n cs ∷ []
+
+-- columns of n values each as a table
+abbrev pub table_of : Name → List StoredColumn → ℕ → Table
+table_of name cs n = record { name = name; columns = headers cs; rows = rows_of n cs }
+
+-- every column has n values
+abbrev pub AreFilled : ℕ → List StoredColumn → Type 0
+AreFilled n = AllByRecursion (λ (c : StoredColumn). length c.values ≡ n)
+
+-- columns with one more row, and with further rows in turn
+abbrev pub with_row : List StoredColumn → Row → List StoredColumn
+with_row (c ∷ cs) (v ∷ vs) = with_value c v ∷ with_row cs vs
+with_row _ _ = []
+
+abbrev pub with_rows : List StoredColumn → List Row → List StoredColumn
+with_rows cs [] = cs
+with_rows cs (row ∷ rows) = with_rows (with_row cs row) rows
+
+-- each column of the second list is one of the first, with further values at its end
+abbrev pub Extends : List StoredColumn → List StoredColumn → Type 0
+Extends [] [] = ⊤
+Extends (c ∷ cs) (d ∷ ds) = ((more : List Value) × (d ≡ record c { values = c.values ++ more })) × Extends cs ds
+Extends _ _ = ⊥

@@ -1,0 +1,82 @@
+//! Columns of tables.
+
+ghost use Rattle.std.specs.Prelude.{◌≡◌, ◌<◌, ◌≤◌, [], Ok, Err, IfOk, IfErr, OnOk, OnErr, length, bytes_eq, slice_index_or};
+ghost use Rattle.definitions.specs.Value as spec;
+ghost use Rattle.definitions.specs.Refusal as refusal;
+ghost use Rattle.definitions.specs.Loading.{FieldLoads};
+ghost use Rattle.sqlvalue.specs.Meaning.{type_of, value_of};
+ghost use Rattle.catalog.specs.Stored.{named, with_value, cut_to};
+
+use crate::cells::Cells;
+use crate::fault::PushFault;
+use sqlvalue::{SqlType, Value};
+use std::alloc::{AllocError, Global};
+use std::marker::Model;
+
+/// A column: its name, and its cells by their kind.
+#[derive(Drop)]
+pub(crate) struct Column {
+    name: String,
+    cells: Cells,
+}
+
+impl Model for Column {
+    ghost use Rattle.catalog.specs.Stored.{StoredColumn};
+
+    ghost Value = { StoredColumn };
+
+    ghost use Rattle.catalog.specs.Columns.{stored_column};
+
+    ghost view = { stored_column };
+}
+
+impl Column {
+    ghost use Rattle.catalog.specs.Cells.{Refuses};
+
+    /// A column without cells.
+    pub(crate) fn new(alloc: Global, name: &str, sql_type: SqlType) -> Result<Column, AllocError>
+        requires { spec.IsType (type_of sql_type) }
+        ensures { IfOk result (λ c. c ≡ named name.now (record { type = type_of sql_type; values = [] })) }
+    {
+        Ok(Column {
+            name: String::from_str(alloc, name)?,
+            cells: Cells::new(alloc, sql_type),
+        })
+    }
+
+    pub(crate) fn is_named(&self, name: &str) -> bool
+        ensures { result ≡ bytes_eq self.now.header.name name.now }
+    {
+        self.name.as_str() == name
+    }
+
+    pub(crate) fn sql_type(&self) -> SqlType
+        ensures { type_of result ≡ self.now.header.type }
+    {
+        self.cells.sql_type()
+    }
+
+    pub(crate) fn cell(&self, row: usize) -> Value<'_>
+        requires { row < length self.now.values }
+        ensures { value_of result ≡ slice_index_or self.now.values row spec.Null }
+    {
+        self.cells.cell(row)
+    }
+
+    /// Adds the value that a field is stored as. An `Err` leaves the column as it was.
+    pub(crate) fn push_field(&mut self, field: &[u8]) -> Result<(), PushFault>
+        ensures ok { OnOk result ((v : spec.Value) × FieldLoads self.old.header.type field.now (Ok v) × (self.new ≡ with_value self.old v)) }
+        ensures refused { IfErr result (Refuses (λ r. (e : refusal.FieldError) × (r ≡ refusal.Field e) × FieldLoads self.old.header.type field.now (Err e))) }
+        ensures err { OnErr result (self.new ≡ self.old) }
+    {
+        self.cells.push_field(field)
+    }
+
+    /// Keeps the first cells alone, as many as `rows`.
+    pub(crate) fn truncate(&mut self, rows: usize)
+        requires { rows ≤ length self.old.values }
+        ensures { self.new ≡ cut_to rows self.old }
+    {
+        self.cells.truncate(rows);
+    }
+}

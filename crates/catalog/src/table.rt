@@ -1,0 +1,143 @@
+//! Tables.
+
+ghost use Rattle.std.specs.Prelude.{◌≡◌, ◌<◌, ◌≤◌, Some, IfOk, IfErr, OnOk, OnErr, IfSome, length, bytes_eq, option_map, slice_get};
+ghost use Rattle.std.specs.List.{AllByRecursion, position_from};
+ghost use Rattle.definitions.specs.Table as spec;
+ghost use Rattle.sqlvalue.specs.Meaning.{type_of, value_of};
+
+use crate::column::Column;
+use crate::fault::{CreateFault, LoadFault};
+use crate::file;
+use sqlvalue::{DeclaredType, SqlType, Value};
+use std::alloc::Global;
+use std::marker::Model;
+
+/// How many rows a table may have.
+const MAX_ROWS: usize = 100_000_000;
+
+/// A column of a table to be made.
+#[derive(Clone, Copy, Debug)]
+pub struct NewColumn<'a> {
+    pub name: &'a str,
+    pub declared: DeclaredType,
+}
+
+/// A table: its columns in order, and its rows in the order in which they came
+/// (ISO/IEC 9075:1992, 4.9; that order is own).
+#[derive(Drop)]
+pub struct Table {
+    name: String,
+    columns: Vec<Column>,
+    len: usize,
+}
+
+impl Model for Table {
+    ghost use Rattle.definitions.specs.Table.{Table};
+
+    ghost Value = { Table };
+
+    ghost use Rattle.catalog.specs.Tables.{stored_table, IsStoredTable};
+
+    ghost view = { stored_table };
+
+    ghost invariant = { IsStoredTable };
+}
+
+impl Table {
+    ghost use Rattle.catalog.specs.Meaning.{cell_at, definitions_of};
+    ghost use Rattle.catalog.specs.Creates.{AreTypes, RefusesTypes};
+    ghost use Rattle.catalog.specs.Loads.{LoadsRows, RefusesRows};
+
+    /// A table without rows.
+    pub(crate) fn new(
+        alloc: Global,
+        name: &str,
+        columns: &[NewColumn],
+    ) -> Result<Table, CreateFault>
+        ensures ok { IfOk result (λ t. t ≡ spec.new_table name.now (definitions_of columns.now)) }
+        ensures types { OnOk result (AreTypes (definitions_of columns.now)) }
+        ensures err { IfErr result (RefusesTypes (definitions_of columns.now)) }
+    {
+        let mut made = Vec::new(alloc);
+        for column in columns {
+            let Some(sql_type) = column.declared.sql_type() else {
+                return Err(CreateFault::OverLimit);
+            };
+            let column = Column::new(alloc, column.name, sql_type).map_err(
+                |_| CreateFault::Memory,
+            )?;
+            made.push(column).map_err(|_| CreateFault::Memory)?;
+        }
+        let name = String::from_str(alloc, name).map_err(|_| CreateFault::Memory)?;
+        Ok(Table {
+            name,
+            columns: made,
+            len: 0,
+        })
+    }
+
+    pub(crate) fn is_named(&self, name: &str) -> bool
+        ensures { result ≡ bytes_eq self.now.name name.now }
+    {
+        self.name.as_str() == name
+    }
+
+    /// How many rows the table has. Each has a value for each column.
+    pub fn len(&self) -> usize
+        ensures exact { result ≡ length self.now.rows }
+        ensures bound { result ≤ 100000000 }
+        ensures whole { AllByRecursion (λ row. length row ≡ length self.now.columns) self.now.rows }
+    {
+        self.len
+    }
+
+    /// The place of the column of a name.
+    pub fn column(&self, name: &str) -> Option<usize>
+        ensures place { result ≡ position_from (λ c. bytes_eq c.name name.now) 0 self.now.columns }
+        ensures within { IfSome result (λ place. place < length self.now.columns) }
+    {
+        for (place, column) in self.columns.iter().enumerate() {
+            if column.is_named(name) {
+                return Some(place);
+            }
+        }
+        None
+    }
+
+    /// The type of a column.
+    pub fn sql_type(&self, column: usize) -> SqlType
+        requires { column < length self.now.columns }
+        ensures { option_map (λ (c : spec.Column). c.type) (slice_get self.now.columns column) ≡ Some (type_of result) }
+    {
+        self.columns[column].sql_type()
+    }
+
+    /// The value in a row and a column.
+    pub fn cell(&self, row: usize, column: usize) -> Value<'_>
+        requires in_rows { row < length self.now.rows }
+        requires in_columns { column < length self.now.columns }
+        ensures { value_of result ≡ cell_at self.now row column }
+    {
+        self.columns[column].cell(row)
+    }
+
+    /// LOAD of the bytes of a file (own): adds a row for each record, and says how many. An `Err`
+    /// leaves the table as it was.
+    pub(crate) fn load(&mut self, alloc: Global, bytes: &[u8]) -> Result<u64, LoadFault>
+        ensures ok { IfOk result (λ n. LoadsRows bytes.now self.old n self.new) }
+        ensures refused { IfErr result (RefusesRows bytes.now self.old) }
+        ensures err { OnErr result (self.new ≡ self.old) }
+    {
+        let room = (MAX_ROWS - self.len) as u64;
+        match file::push_records(alloc, &mut self.columns, bytes, room) {
+            Ok(count) => {
+                self.len += count as usize;
+                Ok(count)
+            }
+            Err(fault) => {
+                file::truncate(&mut self.columns, self.len);
+                Err(fault)
+            }
+        }
+    }
+}

@@ -1,0 +1,6 @@
+pub mod Lexing
+pub mod Grammar
+pub mod Loading
+mod Quoting
+mod Examples
+mod Runs

@@ -1,0 +1,26 @@
+-- What holds of the definitions, each proved as the contract of a function that has no code.
+use Rattle.std.specs.Prelude.{ℕ, ◌≡◌, List, [], ◌∷◌, ◌++◌, Some, Result, true, false}
+use Rattle.definitions.specs.Value.{Value, SqlType}
+use Rattle.definitions.specs.Refusal.{FieldError}
+use Rattle.definitions.specs.Loading.{FieldLoads}
+use Rattle.definitions.specs.Token.{Token, TokenKind}
+use Rattle.definitions.specs.Lexing.{LexFault, Reads, quoted}
+use Rattle.definitions.specs.Statement.{Statement}
+use Rattle.definitions.specs.Grammar.{Derives}
+use Rattle.definitions.specs.Printing.{doubled}
+
+-- every text has its tokens or a lexical fault, and only one of these
+abbrev pub EachTextReadsOnce : Type 0
+EachTextReadsOnce = (text : List ℕ) → (outcome : Result (List Token) LexFault) × Reads text outcome × ((other : Result (List Token) LexFault) → Reads text other → other ≡ outcome)
+
+-- tokens derive at most one list of statements
+abbrev pub DerivesAtMostOne : Type 0
+DerivesAtMostOne = (tokens : List TokenKind) (a b : List Statement) → Derives tokens a → Derives tokens b → a ≡ b
+
+-- the spelling of a text literal reads as that text
+abbrev pub QuotedReadsBack : Type 0
+QuotedReadsBack = (text : List ℕ) → quoted false (doubled text ++ 39 ∷ []) ≡ Some (record { closed = true; codes = text })
+
+-- a field loads as at most one value or error
+abbrev pub FieldLoadsOnce : Type 0
+FieldLoadsOnce = (type : SqlType) (field : List ℕ) (a b : Result Value FieldError) → FieldLoads type field a → FieldLoads type field b → a ≡ b

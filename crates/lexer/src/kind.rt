@@ -1,0 +1,160 @@
+//! The token that a lexeme is, or its fault.
+
+ghost use Rattle.std.specs.Prelude.{◌≡◌, ◌+◌, ◌<◌, ◌≤◌, ◌^◌, Some, Err, IfSome, false, not, length, position, slice_index};
+ghost use Rattle.std.specs.Str.Parse.{digits_value as value_of};
+ghost use Rattle.definitions.specs.Characters as characters;
+ghost use Rattle.definitions.specs.Lexing as lexing;
+ghost use Rattle.lexer.specs.Meaning.{unquoted, behind_first};
+ghost use Rattle.lexer.specs.Lexeme.{lexeme_of, quotation_of, outcome_of};
+
+use crate::byte::{begins_character, is_digit, is_printable};
+use crate::fault::LexFault;
+use crate::lexeme::Lexeme;
+use crate::numeral::Numeral;
+use crate::token::TokenKind;
+use crate::word::reserved_word;
+
+/// How many characters an identifier may have (own).
+const MOST_LETTERS: usize = 18;
+/// How many digits a number may have (own).
+const MOST_DIGITS: usize = 38;
+/// How many characters a string may have (own).
+const MOST_CHARACTERS: usize = 254;
+
+/// What the token is that a lexeme at a place is, or its leftmost fault; a gap is none.
+pub fn token_kind(start: usize, text: &[u8], lexeme: Lexeme) -> Result<Option<TokenKind>, LexFault>
+    requires room { start + length text.now < 2 ^ 64 }
+    requires same { lexing.lexeme_of text.now ≡ Some (lexeme_of text.now lexeme) }
+    ensures { outcome_of start text.now result ≡ Some (lexing.token_of start text.now (lexeme_of text.now lexeme)) }
+{
+    match lexeme {
+        Lexeme::Gap => Ok(None),
+        Lexeme::Word => word_kind(start, text),
+        Lexeme::Number => number_kind(start, text),
+        Lexeme::Quotation { closed } => string_kind(start, text, closed),
+        Lexeme::Sign(symbol) => Ok(Some(TokenKind::Mark(symbol))),
+        Lexeme::RunOn => Err(run_on_fault(start, text)),
+        Lexeme::Stray => Err(LexFault::StrayCharacter { at: start }),
+    }
+}
+
+fn word_kind(start: usize, text: &[u8]) -> Result<Option<TokenKind>, LexFault>
+    ensures { outcome_of start text.now result ≡ Some (lexing.token_of start text.now lexing.Word') }
+{
+    if text.len() > MOST_LETTERS {
+        return Err(LexFault::LongName { at: start });
+    }
+    match reserved_word(text) {
+        Some(word) => Ok(Some(TokenKind::Reserved(word))),
+        None => Ok(Some(TokenKind::Name)),
+    }
+}
+
+fn number_kind(start: usize, text: &[u8]) -> Result<Option<TokenKind>, LexFault>
+    requires { length text.now ≤ length (lexing.digits_of text.now) + 1 }
+    ensures { outcome_of start text.now result ≡ Some (lexing.token_of start text.now lexing.Number) }
+{
+    let digits = digit_count(text);
+    if digits > MOST_DIGITS {
+        return Err(LexFault::LongLiteral { at: start });
+    }
+    Ok(Some(TokenKind::Numeral(Numeral {
+        units: digits_value(text),
+        digits: digits as u8,
+        fraction: behind_point(text).map(|count| count as u8),
+    })))
+}
+
+fn run_on_fault(start: usize, text: &[u8]) -> LexFault
+    requires some { 0 < length text.now }
+    requires room { start + length text.now < 2 ^ 64 }
+    ensures { outcome_of start text.now (Err result) ≡ Some (lexing.token_of start text.now lexing.RunOn) }
+{
+    if digit_count(text) > MOST_DIGITS {
+        LexFault::LongLiteral { at: start }
+    } else {
+        LexFault::StrayCharacter {
+            at: start + (text.len() - 1),
+        }
+    }
+}
+
+fn string_kind(start: usize, text: &[u8], closed: bool) -> Result<Option<TokenKind>, LexFault>
+    requires some { 0 < length text.now }
+    requires opens { slice_index text.now 0 ≡ 39 }
+    requires room { start + length text.now < 2 ^ 64 }
+    ensures { outcome_of start text.now result ≡ Some (lexing.token_of start text.now (quotation_of text.now closed)) }
+{
+    if !closed {
+        return Err(LexFault::OpenString { at: start });
+    }
+    if character_count(text) > MOST_CHARACTERS {
+        return Err(LexFault::LongLiteral { at: start });
+    }
+    match first_unprintable(text) {
+        Some(offset) => Err(LexFault::StrayCharacter { at: start + offset }),
+        None => Ok(Some(TokenKind::String)),
+    }
+}
+
+fn digit_count(text: &[u8]) -> usize
+    ensures { result ≡ length (lexing.digits_of text.now) }
+{
+    text.iter().filter(|byte| is_digit(**byte)).count()
+}
+
+/// What the digits write, without the point.
+fn digits_value(text: &[u8]) -> u128
+    requires { value_of 10 (lexing.digits_of text.now) < 10 ^ 38 }
+    ensures value { result ≡ value_of 10 (lexing.digits_of text.now) }
+    ensures bounded { result < 10 ^ 38 }
+{
+    let mut value = 0;
+    for byte in text {
+        if is_digit(*byte) {
+            value = value * 10 + u128::from(*byte - b'0');
+        }
+    }
+    value
+}
+
+/// How many bytes stand behind the point, if there is one.
+fn behind_point(text: &[u8]) -> Option<usize>
+    ensures count { result ≡ lexing.behind_point text.now }
+    ensures within { IfSome result (λ count. count < length text.now) }
+{
+    for (offset, byte) in text.iter().enumerate() {
+        if *byte == b'.' {
+            return Some(text.len() - 1 - offset);
+        }
+    }
+    None
+}
+
+/// The offset of the first byte that a string may not hold.
+fn first_unprintable(text: &[u8]) -> Option<usize>
+    ensures { result ≡ position (λ c. not (characters.is_printable c)) text.now }
+{
+    text.iter().position(|byte| !is_printable(*byte))
+}
+
+/// How many characters a string has, of which two quotes side by side are one (ISO/IEC 9075:1992, 5.3).
+fn character_count(text: &[u8]) -> usize
+    requires { 0 < length text.now }
+    ensures { result ≡ characters.character_count (unquoted false (behind_first text.now)) }
+{
+    let body = &text[1..];
+    let mut count = 0;
+    let mut after_quote = false;
+    for byte in body {
+        if *byte == b'\'' && !after_quote {
+            after_quote = true;
+        } else {
+            after_quote = false;
+            if begins_character(*byte) {
+                count += 1;
+            }
+        }
+    }
+    count
+}

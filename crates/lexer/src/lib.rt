@@ -1,0 +1,19 @@
+//! The tokens of a script, or its leftmost lexical fault.
+#![tactic(auto)]
+
+mod byte;
+mod fault;
+mod kind;
+mod lexeme;
+mod numeral;
+mod scan;
+#[cfg(test)]
+mod tests;
+mod token;
+mod word;
+
+pub use fault::LexFault;
+pub use numeral::Numeral;
+pub use scan::lex;
+pub use token::{Symbol, Token, TokenKind};
+pub use word::Word;

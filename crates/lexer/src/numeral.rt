@@ -1,0 +1,15 @@
+//! Unsigned numbers.
+
+ghost use Rattle.std.specs.Prelude.{◌^◌, ◌<◌};
+
+/// An unsigned number (ISO/IEC 9075:1992, 5.3).
+#[derive(Clone, Copy, Debug, PartialEq, Eq)]
+pub struct Numeral {
+    /// What its digits write without the point.
+    pub units: u128,
+    /// How many digits there are.
+    pub digits: u8,
+    /// How many of them stand behind the point, if it has one.
+    pub fraction: Option<u8>,
+    pub ghost bounded: { units < 10 ^ 38 },
+}

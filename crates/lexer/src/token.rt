@@ -1,0 +1,85 @@
+//! Tokens.
+
+ghost use Rattle.std.specs.Prelude.{◌≡◌, [], ◌∷◌, option_map};
+ghost use Rattle.definitions.specs.Lexing.{symbol};
+ghost use Rattle.lexer.specs.Meaning.{symbol_of};
+
+use crate::numeral::Numeral;
+use crate::word::Word;
+
+/// A symbol (ISO/IEC 9075:1992, 5.1 and 5.2).
+#[derive(Clone, Copy, Debug, PartialEq, Eq)]
+pub enum Symbol {
+    OpenParen,
+    CloseParen,
+    Comma,
+    Semicolon,
+    Point,
+    Asterisk,
+    Plus,
+    Minus,
+    Solidus,
+    Equals,
+    NotEquals,
+    LessThan,
+    GreaterThan,
+    LessOrEquals,
+    GreaterOrEquals,
+}
+
+impl Symbol {
+    /// The symbol that a byte is (ISO/IEC 9075:1992, 5.1).
+    pub(crate) fn from_byte(byte: u8) -> Option<Symbol>
+        ensures { option_map symbol_of result ≡ symbol (byte ∷ []) }
+    {
+        match byte {
+            b'(' => Some(Symbol::OpenParen),
+            b')' => Some(Symbol::CloseParen),
+            b',' => Some(Symbol::Comma),
+            b';' => Some(Symbol::Semicolon),
+            b'.' => Some(Symbol::Point),
+            b'*' => Some(Symbol::Asterisk),
+            b'+' => Some(Symbol::Plus),
+            b'-' => Some(Symbol::Minus),
+            b'/' => Some(Symbol::Solidus),
+            b'=' => Some(Symbol::Equals),
+            b'<' => Some(Symbol::LessThan),
+            b'>' => Some(Symbol::GreaterThan),
+            _ => None,
+        }
+    }
+
+    /// The symbol that two bytes are (ISO/IEC 9075:1992, 5.2).
+    pub(crate) fn from_pair(first: u8, second: u8) -> Option<Symbol>
+        ensures { option_map symbol_of result ≡ symbol (first ∷ second ∷ []) }
+    {
+        match (first, second) {
+            (b'<', b'>') => Some(Symbol::NotEquals),
+            (b'<', b'=') => Some(Symbol::LessOrEquals),
+            (b'>', b'=') => Some(Symbol::GreaterOrEquals),
+            _ => None,
+        }
+    }
+}
+
+/// What a token is.
+#[derive(Clone, Copy, Debug, PartialEq, Eq)]
+pub enum TokenKind {
+    Reserved(Word),
+    /// An identifier that is no reserved word.
+    Name,
+    Numeral(Numeral),
+    /// A character string literal.
+    String,
+    Mark(Symbol),
+}
+
+/// A token of a script.
+#[derive(Clone, Copy, Debug, PartialEq, Eq)]
+pub struct Token<'a> {
+    pub kind: TokenKind,
+    /// Its slice of the script.
+    pub text: &'a str,
+    /// The offset of its first byte in the script.
+    pub start: usize,
+}

@@ -1,0 +1,24 @@
+-- What libraries answer and sinks take.
+use Rattle.std.specs.Prelude.{ℕ, ◌≡◌, ◌<◌, ◌≤◌, ⊤, List, ◌++◌, Option, Some, None, length, take}
+use Rattle.sqlr.specs.declared.library.Fetched.{Fetched}
+use Rattle.sqlr.specs.declared.library.Fetched.TheVariants as f
+use Rattle.sqlr.specs.declared.library.FetchFault.{FetchFault}
+use Rattle.sqlr.specs.declared.library.FetchFault.TheVariants as e
+
+abbrev pub answer_of : Fetched → Option (List ℕ)
+answer_of f.Absent = None
+answer_of (f.Bytes bytes) = Some bytes.items
+
+-- the device is told only where it failed in the call
+abbrev pub FetchFailed : ℕ → ℕ → FetchFault → Type 0
+FetchFailed before after e.Device = before < after
+FetchFailed before after e.Memory = ⊤
+
+-- a sink has taken bytes; one that tells none says nothing
+abbrev pub Took : Option (List ℕ) → List ℕ → Option (List ℕ) → Type 0
+Took None bytes after = ⊤
+Took (Some before) bytes after = after ≡ Some (before ++ bytes)
+
+abbrev pub TookBeginning : Option (List ℕ) → List ℕ → Option (List ℕ) → Type 0
+TookBeginning None bytes after = ⊤
+TookBeginning (Some before) bytes after = (n : ℕ) × (n ≤ length bytes) × (after ≡ Some (before ++ take n bytes))

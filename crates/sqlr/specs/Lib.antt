@@ -1,0 +1,7 @@
+pub use Rattle.definitions.specs.Step
+pub mod Binding
+pub mod CommandLine
+pub mod Devices
+pub mod Meaning
+pub mod Scripts
+pub mod Simple

@@ -1,0 +1,41 @@
+//! How a run ends.
+
+ghost use Rattle.std.specs.Prelude.{◌≡◌};
+ghost use Rattle.sqlr.specs.Meaning.{status_of};
+
+use thiserror::Error;
+
+/// How a run ended.
+#[derive(Clone, Copy, Debug, PartialEq, Eq)]
+pub enum Ended {
+    /// No error line was printed.
+    Well,
+    /// An error line was printed.
+    Faulted,
+    /// A certificate was refused.
+    Refused,
+}
+
+/// Why a run broke off.
+#[derive(Clone, Copy, Debug, PartialEq, Eq, Error)]
+pub enum RunFault {
+    #[error("out of memory")]
+    Memory,
+    #[error("the library's device failed")]
+    Library,
+    #[error("the sink's device failed")]
+    Sink,
+}
+
+/// The exit status of a run: 0 all well, 1 a statement refused, 2 broken off, 3 a certificate
+/// refused (own).
+pub fn status(run: &Result<Ended, RunFault>) -> u8
+    ensures { result ≡ status_of run.now }
+{
+    match run {
+        Ok(Ended::Well) => 0,
+        Ok(Ended::Faulted) => 1,
+        Ok(Ended::Refused) => 3,
+        Err(_) => 2,
+    }
+}

@@ -1,0 +1,22 @@
+//! Scripts of SQL over tables in memory: from a script's bytes to the bytes that it prints.
+#![tactic(auto)]
+
+mod binding;
+pub mod command_line;
+mod ended;
+mod failures;
+mod library;
+mod printing;
+mod refusal;
+mod script;
+mod select;
+mod session;
+mod sink;
+mod words;
+
+pub use ended::{Ended, RunFault, status};
+pub use failures::Failures;
+pub use library::{FetchFault, Fetched, Library};
+pub use session::Session;
+pub use sink::{Sink, SinkFault};
+pub use words::request;

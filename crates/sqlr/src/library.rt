@@ -1,0 +1,34 @@
+//! Where LOAD finds its files.
+
+ghost use Rattle.std.specs.Prelude.{ℕ, List, Option, IfOk, IfErr};
+ghost use Rattle.sqlr.specs.Devices.{answer_of, FetchFailed};
+
+/// Files by their names.
+pub trait Library: Drop {
+    /// What may be answered: the library before, a name, the file's bytes or none, and the library
+    /// after.
+    ghost answers: { Self → List ℕ → Option (List ℕ) → Self → Type 0 };
+
+    /// How often its device has failed.
+    ghost failures: { Self → ℕ };
+
+    /// The file of a name.
+    fn fetch(&mut self, name: &str) -> Result<Fetched, FetchFault>
+        ensures answer { IfOk result (λ fetched. answers self.old name.now (answer_of fetched) self.new) }
+        ensures fault { IfErr result (λ fault. FetchFailed (failures self.old) (failures self.new) fault) };
+}
+
+/// What a library answers.
+#[derive(Drop)]
+pub enum Fetched {
+    /// There is no such file.
+    Absent,
+    Bytes(Vec<u8>),
+}
+
+/// Why a library does not answer.
+#[derive(Clone, Copy, Debug, PartialEq, Eq)]
+pub enum FetchFault {
+    Device,
+    Memory,
+}

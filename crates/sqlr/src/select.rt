@@ -1,0 +1,110 @@
+//! The answer of a query, as it is printed.
+
+ghost use Rattle.std.specs.Prelude.{◌≡◌, ◌<◌, All, length};
+ghost use Rattle.syntax.specs.Trees.{op_of, block_of};
+ghost use Rattle.definitions.specs.Answer as spec;
+ghost use Rattle.sqlr.specs.Binding.{IsPlaced};
+ghost use Rattle.sqlr.specs.Simple.{IsSimple};
+
+use crate::binding::{BindFault, Bound, Comparison, bind};
+use crate::printing::{write_decimal, write_value};
+use catalog::{Database, Table};
+use sqlvalue::compare;
+use std::alloc::{AllocError, Global};
+use std::cmp::Ordering;
+use syntax::{Block, Expr, Item, Op};
+
+/// What a query prints: the header, its rows and how many there are.
+pub fn select(alloc: Global, database: &Database, block: &Block) -> Result<Vec<u8>, BindFault>
+    requires { IsSimple (block_of block.now) }
+{
+    let bound = bind(alloc, database, block)?;
+    let mut out = Vec::new(alloc);
+    write_answer(&mut out, &bound, &block.items).map_err(|_| BindFault::Memory)?;
+    Ok(out)
+}
+
+fn write_answer(out: &mut Vec<u8>, bound: &Bound, items: &[Item]) -> Result<(), AllocError>
+    requires { IsPlaced bound.now }
+{
+    write_header(out, items)?;
+    let mut count: usize = 0;
+    'rows: for row in 0..bound.table.len() {
+        if is_kept(bound, row) {
+            write_row(out, bound, row)?;
+            count += 1;
+        }
+    }
+    write_decimal(out, count as u128)?;
+    out.extend_from_slice(b" rows\n")
+}
+
+/// The names of the result columns.
+fn write_header(out: &mut Vec<u8>, items: &[Item]) -> Result<(), AllocError> {
+    'items: for (i, item) in items.iter().enumerate() {
+        if i > 0 {
+            out.push(b'|')?;
+        }
+        out.extend_from_slice(item_name(item).as_bytes())?;
+    }
+    out.push(b'\n')?;
+    Ok(())
+}
+
+/// The name of a result column: a plain column's own.
+fn item_name(item: &Item) -> &str {
+    match &item.value {
+        Expr::Column(name) => name.text.as_str(),
+        _ => "",
+    }
+}
+
+fn write_row(out: &mut Vec<u8>, bound: &Bound, row: usize) -> Result<(), AllocError>
+    requires placed { IsPlaced bound.now }
+    requires in_rows { row < length bound.now.table.now.rows }
+{
+    'columns: for (i, column) in bound.columns.iter().enumerate() {
+        if i > 0 {
+            out.push(b'|')?;
+        }
+        write_value(out, &bound.table.cell(row, *column))?;
+    }
+    out.push(b'\n')?;
+    Ok(())
+}
+
+/// Whether the condition is true on a row: where it is unknown it is not.
+fn is_kept(bound: &Bound, row: usize) -> bool
+    requires placed { IsPlaced bound.now }
+    requires in_rows { row < length bound.now.table.now.rows }
+{
+    match &bound.condition {
+        Some(comparison) => is_true(bound.table, comparison, row),
+        None => true,
+    }
+}
+
+fn is_true(table: &Table, comparison: &Comparison, row: usize) -> bool
+    requires in_rows { row < length table.now.rows }
+    requires in_columns { comparison.now.column < length table.now.columns }
+{
+    let value = table.cell(row, comparison.column);
+    match compare(&value, &comparison.literal) {
+        Some(order) => agrees(comparison.op, order),
+        None => false,
+    }
+}
+
+/// Whether an order of two values is what an operator asks (ISO/IEC 9075:1992, 8.2).
+fn agrees(op: Op, order: Ordering) -> bool
+    ensures { result ≡ spec.agrees (op_of op) order }
+{
+    match op {
+        Op::Equals => order.is_eq(),
+        Op::NotEquals => order.is_ne(),
+        Op::LessThan => order.is_lt(),
+        Op::GreaterThan => order.is_gt(),
+        Op::LessOrEquals => order.is_le(),
+        Op::GreaterOrEquals => order.is_ge(),
+    }
+}

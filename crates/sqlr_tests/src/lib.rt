@@ -1,0 +1,9 @@
+//! Tests that cross the crates, over a library and a sink in memory.
+#![tactic(auto)]
+
+#[cfg(test)]
+mod device;
+#[cfg(test)]
+mod limits;
+#[cfg(test)]
+mod scripts;

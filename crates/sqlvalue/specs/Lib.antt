@@ -1,0 +1,2 @@
+pub use Rattle.definitions.specs.Value
+pub mod Meaning

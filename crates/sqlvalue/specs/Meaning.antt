@@ -1,0 +1,26 @@
+-- What the values and types of this crate stand for.
+use Rattle.definitions.specs.Value as spec
+use Rattle.sqlvalue.specs.declared.value.Value.{Value}
+use Rattle.sqlvalue.specs.declared.value.Value.TheVariants as v
+use Rattle.sqlvalue.specs.declared.sql_type.DeclaredType.{DeclaredType}
+use Rattle.sqlvalue.specs.declared.sql_type.DeclaredType.TheVariants as d
+use Rattle.sqlvalue.specs.declared.sql_type.SqlType.{SqlType}
+use Rattle.sqlvalue.specs.declared.sql_type.SqlType.TheVariants as t
+
+abbrev pub value_of : Value → spec.Value
+value_of v.Null = spec.Null
+value_of (v.Num n) = spec.Number n.units n.scale
+value_of (v.Text text) = spec.Text text.now
+
+-- a type as it is written
+abbrev pub declared_of : DeclaredType → spec.SqlType
+declared_of d.Smallint = spec.Smallint
+declared_of d.Integer = spec.Integer
+declared_of (d.Numeric precision scale) = spec.Numeric precision scale
+declared_of (d.Char length) = spec.Char length
+
+abbrev pub type_of : SqlType → spec.SqlType
+type_of t.Smallint = spec.Smallint
+type_of t.Integer = spec.Integer
+type_of (t.Numeric precision scale) = spec.Numeric precision scale
+type_of (t.Char length) = spec.Char length

@@ -1,0 +1,12 @@
+//! Values of SQL: their comparison, and the types of columns.
+#![tactic(auto)]
+
+mod comparison;
+mod number;
+mod sql_type;
+mod value;
+
+pub use comparison::compare;
+pub use number::Num;
+pub use sql_type::{DeclaredType, SqlType};
+pub use value::Value;

@@ -1,0 +1,50 @@
+//! Exact numbers.
+
+ghost use Rattle.std.specs.Prelude.{◌≡◌, ◌/◌, ◌%◌, ◌^◌, ◌<◌, ◌≤◌, pos, int_lt, nat_abs};
+
+/// An exact number: a whole number of units at a scale, `units / 10^scale`
+/// (ISO/IEC 9075:1992, 4.4.1; the bounds are own).
+#[derive(Clone, Copy, Debug, PartialEq, Eq)]
+pub struct Num {
+    pub units: i128,
+    pub scale: u8,
+    pub ghost bounded: { nat_abs units < 10 ^ 38 },
+    pub ghost scaled: { scale ≤ 18 },
+}
+
+impl Num {
+    /// Whether it is below zero.
+    pub fn is_negative(self) -> bool
+        ensures { result ≡ int_lt self.units (pos 0) }
+    {
+        self.units < 0
+    }
+
+    /// Its units without their sign.
+    pub fn size(self) -> u128
+        ensures value { result ≡ nat_abs self.units }
+        ensures bounded { result < 10 ^ 38 }
+    {
+        self.units.unsigned_abs()
+    }
+
+    /// Its size in two parts: the whole part, and the units of its scale behind the point.
+    pub fn parts(self) -> (u128, u128)
+        ensures whole { result.0 ≡ nat_abs self.units / 10 ^ self.scale }
+        ensures rest { result.1 ≡ nat_abs self.units % 10 ^ self.scale }
+    {
+        let size = self.size();
+        let one = power_of_ten(self.scale);
+        (size / one, size % one)
+    }
+}
+
+/// How many units of a scale make one.
+pub fn power_of_ten(scale: u8) -> u128
+    requires { scale ≤ 18 }
+    ensures exact { result ≡ 10 ^ scale }
+    ensures positive { 0 < result }
+    ensures bounded { result ≤ 10 ^ 18 }
+{
+    10u128.pow(u32::from(scale))
+}

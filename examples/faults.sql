@@ -1,0 +1,18 @@
+-- One fault of each kind that a statement has; the script goes on behind each.
+CREATE TABLE T (A SMALLINT, B NUMERIC(5,2));
+CREATE TABLE N (NAME CHAR(8));
+CREATE TABLE T (A INTEGER);                        -- E07: the name is taken
+CREATE TABLE U (A INTEGER, A CHAR);                -- E07: a column's name stands twice
+LOAD U FROM 'examples/parts.csv';                  -- E08: no such table
+SELECT A FROM U;                                   -- E08
+CREATE TABLE U (A NUMERIC(19));                    -- E09: a precision over 18
+LOAD T FROM 'examples/faulty/count.csv';           -- E10: the second record has one field
+LOAD T FROM 'examples/faulty/text.csv';            -- E11 42000: no number
+LOAD T FROM 'examples/faulty/range.csv';           -- E11 22003: over 32767
+LOAD N FROM 'examples/faulty/long.csv';            -- E11 22001: over 8 characters
+SELECT A FROM T WHERE B = 0.0000000000000000001;   -- E13: a scale over 18
+SELECT C FROM T;                                   -- E14: no such column
+SELECT A FROM T WHERE B = 'cheap';                 -- E15: a number against a text
+SELECT A, A, A, A, A, A, A, A, A, A, A, A, A, A, A, A, A, A, A, A, A, A, A, A, A, A, A, A, A, A, A, A, A, A, A, A, A, A, A, A, A, A, A, A, A, A, A, A, A, A, A, A, A, A, A, A, A, A, A, A, A, A, A, A, A FROM T; -- E21: 65 items
+LOAD T FROM 'examples/faulty/none.csv';            -- E22: no such file
+SELECT A, B FROM T;                                -- nothing was loaded

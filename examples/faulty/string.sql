@@ -1,0 +1,1 @@
+LOAD T FROM 'parts.csv;

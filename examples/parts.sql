@@ -1,0 +1,15 @@
+-- The parts of a small shop, and their prices.
+CREATE TABLE PARTS (
+  NUMBER SMALLINT,
+  NAME CHAR(16),
+  MATERIAL CHAR(8),
+  PRICE NUMERIC(7,2),
+  STOCK INTEGER
+);
+LOAD PARTS FROM 'examples/parts.csv';
+
+SELECT NAME, PRICE FROM PARTS WHERE PRICE > 0.1;
+SELECT NUMBER, NAME, STOCK FROM PARTS WHERE MATERIAL = 'Steel';
+-- Where there is no price the comparison is unknown, and the row does not pass.
+SELECT NAME, MATERIAL, PRICE FROM PARTS WHERE PRICE <= 0.05;
+SELECT NAME, STOCK FROM PARTS;
