@@ -11,7 +11,7 @@ use std::sync::ledger::{Blank, Ledger};
 use std::test::Fail;
 
 /// The files that the tests load.
-pub static FILES: [(&str, &[u8]); 6] = [
+pub(crate) static FILES: [(&str, &[u8]); 6] = [
     ("t.csv", b"5,ab\n\\N,cd\n7,x\n"),
     ("empty.csv", b""),
     ("two.csv", b"1,a\n2,b\n"),
@@ -22,7 +22,7 @@ pub static FILES: [(&str, &[u8]); 6] = [
 
 /// A fixed list of files.
 #[derive(Drop)]
-pub struct Shelf<'a> {
+pub(crate) struct Shelf<'a> {
     pub alloc: Global,
     pub files: &'a [(&'a str, &'a [u8])],
 }
@@ -49,7 +49,7 @@ impl Library for Shelf<'_> {
 
 /// Takes bytes, and tells them.
 #[derive(Drop)]
-pub struct Tape<L: Ledger> {
+pub(crate) struct Tape<L: Ledger> {
     pub bytes: Vec<u8>,
     pub failures: Failures<L>,
 }
@@ -80,7 +80,7 @@ struct Job<'a> {
 }
 
 /// What a script prints, and its exit status.
-pub fn run(alloc: Global, files: &[(&str, &[u8])], script: &str) -> (Vec<u8>, u8) {
+pub(crate) fn run(alloc: Global, files: &[(&str, &[u8])], script: &str) -> (Vec<u8>, u8) {
     run_job::<Brand>(alloc, Job { files, script }, Blank::new(1))
 }
 
