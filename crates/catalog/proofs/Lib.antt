@@ -6,6 +6,8 @@ pub mod Stored
 pub mod TextFields
 pub mod Rows
 pub mod Naming
+pub mod Places
 pub mod Pushing
 pub mod Reading
 pub mod Loading
+pub mod Typing

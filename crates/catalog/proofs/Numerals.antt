@@ -1,7 +1,7 @@
 -- Numerals: their digits, their points, and their signs.
 use Rattle.std.proofs.Common.{◌≡◌, ◌∙◌, refl, sym, ap, ℕ, suc, ◌+◌, ◌-◌, ◌*◌, ◌^◌, ◌<◌, ◌≤◌, List, [], ◌∷◌, ◌++◌, Option, Some, None, Bool, true, false, cond, leb, ltb, length, take, drop, get_or, filter, arith}
 use Rattle.std.specs.Prelude.{◌||◌, ◌&&◌, ◌==◌, unwrap_or, option_map, IsTrue, pos}
-use Rattle.std.proofs.lemmas.List.{take_all, drop_more, drop_all}
+use Rattle.std.proofs.lemmas.List.{take_all, drop_more}
 use Rattle.std.proofs.lemmas.Nat.{pow-add}
 use Rattle.std.specs.List.{list_all, list_any, position_from}
 use Rattle.std.specs.Str.Parse.{digits_value, digits_value_after}
@@ -152,9 +152,6 @@ pub valued_fits : (xs : List ℕ) (i value all top : ℕ) → Valued xs i value 
 valued_fits xs i value all top v =
     let p : value + 1 ≤ (value + 1) * 10 ^ length (digits_of (drop i xs)) = le-mul_of_pos_right (value + 1) (power_is_positive (length (digits_of (drop i xs)))) in
     omega (arith, p, v.room)
-
-pub valued_end : (xs : List ℕ) (i value all top : ℕ) → length xs ≤ i → Valued xs i value all top → value ≡ all
-valued_end xs i value all top h v = let e : drop i xs ≡ [] = drop_all i xs h in let k = rw e at v.value_is in k
 
 -- a field that is split into a sign and a numeral
 pub written : (field sign numeral : List ℕ) (minus : Bool) → IsSign sign minus → field ≡ sign ++ numeral → IsTrue (is_numeral numeral)

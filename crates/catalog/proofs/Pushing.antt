@@ -35,15 +35,6 @@ behind_push : (row : Row) (v : Value) (o : Result Row Refusal) → behind row (b
 behind_push row v (Ok more) = ap Ok (sym (append_assoc row (v ∷ []) more))
 behind_push row v (Err r) = refl
 
-pub pushed_none : (old : List StoredColumn) (fields : Record) → HavePushed old old fields 0
-pushed_none old fields = record {
-  row = [];
-  count = refl;
-  within = omega arith;
-  pushed = refl;
-  so_far = λ o h. rw (behind_nothing o) h;
-}
-
 pub length-with_row : (cs : List StoredColumn) (row : Row) → length row ≡ length cs → length (with_row cs row) ≡ length cs
 length-with_row [] [] h = refl
 length-with_row [] (v ∷ row) h = refl
@@ -180,11 +171,6 @@ pub field_refused : (old now : List StoredColumn) (fields : Record) (i : ℕ) (c
     → Refuses (λ r. FieldsLoad (headers old) fields (Err r)) fault
 field_refused old now fields i c d field (p.Refused fault) pushed h k g f r = let own = pushed_refused old now fields i c d field r.0 pushed h k g f r.2 in rw r.1 own
 field_refused old now fields i c d field p.Memory pushed h k g f r = tt
-
--- the outcome of the fields is that of the record
-pub record_of_fields : (columns : List Column) (fields : Record) (fault : PushFault) → length fields ≡ length columns → Refuses (λ r. FieldsLoad columns fields (Err r)) fault → Refuses (λ r. load.RecordLoads columns fields (Err r)) fault
-record_of_fields columns fields (p.Refused fault) h r = load.each h r
-record_of_fields columns fields p.Memory h r = tt
 
 -- ---- columns that are cut, one after another
 

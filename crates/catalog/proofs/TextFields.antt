@@ -12,7 +12,7 @@ use Rattle.std.proofs.lemmas.Str.{IsUtf8-from_ascii, IsAscii-take}
 use Rattle.std.proofs.lemmas.Str.Ascii.{IsAscii-nil, IsAscii-cons}
 use Rattle.definitions.specs.Characters.{is_printable}
 use Rattle.definitions.specs.Value.{Value, Null, Number, Text, Char, text_cmp, compare, HasType}
-use Rattle.catalog.specs.Stored.{padded, FitsIn}
+use Rattle.catalog.specs.Stored.{padded}
 use Rattle.catalog.specs.Fields.{Stores, StoresNone}
 use Rattle.catalog.specs.declared.fault.FieldFault.TheVariants as f
 use Rattle.catalog.proofs.TextLists.{length-padded}
@@ -100,12 +100,6 @@ none_fits n xs (Text codes) h t e =
     let clash : false ≡ true = sym h ∙ ap (λ m. list_all (λ c. c == 32) (drop m xs)) (sym t.0) ∙ k in cc
 
 -- what the tests of a field say
-pub fits_text : (n m : ℕ) (field kept : List ℕ) → m ≡ min (length field) n → list_all is_printable field ≡ true → kept ≡ take m field → FitsIn (Char n) kept
-fits_text n m field kept e p k =
-    let l : length kept ≤ n = omega (arith, ap length k, length-take m field, e) in
-    let a : IsAscii (take m field) = IsAscii-take field m (printable_ascii field (printable_from_test field p)) in
-    (l, rw k a)
-
 pub stored_text : (n m : ℕ) (field kept rest : List ℕ) → m ≡ min (length field) n → list_all is_printable field ≡ true → kept ≡ take m field → rest ≡ drop m field
     → list_all (λ c. c == 32) rest ≡ true → Stores (Char n) field (Text (padded n kept))
 stored_text n m field kept rest e p k r b =

@@ -2,9 +2,8 @@
 use Rattle.std.specs.Prelude.{List, ⊤}
 use Rattle.std.specs.List.{AllByRecursion}
 use Rattle.definitions.specs.Value.{IsType}
-use Rattle.definitions.specs.Statement.{Name, ColumnDefinition, CreateTable}
-use Rattle.definitions.specs.Table.{Database}
-use Rattle.definitions.specs.Refusal.{Faulty, NameTaken, OverLimit, AnyOf}
+use Rattle.definitions.specs.Statement.{ColumnDefinition}
+use Rattle.definitions.specs.Refusal.{AnyOf}
 use Rattle.catalog.specs.declared.fault.CreateFault.{CreateFault}
 use Rattle.catalog.specs.declared.fault.CreateFault.TheVariants as c
 
@@ -17,9 +16,3 @@ abbrev pub RefusesTypes : List ColumnDefinition → CreateFault → Type 0
 RefusesTypes definitions c.NameTaken = ⊥
 RefusesTypes definitions c.OverLimit = AnyOf (λ (d : ColumnDefinition). ¬ (IsType d.type)) definitions
 RefusesTypes definitions c.Memory = ⊤
-
--- the refusal that is told stands, or memory was wanting
-abbrev pub RefusesTable : Database → Name → List ColumnDefinition → CreateFault → Type 0
-RefusesTable db name definitions c.NameTaken = Faulty db (CreateTable name definitions) NameTaken
-RefusesTable db name definitions c.OverLimit = Faulty db (CreateTable name definitions) OverLimit
-RefusesTable db name definitions c.Memory = ⊤

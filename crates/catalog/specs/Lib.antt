@@ -9,7 +9,9 @@ pub mod Texts
 pub mod Fields
 pub mod Cells
 pub mod Columns
+pub mod Sound
 pub mod Tables
+pub mod Places
 pub mod Creates
 pub mod Loads
 pub mod Files

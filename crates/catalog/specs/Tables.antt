@@ -2,13 +2,15 @@
 use Rattle.std.specs.Prelude.{◌≤◌}
 use Rattle.std.specs.String.{string_bytes}
 use Rattle.definitions.specs.Table.{Table}
+use Rattle.catalog.specs.Sound.{IsSound}
 use Rattle.catalog.specs.Stored.{table_of, AreFilled}
 use Rattle.catalog.specs.declared.table.Table.TheInside.{Inside}
 
 abbrev pub stored_table : Inside → Table
 stored_table t = table_of (string_bytes t.name) t.columns.items t.len
 
--- a value of each column for each row, and not too many rows
+-- a value of each column for each row, of its type, and not too many rows
 pub record IsStoredTable (t : Inside) : Type 0 where
   pub filled : AreFilled t.len t.columns.items
   pub few : t.len ≤ 100000000
+  pub sound : IsSound (stored_table t)

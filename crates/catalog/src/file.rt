@@ -50,37 +50,37 @@ pub(crate) fn push_records(
 }
 
 /// Reads the next record, if there is one. Reading memory fails for want of memory alone.
-fn next_record(reader: &mut Reader<&[u8]>, record: &mut ByteRecord) -> Result<bool, LoadFault>
-    ensures more { IfOk result (λ found. OnTrue found ((bytes : List ℕ) (records : List Record) → HasRead bytes reader.old records → HasRead bytes reader.new (records ++ fields_of record.new ∷ []))) }
+fn next_record(reader: &mut Reader<&[u8]>, fields: &mut ByteRecord) -> Result<bool, LoadFault>
+    ensures more { IfOk result (λ found. OnTrue found ((bytes : List ℕ) (records : List Record) → HasRead bytes reader.old records → HasRead bytes reader.new (records ++ fields_of fields.new ∷ []))) }
     ensures end { IfOk result (λ found. OnFalse found ((bytes : List ℕ) (records : List Record) → HasRead bytes reader.old records → AreFileRecords bytes records)) }
     ensures err { IfErr result (λ f. f ≡ LoadFault.Memory) }
 {
     reader
-        .read_byte_record(record)
+        .read_byte_record(fields)
         .map_err(|_| LoadFault::Memory)
 }
 
 /// Adds the row that a record is stored as: first the number of its fields is judged, and then
 /// each field in turn. An `Err` leaves the fields before it.
-fn push_record(columns: &mut [Column], record: &ByteRecord) -> Result<(), PushFault>
-    ensures ok { OnOk result ((row : Row) × RecordLoads (headers columns.old) (fields_of record.now) (Ok row) × (columns.new ≡ with_row columns.old row)) }
-    ensures refused { IfErr result (Refuses (λ r. RecordLoads (headers columns.old) (fields_of record.now) (Err r))) }
+fn push_record(columns: &mut [Column], fields: &ByteRecord) -> Result<(), PushFault>
+    ensures ok { OnOk result ((row : Row) × RecordLoads (headers columns.old) (fields_of fields.now) (Ok row) × (columns.new ≡ with_row columns.old row)) }
+    ensures refused { IfErr result (Refuses (λ r. RecordLoads (headers columns.old) (fields_of fields.now) (Err r))) }
     ensures err { OnErr result (Extends columns.old columns.new) }
 {
-    if record.len() != columns.len() {
+    if fields.len() != columns.len() {
         return Err(PushFault::Refused(RecordFault::FieldCount));
     }
-    push_fields(columns, record)
+    push_fields(columns, fields)
 }
 
-fn push_fields(columns: &mut [Column], record: &ByteRecord) -> Result<(), PushFault>
-    requires { length (fields_of record.now) ≡ length columns.old }
-    ensures ok { OnOk result ((row : Row) × FieldsLoad (headers columns.old) (fields_of record.now) (Ok row) × (columns.new ≡ with_row columns.old row)) }
-    ensures refused { IfErr result (Refuses (λ r. FieldsLoad (headers columns.old) (fields_of record.now) (Err r))) }
+fn push_fields(columns: &mut [Column], fields: &ByteRecord) -> Result<(), PushFault>
+    requires { length (fields_of fields.now) ≡ length columns.old }
+    ensures ok { OnOk result ((row : Row) × FieldsLoad (headers columns.old) (fields_of fields.now) (Ok row) × (columns.new ≡ with_row columns.old row)) }
+    ensures refused { IfErr result (Refuses (λ r. FieldsLoad (headers columns.old) (fields_of fields.now) (Err r))) }
     ensures err { OnErr result (Extends columns.old columns.new) }
 {
     for i in 0..columns.len() {
-        let field = record.get(i).unwrap();
+        let field = fields.get(i).unwrap();
         columns[i].push_field(field)?;
     }
     Ok(())

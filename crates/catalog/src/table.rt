@@ -1,8 +1,9 @@
 //! Tables.
 
-ghost use Rattle.std.specs.Prelude.{◌≡◌, ◌<◌, ◌≤◌, Some, IfOk, IfErr, OnOk, OnErr, IfSome, length, bytes_eq, option_map, slice_get};
+ghost use Rattle.std.specs.Prelude.{◌≡◌, ◌<◌, ◌≤◌, ◌↔◌, Some, None, IsNone, IfOk, IfErr, OnOk, OnErr, IfSome, length, bytes_eq, option_map, slice_get};
 ghost use Rattle.std.specs.List.{AllByRecursion, position_from};
 ghost use Rattle.definitions.specs.Table as spec;
+ghost use Rattle.catalog.specs.Places.{IsColumnPlace};
 ghost use Rattle.sqlvalue.specs.Meaning.{type_of, value_of};
 
 use crate::column::Column;
@@ -15,7 +16,7 @@ use std::marker::Model;
 /// How many rows a table may have.
 const MAX_ROWS: usize = 100_000_000;
 
-/// A column of a table to be made.
+/// A column of a table to be made, by its name and its type (ISO/IEC 9075:1992, 11.4).
 #[derive(Clone, Copy, Debug)]
 pub struct NewColumn<'a> {
     pub name: &'a str,
@@ -47,6 +48,8 @@ impl Table {
     ghost use Rattle.catalog.specs.Meaning.{cell_at, definitions_of};
     ghost use Rattle.catalog.specs.Creates.{AreTypes, RefusesTypes};
     ghost use Rattle.catalog.specs.Loads.{LoadsRows, RefusesRows};
+    ghost use Rattle.catalog.specs.Sound.{IsSound};
+    ghost use Rattle.definitions.specs.Refusal.{definition_names};
 
     /// A table without rows.
     pub(crate) fn new(
@@ -54,8 +57,11 @@ impl Table {
         name: &str,
         columns: &[NewColumn],
     ) -> Result<Table, CreateFault>
+        requires narrow { length columns.now ≤ 64 }
+        requires distinct { spec.AreDistinct (definition_names (definitions_of columns.now)) }
         ensures ok { IfOk result (λ t. t ≡ spec.new_table name.now (definitions_of columns.now)) }
         ensures types { OnOk result (AreTypes (definitions_of columns.now)) }
+        ensures sound { IfOk result IsSound }
         ensures err { IfErr result (RefusesTypes (definitions_of columns.now)) }
     {
         let mut made = Vec::new(alloc);
@@ -82,10 +88,11 @@ impl Table {
         self.name.as_str() == name
     }
 
-    /// How many rows the table has. Each has a value for each column.
+    /// How many rows the table has. Each has a value for each column, of its type.
     pub fn len(&self) -> usize
         ensures exact { result ≡ length self.now.rows }
         ensures bound { result ≤ 100000000 }
+        ensures sound { IsSound self.now }
         ensures whole { AllByRecursion (λ row. length row ≡ length self.now.columns) self.now.rows }
     {
         self.len
@@ -93,8 +100,10 @@ impl Table {
 
     /// The place of the column of a name.
     pub fn column(&self, name: &str) -> Option<usize>
-        ensures place { result ≡ position_from (λ c. bytes_eq c.name name.now) 0 self.now.columns }
+        ensures first { result ≡ position_from (λ c. bytes_eq c.name name.now) 0 self.now.columns }
         ensures within { IfSome result (λ place. place < length self.now.columns) }
+        ensures place { IfSome result (IsColumnPlace self.now.columns name.now) }
+        ensures none { IsNone result ↔ (spec.type_named self.now.columns name.now ≡ None) }
     {
         for (place, column) in self.columns.iter().enumerate() {
             if column.is_named(name) {

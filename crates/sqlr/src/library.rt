@@ -3,6 +3,8 @@
 ghost use Rattle.std.specs.Prelude.{ℕ, List, Option, IfOk, IfErr};
 ghost use Rattle.sqlr.specs.Devices.{answer_of, FetchFailed};
 
+use thiserror::Error;
+
 /// Files by their names.
 pub trait Library: Drop {
     /// What may be answered: the library before, a name, the file's bytes or none, and the library
@@ -27,8 +29,10 @@ pub enum Fetched {
 }
 
 /// Why a library does not answer.
-#[derive(Clone, Copy, Debug, PartialEq, Eq)]
+#[derive(Clone, Copy, Debug, PartialEq, Eq, Error)]
 pub enum FetchFault {
+    #[error("the library's device failed")]
     Device,
+    #[error("out of memory")]
     Memory,
 }

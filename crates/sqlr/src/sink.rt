@@ -3,6 +3,8 @@
 ghost use Rattle.std.specs.Prelude.{◌<◌, ℕ, List, Option, OnOk, OnErr};
 ghost use Rattle.sqlr.specs.Devices.{Took, TookBeginning};
 
+use thiserror::Error;
+
 /// Takes what is printed.
 pub trait Sink {
     /// The bytes that it has taken, where it tells them.
@@ -19,5 +21,6 @@ pub trait Sink {
 }
 
 /// A sink's device has failed.
-#[derive(Clone, Copy, Debug, PartialEq, Eq)]
+#[derive(Clone, Copy, Debug, PartialEq, Eq, Error)]
+#[error("the sink's device failed")]
 pub struct SinkFault;

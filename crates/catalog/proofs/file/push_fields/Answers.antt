@@ -6,31 +6,31 @@ use Rattle.catalog.proofs.Pushing.{field_is_there, field_is, field_refused, push
 use Rattle.catalog.proofs.file.push_fields.Goals as goal
 
 pub unwrap-field-requires : goal.unwrap-field-requires
-unwrap-field-requires c = field_is_there c.get.result (fields_of c.args.record.now) c.loop-i.i c.get.ensures.value (omega (arith, c.loop-i-test.true, c.requires))
+unwrap-field-requires c = field_is_there c.get.result (fields_of c.args.fields.now) c.loop-i.i c.get.ensures.value (omega (arith, c.loop-i-test.true, c.requires))
 
 pub returns-in_err-push_field-clause-refused : goal.returns-in_err-push_field-clause-refused
 returns-in_err-push_field-clause-refused c =
     let p = err_from_is_err_and c.from_residual.result c.from_residual.ensures.1 in
     rw (p.1, p.2)
-    (field_refused c.args.columns.now c.loop-i.columns (fields_of c.args.record.now) c.loop-i.i (get_or c.loop-i.columns c.loop-i.i c.index-columns-i.result) c.index-columns-i.result _ c.in_err-push_field.field-0.0 c.loop-i.invariant c.loop-i-test.true
+    (field_refused c.args.columns.now c.loop-i.columns (fields_of c.args.fields.now) c.loop-i.i (get_or c.loop-i.columns c.loop-i.i c.index-columns-i.result) c.index-columns-i.result _ c.in_err-push_field.field-0.0 c.loop-i.invariant c.loop-i-test.true
     (omega (arith, c.loop-i-test.true, c.requires)) refl
-    (field_is c.get.result (fields_of c.args.record.now) c.loop-i.i c.unwrap-field.result c.get.ensures.value (omega (arith, c.loop-i-test.true, c.requires)) c.unwrap-field.ensures)
+    (field_is c.get.result (fields_of c.args.fields.now) c.loop-i.i c.unwrap-field.result c.get.ensures.value (omega (arith, c.loop-i-test.true, c.requires)) c.unwrap-field.ensures)
     (c.in_err-push_field.ensures).refused)
 
 pub returns-in_err-push_field-clause-err : goal.returns-in_err-push_field-clause-err
 returns-in_err-push_field-clause-err c =
     let p = err_from_is_err_and c.from_residual.result c.from_residual.ensures.1 in
     let same : set c.loop-i.columns c.loop-i.i c.push_field.new.self ≡ c.loop-i.columns = ap (set c.loop-i.columns c.loop-i.i) (c.in_err-push_field.ensures).err ∙ set-get_or c.loop-i.columns c.loop-i.i c.index-columns-i.result in
-    rw (p.1, same) (pushed_extends c.args.columns.now c.loop-i.columns (fields_of c.args.record.now) c.loop-i.i c.loop-i.invariant)
+    rw (p.1, same) (pushed_extends c.args.columns.now c.loop-i.columns (fields_of c.args.fields.now) c.loop-i.i c.loop-i.invariant)
 
 pub loop-i-preserved : goal.loop-i-preserved
 loop-i-preserved c =
     let (v, loads, new) = (c.in_ok-push_field.ensures).ok in
     rw new
-    (pushed_more c.args.columns.now c.loop-i.columns (fields_of c.args.record.now) c.loop-i.i (get_or c.loop-i.columns c.loop-i.i c.index-columns-i.result) c.index-columns-i.result _ v c.loop-i.invariant c.loop-i-test.true
+    (pushed_more c.args.columns.now c.loop-i.columns (fields_of c.args.fields.now) c.loop-i.i (get_or c.loop-i.columns c.loop-i.i c.index-columns-i.result) c.index-columns-i.result _ v c.loop-i.invariant c.loop-i-test.true
     (omega (arith, c.loop-i-test.true, c.requires)) refl
-    (field_is c.get.result (fields_of c.args.record.now) c.loop-i.i c.unwrap-field.result c.get.ensures.value (omega (arith, c.loop-i-test.true, c.requires)) c.unwrap-field.ensures)
+    (field_is c.get.result (fields_of c.args.fields.now) c.loop-i.i c.unwrap-field.result c.get.ensures.value (omega (arith, c.loop-i-test.true, c.requires)) c.unwrap-field.ensures)
     loads)
 
 pub returns-clause-ok : goal.returns-clause-ok
-returns-clause-ok c = pushed_all c.args.columns.now c.loop-i.columns (fields_of c.args.record.now) c.loop-i.i c.loop-i.invariant c.loop-i-test.false c.requires
+returns-clause-ok c = pushed_all c.args.columns.now c.loop-i.columns (fields_of c.args.fields.now) c.loop-i.i c.loop-i.invariant c.loop-i-test.false c.requires

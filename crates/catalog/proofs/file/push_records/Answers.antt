@@ -25,7 +25,7 @@ returns-in_err-next_record-clause-err c =
 -- there are as many bytes at least as records that were found
 found_few : (c : goal.Then-branch) → c.loop-record.number + 1 ≤ length c.args.bytes.now
 found_few c =
-    number_fits c.args.columns.now c.loop-record.columns c.args.bytes.now c.loop-record.reader c.next_record.new.reader c.loop-record.number (fields_of c.next_record.new.record) c.loop-record.invariant
+    number_fits c.args.columns.now c.loop-record.columns c.args.bytes.now c.loop-record.reader c.next_record.new.reader c.loop-record.number (fields_of c.next_record.new.fields) c.loop-record.invariant
     (on_true c.in_ok-next_record.field-0 _ c.if-branch.true (c.in_ok-next_record.ensures).more c.args.bytes.now)
 
 pub overflow_add-number : goal.overflow_add-number
@@ -33,21 +33,21 @@ overflow_add-number c = let bound : length c.args.bytes.now < 2 ^ 64 = search ru
 
 pub loop-record-smaller : goal.loop-record-smaller
 loop-record-smaller c =
-    let few = number_fits c.args.columns.now c.loop-record.columns c.args.bytes.now c.loop-record.reader c.next_record.new.reader c.loop-record.number (fields_of c.next_record.new.record) c.loop-record.invariant
+    let few = number_fits c.args.columns.now c.loop-record.columns c.args.bytes.now c.loop-record.reader c.next_record.new.reader c.loop-record.number (fields_of c.next_record.new.fields) c.loop-record.invariant
     (on_true c.in_ok-next_record.field-0 _ c.if-branch.true (c.in_ok-next_record.ensures).more c.args.bytes.now) in
     omega (arith, few)
 
 pub loop-record-preserved : goal.loop-record-preserved
 loop-record-preserved c =
     let (row, loads, new) = (c.in-Ok.ensures).ok in
-    one_record c.args.columns.now c.loop-record.columns c.push_record.new.columns c.args.bytes.now c.loop-record.reader c.next_record.new.reader c.loop-record.number (fields_of c.next_record.new.record) c.loop-record.invariant
+    one_record c.args.columns.now c.loop-record.columns c.push_record.new.columns c.args.bytes.now c.loop-record.reader c.next_record.new.reader c.loop-record.number (fields_of c.next_record.new.fields) c.loop-record.invariant
     (on_true c.in_ok-next_record.field-0 _ c.if-branch.true (c.in_ok-next_record.ensures).more c.args.bytes.now) row loads new
 
 pub returns-in-Err-Refused-clause-refused : goal.returns-in-Err-Refused-clause-refused
 returns-in-Err-Refused-clause-refused c =
-    no_record c.args.columns.now c.loop-record.columns c.args.bytes.now c.loop-record.reader c.next_record.new.reader c.loop-record.number c.args.room (fields_of c.next_record.new.record) c.in-Err-Refused.fault c.loop-record.invariant
+    no_record c.args.columns.now c.loop-record.columns c.args.bytes.now c.loop-record.reader c.next_record.new.reader c.loop-record.number c.args.room (fields_of c.next_record.new.fields) c.in-Err-Refused.fault c.loop-record.invariant
     (on_true c.in_ok-next_record.field-0 _ c.if-branch.true (c.in_ok-next_record.ensures).more c.args.bytes.now) (let is : c.in-Err-Refused.field-0 ≡ push.Refused c.in-Err-Refused.fault = search rules in
-    refused_is c.in-Err-Refused.field-0 c.in-Err-Refused.fault (λ r. RecordLoads (headers c.loop-record.columns) (fields_of c.next_record.new.record) (Err r)) is (c.in-Err-Refused.ensures).refused)
+    refused_is c.in-Err-Refused.field-0 c.in-Err-Refused.fault (λ r. RecordLoads (headers c.loop-record.columns) (fields_of c.next_record.new.fields) (Err r)) is (c.in-Err-Refused.ensures).refused)
 
 pub returns-in-Err-Refused-clause-err : goal.returns-in-Err-Refused-clause-err
 returns-in-Err-Refused-clause-err c = partly_pushed _ c.loop-record.columns _ _ _ _ c.loop-record.invariant (c.in-Err-Refused.ensures).err

@@ -4,6 +4,7 @@ use Rattle.std.specs.String.{string_bytes}
 use Rattle.std.proofs.lemmas.List.{with_items_is}
 use Rattle.catalog.specs.Stored.{table_of}
 use Rattle.catalog.proofs.Loading.{LoadedTable, loads_table, refuses_table, columns_back, columns_long}
+use Rattle.catalog.proofs.Typing.{sound_with_rows}
 use Rattle.catalog.proofs.table.Table.load.Goals as goal
 
 -- the columns as they were pushed onto
@@ -16,7 +17,11 @@ loaded c =
     c.self.view_is c.self.invariant.filled c.self.invariant.few c.deref_mut.ensures.value refl (pushed c) (c.in-Ok.ensures).ok
 
 pub invariant_of-self : goal.invariant_of-self
-invariant_of-self c = let t = loaded c in record { filled = t.filled; few = t.few }
+invariant_of-self c =
+    let t = loaded c in
+    let (rows, loads, few, count, new) = t.loads in
+    let sound = rw c.self.view_is at c.self.invariant.sound in
+    record { filled = t.filled; few = t.few; sound = rw new (sound_with_rows c.args.self.now loads.0 rows sound loads.2 few) }
 
 pub returns-in-Ok-clause-ok : goal.returns-in-Ok-clause-ok
 returns-in-Ok-clause-ok c = (loaded c).loads
@@ -34,7 +39,7 @@ back c =
     (with_items_is (with_items c.self.inside.columns c.push_records.new.columns) c.truncate.new.columns (c.truncate.auto.columns ∙ c.deref_mut-in-Err.ensures.len))
 
 pub invariant_of-self-in-Err : goal.invariant_of-self-in-Err
-invariant_of-self-in-Err c = record { filled = rw (back c) c.self.invariant.filled; few = c.self.invariant.few }
+invariant_of-self-in-Err c = record { filled = rw (back c) c.self.invariant.filled; few = c.self.invariant.few; sound = rw (back c) c.self.invariant.sound }
 
 pub returns-in-Err-clause-refused : goal.returns-in-Err-clause-refused
 returns-in-Err-clause-refused c =

@@ -1,8 +1,11 @@
-use Rattle.std.proofs.Common.{◌≡◌, ◌∙◌, ap, rules, take, map, arith, true, false}
+use Rattle.std.proofs.Common.{refl, ◌≡◌, ◌∙◌, ap, rules, take, map, arith, true, false}
 use Rattle.std.specs.String.{string_bytes}
-use Rattle.std.proofs.lemmas.List.{take_all}
-use Rattle.catalog.specs.Meaning.{definitions_of}
-use Rattle.catalog.specs.Stored.{empty_column}
+use Rattle.std.proofs.lemmas.List.{take_all, length-map}
+use Rattle.catalog.specs.Meaning.{definition_of, definitions_of}
+use Rattle.catalog.specs.Creates.{AreTypes}
+use Rattle.catalog.proofs.Typing.{sound_new}
+use Rattle.catalog.specs.Stored.{empty_column, table_of}
+use Rattle.catalog.specs.Sound.{IsSound}
 use Rattle.catalog.proofs.Rows.{untyped_at, empty_filled, new_is}
 use Rattle.catalog.proofs.table.Table.new.Goals as goal
 
@@ -15,11 +18,28 @@ made c =
 pub returns-in_default-clause-err : goal.returns-in_default-clause-err
 returns-in_default-clause-err c = untyped_at c.args.columns.now c.loop-column.column-index _ c.loop-column-test.true (λ t. let clash : false ≡ true = (c.in_default.ensures).in_range.1 t in cc)
 
+-- and have types
+typed : (c : goal.In_ok-name) → AreTypes (definitions_of c.args.columns.now)
+typed c =
+    let all : take c.loop-column.column-index c.args.columns.now ≡ c.args.columns.now = take_all c.loop-column.column-index c.args.columns.now c.loop-column-test.false in
+    let types = c.loop-column.invariant.types in
+    rw all at types
+
+-- and are those of a sound table
+sound : (c : goal.In_ok-name) → IsSound (table_of (string_bytes c.in_ok-name.name) c.loop-column.made.items 0)
+sound c =
+    rw (new_is (string_bytes c.in_ok-name.name) _ _ (definitions_of c.args.columns.now) refl (made c))
+    (sound_new (string_bytes c.in_ok-name.name) (definitions_of c.args.columns.now) (omega (arith, c.requires.narrow, length-map c.args.columns.now definition_of)) c.requires.distinct (typed c))
+
 pub invariant_of-result : goal.invariant_of-result
 invariant_of-result c = record {
   filled = rw (made c) (empty_filled (definitions_of c.args.columns.now));
   few = omega arith;
+  sound = sound c;
 }
+
+pub returns-clause-sound : goal.returns-clause-sound
+returns-clause-sound c = sound c
 
 pub returns-clause-ok : goal.returns-clause-ok
 returns-clause-ok c =
