@@ -13,24 +13,27 @@ use Rattle.definitions.specs.Refusal.{IsAccepted, Faulty, Refusal}
 use Rattle.definitions.specs.Answer.{answer}
 use Rattle.definitions.specs.Step as step
 use Rattle.definitions.specs.Step.{State, Answering, Step, Run, Ended, Well, Faulted, Loaded}
+use Rattle.std.proofs.lemmas.List.Sorted.{sum_by-IsPermutation}
+use Rattle.std.specs.Prelude.{cond}
+use Rattle.definitions.specs.Laws.{SelectPrintsAnswer, PrintsAnswer}
 use Rattle.definitions.proofs.Examples.{open_string_at_7, select_from_fails_at_7}
 
 -- an empty script prints nothing
 pub empty_script : {L : Type 0} (answers : Answering L) (s : State L) → Run answers s [] s [] Well
-empty_script answers s = step.run [] [] ([], refl, refl) (g.end 0 refl) (refl, refl, refl)
+empty_script answers s = step.run [] ([], ([], refl, refl), g.end 0 refl) (refl, refl, refl)
 
 pub open_string_line : {L : Type 0} (answers : Answering L) (s : State L) → Run answers s (codes "SELECT 'ab") s (codes "error E02 42000 at 7\n") Faulted
 unfolding digits
-open_string_line answers s = step.lexical (record { error = OpenString; at = 7 }) open_string_at_7 refl refl refl
+open_string_line answers s = step.fault (step.lexical (record { error = OpenString; at = 7 }) open_string_at_7 refl) refl refl
 
 pub syntax_line : {L : Type 0} (answers : Answering L) (s : State L) → Run answers s (codes "SELECT FROM T;") s (codes "error E05 42000 at 7\n") Faulted
 unfolding digits
-syntax_line answers s = step.syntax _ 7 (
+syntax_line answers s = step.fault (step.syntax _ 7 (
   codes "SELECT" ∷ codes " " ∷ codes "FROM" ∷ codes " " ∷ codes "T" ∷ codes ";" ∷ [],
   (codes " FROM T;", refl, refl, refl, (codes "FROM T;", refl, refl, refl, (codes " T;", refl, refl, refl, (codes "T;", refl, refl, refl, (codes ";", refl, refl, refl, ([], refl, refl, refl, refl)))))),
   refl,
 )
-    select_from_fails_at_7 refl refl refl
+    select_from_fails_at_7 refl) refl refl
 
 abbrev first : List s.Source → s.Source
 first [] = record { table = [] }
@@ -100,3 +103,24 @@ faults_change_nothing answers old new s text (step.created a b c d e f g) = absu
 faults_change_nothing answers old new s text (step.no_file a b l c d e n t f) = rw n refl
 faults_change_nothing answers old new s text (step.load a b c l t r db e f g h lo n) = rw n (loaded_fault _ _ _ _ _ _ lo)
 faults_change_nothing answers old new s text (step.query a b c d e f g h i j k l) = absurd cc
+
+same_query : (q q' : Select) → Query q ≡ Query q' → q ≡ q'
+same_query q q' e = cc
+
+-- what is printed for a query that is not refused is its answer
+pub select_prints_answer : SelectPrintsAnswer
+select_prints_answer L answers old new q text (step.refused r f n t e) = absurd cc
+select_prints_answer L answers old new q text (step.created a b c d e f g) = absurd cc
+select_prints_answer L answers old new q text (step.no_file a b l c d e n t f) = absurd cc
+select_prints_answer L answers old new q text (step.load a b c l t r db e f g h lo n) = absurd cc
+select_prints_answer L answers old new q text (step.query q' source table rows s a single named permuted n t e) =
+    let printed : PrintsAnswer old.database q' text = record {
+      source = source;
+      table = table;
+      rows = rows;
+      single = single;
+      named = named;
+      is = t;
+      as_often = λ test. sum_by-IsPermutation (λ row. cond (test row) 1 0) (answer table q'.block) rows permuted;
+    } in
+    subst (λ x. PrintsAnswer old.database x text) (sym (same_query q q' s)) printed

@@ -1,13 +1,18 @@
--- What holds of the definitions, each proved as the contract of a function that has no code.
-use Rattle.std.specs.Prelude.{ℕ, ◌≡◌, List, [], ◌∷◌, ◌++◌, Some, Result, true, false}
+-- What holds of the definitions. Each is proved as the contract of a function that has no code, but those that speak of every library,
+-- which no contract can state: they are proved in proofs/Runs.
+use Rattle.std.specs.Prelude.{ℕ, ◌≡◌, List, [], ◌∷◌, ◌++◌, Some, Result, Bool, true, false, map}
+use Rattle.std.specs.List.{count_by}
 use Rattle.definitions.specs.Value.{Value, SqlType}
 use Rattle.definitions.specs.Refusal.{FieldError}
 use Rattle.definitions.specs.Loading.{FieldLoads}
 use Rattle.definitions.specs.Token.{Token, TokenKind}
 use Rattle.definitions.specs.Lexing.{LexFault, Reads, quoted}
-use Rattle.definitions.specs.Statement.{Statement}
+use Rattle.definitions.specs.Statement.{Select, Source, Statement, Query}
+use Rattle.definitions.specs.Table.{Row, Table, Database, table_named}
+use Rattle.definitions.specs.Answer.{answer}
+use Rattle.definitions.specs.Step.{Answering, State, Step, Well}
 use Rattle.definitions.specs.Grammar.{Derives}
-use Rattle.definitions.specs.Printing.{doubled}
+use Rattle.definitions.specs.Printing.{doubled, item_name, table_text}
 
 -- every text has its tokens or a lexical fault, and only one of these
 abbrev pub EachTextReadsOnce : Type 0
@@ -24,3 +29,17 @@ QuotedReadsBack = (text : List ℕ) → quoted false (doubled text ++ 39 ∷ [])
 -- a field loads as at most one value or error
 abbrev pub FieldLoadsOnce : Type 0
 FieldLoadsOnce = (type : SqlType) (field : List ℕ) (a b : Result Value FieldError) → FieldLoads type field a → FieldLoads type field b → a ≡ b
+
+-- a text is that of a query's answer: the rows of the definition and no others, each as often as there
+pub record PrintsAnswer (db : Database) (q : Select) (text : List ℕ) : Type 0 where
+  pub source : Source
+  pub table : Table
+  pub rows : List Row
+  pub single : q.block.sources ≡ source ∷ []
+  pub named : table_named db source.table ≡ Some table
+  pub is : text ≡ table_text (map item_name q.block.items) rows
+  pub as_often : (test : Row → Bool) → count_by test rows ≡ count_by test (answer table q.block)
+
+-- what is printed for a query that is not refused is its answer
+abbrev pub SelectPrintsAnswer : Type 1
+SelectPrintsAnswer = (L : Type 0) (answers : Answering L) (old new : State L) (q : Select) (text : List ℕ) → Step answers old (Query q) new text Well → PrintsAnswer old.database q text

@@ -1,11 +1,15 @@
 -- Elements of lists that have a property by recursion.
 use Rattle.std.proofs.Common.{ℕ, ◌<◌, ◌≡◌, sym, subst, zero, suc, List, [], ◌∷◌, length, map, get_or, arith}
 use Rattle.std.proofs.Common.{Option}
+use Rattle.std.specs.Prelude.{◌+◌}
 use Rattle.std.specs.List.{AllByRecursion}
 use Rattle.definitions.specs.Token.{TokenKind}
 use Rattle.definitions.specs.Statement.{Expr, Item, Block, Statement}
 use Rattle.definitions.specs.Grammar as g
 use Rattle.sqlr.specs.Simple.{IsColumnItem, IsNumeral, IsLiteral, IsCondition, IsSimple, IsSimpleStatement}
+
+pub next : (i : ℕ) → i + 1 ≡ suc i
+next i = omega arith
 
 pub at_place : {A X : Type 0} (P : X → Type 0) (f : A → X) (xs : List A) (i : ℕ) (x : A) → AllByRecursion P (map f xs) → i < length xs → x ≡ get_or xs i x → P (f x)
 at_place P f [] i x h l e = absurd (omega (arith, l))

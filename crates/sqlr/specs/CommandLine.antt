@@ -1,6 +1,8 @@
 -- The command line, by clap's own words.
-use Rattle.std.specs.Prelude.{Some, true, codes}
-use Rattle.clap.specs.Walk.{Rule, Text}
+use Rattle.std.specs.Prelude.{List, Option, Some, None, true, codes, if◌then◌else◌}
+use Rattle.std.specs.Str.{bytes_eq}
+use Rattle.clap.specs.Walk.{Row, Rule, Text, first_of}
+use Rattle.clap.specs.Words.{subcommand_of}
 use Rattle.clap.specs.Simple.{App, new_rule, new_app, with_rule, with_subcommand}
 use Rattle.clap.specs.declared.builder.action.ArgAction.TheVariants.{Set}
 
@@ -11,6 +13,15 @@ word_rule name = record (new_rule name) { required = true; action = Some Set }
 abbrev pub run : App
 run = with_rule (new_app (codes "run")) (word_rule (codes "SCRIPT"))
 
--- sqlr run SCRIPT
+-- `sqlr run SCRIPT`
 abbrev pub line : App
 line = with_subcommand (record (new_app (codes "sqlr")) { top = record (new_app (codes "sqlr")).top { subcommand_required = true } }) run.top
+
+-- the script of a subcommand with the rows of its matches
+abbrev pub script_in : Option (Text × List Row) → Option Text
+script_in None = None
+script_in (Some (name, rows)) = if bytes_eq name (codes "run") then first_of (codes "SCRIPT") rows else None
+
+-- the script that the definition of the line gives words, the first of which is the program's name
+abbrev pub script_of : List Text → Option Text
+script_of words = script_in (subcommand_of line words)

@@ -5,3 +5,6 @@ pub mod Devices
 pub mod Meaning
 pub mod Scripts
 pub mod Simple
+pub mod Selecting
+pub mod Sessions
+pub mod Request

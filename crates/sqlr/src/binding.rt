@@ -1,10 +1,19 @@
 //! What a query names, found in the database and judged.
 
-ghost use Rattle.std.specs.Prelude.{◌<◌, All, length, map, IfOk};
+ghost use Rattle.std.specs.Prelude.{◌≡◌, ◌<◌, ◌≤◌, ◌∷◌, [], All, Some, length, map, pos, IsNone, IfOk, IfErr, IfSome, OnOk};
 ghost use Rattle.std.specs.List.{AllByRecursion};
-ghost use Rattle.syntax.specs.Trees.{block_of, expr_of, item_of, source_of};
-ghost use Rattle.sqlr.specs.Binding.{IsPlaced};
-ghost use Rattle.sqlr.specs.Simple.{IsSimple, IsSingle, IsColumn, IsColumnItem, IsNumeral, IsLiteral, IsComparison};
+ghost use Rattle.definitions.specs.Answer as answer;
+ghost use Rattle.definitions.specs.Printing.{expr_name};
+ghost use Rattle.definitions.specs.Refusal as refusal;
+ghost use Rattle.definitions.specs.Statement.{Query, Signed};
+ghost use Rattle.definitions.specs.Value.{Number};
+ghost use Rattle.catalog.specs.Places.{IsColumnPlace};
+ghost use Rattle.sqlvalue.specs.Meaning.{type_of, value_of};
+ghost use Rattle.syntax.specs.Trees.{block_of, condition_of, expr_of, item_of, source_of};
+ghost use Rattle.sqlr.specs.Binding as spec;
+ghost use Rattle.sqlr.specs.Binding.{IsPlaced, ArePlaces, Binds, BindsCondition, IsExprFault, IsFaultless, IsFrom, IsLiteralValue, rows_of, told};
+ghost use Rattle.sqlr.specs.Meaning.{refusal_of};
+ghost use Rattle.sqlr.specs.Simple.{IsSimple, IsSingle, IsColumn, IsColumnItem, IsNumeral, IsLiteral, IsComparison, IsCondition};
 
 use crate::refusal::Refusal;
 use catalog::{Database, Table};
@@ -40,7 +49,8 @@ pub enum BindFault {
     Memory,
 }
 
-/// A query block with its names found in the database.
+/// A query block with its names found in the database (ISO/IEC 9075:1992, 7.9), or a fault that it
+/// has.
 pub fn bind<'a>(
     alloc: Global,
     database: &'a Database,
@@ -48,6 +58,10 @@ pub fn bind<'a>(
 ) -> Result<Bound<'a>, BindFault>
     requires { IsSimple (block_of block.now) }
     ensures placed { IfOk result IsPlaced }
+    ensures accepted { IfOk result (λ b. refusal.IsAccepted database.now (Query (record { block = block_of block.now }))) }
+    ensures table { IfOk result (λ b. IsFrom database.now (block_of block.now) b.table.now) }
+    ensures rows { IfOk result (λ b. rows_of b b.table.now.rows ≡ answer.answer b.table.now (block_of block.now)) }
+    ensures refused { IfErr result (λ f. IfSome (told f) (refusal.BlockFaulty database.now (block_of block.now))) }
 {
     if block.items.len() > MAX_ITEMS {
         return Err(BindFault::Refused(Refusal::OverQueryLimit));
@@ -55,10 +69,13 @@ pub fn bind<'a>(
     let Some(table) = database.table(source_name(block)) else {
         return Err(BindFault::Refused(Refusal::NotFound));
     };
-    let columns = item_columns(alloc, table, &block.items)?;
-    let condition = match &block.condition {
-        Some(condition) => Some(bind_comparison(table, condition)?),
-        None => None,
+    let columns = match item_columns(alloc, table, &block.items) {
+        Ok(columns) => columns,
+        Err(fault) => return Err(fault),
+    };
+    let condition = match bind_condition(table, &block.condition) {
+        Ok(condition) => condition,
+        Err(refusal) => return Err(BindFault::Refused(refusal)),
     };
     Ok(Bound {
         table,
@@ -69,6 +86,7 @@ pub fn bind<'a>(
 
 fn source_name(block: &Block) -> &str
     requires { IsSingle (map source_of block.now.sources.items) }
+    ensures { map source_of block.now.sources.items ≡ record { table = result.now } ∷ [] }
 {
     let [source] = block.sources.as_slice() else {
         unreachable!()
@@ -80,10 +98,15 @@ fn source_name(block: &Block) -> &str
 fn item_columns(alloc: Global, table: &Table, items: &[Item]) -> Result<Vec<usize>, BindFault>
     requires { AllByRecursion IsColumnItem (map item_of items.now) }
     ensures within { IfOk result (λ columns. All (λ place. place < length table.now.columns) columns.items) }
+    ensures places { IfOk result (λ columns. ArePlaces table.now.columns (map item_of items.now) columns.items) }
+    ensures known { IfOk result (λ columns. refusal.AnyOf (λ i. refusal.NamesUnknown table.now i.value) (map item_of items.now) → ⊥) }
+    ensures refused { IfErr result (λ f. IfSome (told f) (λ r. (r ≡ refusal.UnknownColumn) × refusal.AnyOf (λ i. refusal.NamesUnknown table.now i.value) (map item_of items.now))) }
 {
     let mut columns = Vec::new(alloc);
     'items: for item in items {
-        let place = column_place(table, &item.value)?;
+        let Some(place) = column_place(table, &item.value) else {
+            return Err(BindFault::Refused(Refusal::UnknownColumn));
+        };
         match columns.push(place) {
             Ok(()) => {}
             Err(_) => return Err(BindFault::Memory),
@@ -93,30 +116,55 @@ fn item_columns(alloc: Global, table: &Table, items: &[Item]) -> Result<Vec<usiz
 }
 
 /// The place of a column that an expression names.
-fn column_place(table: &Table, expr: &Expr) -> Result<usize, BindFault>
+fn column_place(table: &Table, expr: &Expr) -> Option<usize>
     requires { IsColumn (expr_of expr.now) }
-    ensures within { IfOk result (λ place. place < length table.now.columns) }
+    ensures within { IfSome result (λ place. place < length table.now.columns) }
+    ensures place { IfSome result (IsColumnPlace table.now.columns (expr_name (expr_of expr.now))) }
+    ensures known { IfSome result (λ place. refusal.NamesUnknown table.now (expr_of expr.now) → ⊥) }
+    ensures unknown { IsNone result → refusal.NamesUnknown table.now (expr_of expr.now) }
 {
     let Expr::Column(name) = expr else {
         unreachable!()
     };
-    match table.column(name.text.as_str()) {
-        Some(place) => Ok(place),
-        None => Err(BindFault::Refused(Refusal::UnknownColumn)),
+    table.column(name.text.as_str())
+}
+
+fn bind_condition<'a>(
+    table: &Table,
+    condition: &'a Option<Expr>,
+) -> Result<Option<Comparison<'a>>, Refusal>
+    requires { IsCondition (condition_of condition.now) }
+    ensures within { IfOk result (λ bound. IfSome bound (λ c. c.column < length table.now.columns)) }
+    ensures binds { IfOk result (BindsCondition table.now (condition_of condition.now)) }
+    ensures refused { IfErr result (λ r. refusal.IfPresent (λ e. IsExprFault table.now e (refusal_of r)) (condition_of condition.now)) }
+{
+    let Some(condition) = condition else {
+        return Ok(None);
+    };
+    match bind_comparison(table, condition) {
+        Ok(comparison) => Ok(Some(comparison)),
+        Err(refusal) => Err(refusal),
     }
 }
 
-fn bind_comparison<'a>(table: &Table, expr: &'a Expr) -> Result<Comparison<'a>, BindFault>
+fn bind_comparison<'a>(table: &Table, expr: &'a Expr) -> Result<Comparison<'a>, Refusal>
     requires { IsComparison (expr_of expr.now) }
     ensures within { IfOk result (λ c. c.column < length table.now.columns) }
+    ensures binds { IfOk result (Binds table.now (expr_of expr.now)) }
+    ensures faultless { OnOk result (IsFaultless table.now (expr_of expr.now)) }
+    ensures refused { IfErr result (λ r. IsExprFault table.now (expr_of expr.now) (refusal_of r)) }
 {
     let Expr::Compare { op, left, right } = expr else {
         unreachable!()
     };
-    let column = column_place(table, left)?;
-    let literal = literal_value(right)?;
+    let Some(column) = column_place(table, left) else {
+        return Err(Refusal::UnknownColumn);
+    };
+    let Some(literal) = literal_value(right) else {
+        return Err(Refusal::ScaleTooGreat);
+    };
     if is_text(literal) != is_text_type(table.sql_type(column)) {
-        return Err(BindFault::Refused(Refusal::MixedKinds));
+        return Err(Refusal::MixedKinds);
     }
     Ok(Comparison {
         column,
@@ -125,34 +173,42 @@ fn bind_comparison<'a>(table: &Table, expr: &'a Expr) -> Result<Comparison<'a>, 
     })
 }
 
-fn is_text(value: Value) -> bool {
+fn is_text(value: Value) -> bool
+    ensures { result ≡ spec.is_text (value_of value.entry) }
+{
     match value {
         Value::Text(_) => true,
         _ => false,
     }
 }
 
-fn is_text_type(sql_type: SqlType) -> bool {
+fn is_text_type(sql_type: SqlType) -> bool
+    ensures { result ≡ spec.is_text_type (type_of sql_type) }
+{
     match sql_type {
         SqlType::Char { .. } => true,
         _ => false,
     }
 }
 
-/// The value of a literal.
-fn literal_value(expr: &Expr) -> Result<Value<'_>, BindFault>
+/// The value of a literal; none where its scale is too great.
+fn literal_value(expr: &Expr) -> Option<Value<'_>>
     requires { IsLiteral (expr_of expr.now) }
+    ensures value { IfSome result (λ v. IsLiteralValue (expr_of expr.now) (value_of v)) }
+    ensures great { IsNone result → refusal.HasGreatScale (expr_of expr.now) }
 {
     match expr {
         Expr::Numeral(numeral) => number(*numeral, false),
-        Expr::String(literal) => Ok(Value::Text(literal.text.as_str())),
+        Expr::String(literal) => Some(Value::Text(literal.text.as_str())),
         Expr::Signed { minus, operand } => signed_value(*minus, operand),
         _ => unreachable!(),
     }
 }
 
-fn signed_value<'a>(minus: bool, operand: &Expr) -> Result<Value<'a>, BindFault>
+fn signed_value<'a>(minus: bool, operand: &Expr) -> Option<Value<'a>>
     requires { IsNumeral (expr_of operand.now) }
+    ensures value { IfSome result (λ v. IsLiteralValue (Signed minus (expr_of operand.now)) (value_of v)) }
+    ensures great { IsNone result → refusal.HasGreatScale (expr_of operand.now) }
 {
     let Expr::Numeral(numeral) = operand else {
         unreachable!()
@@ -160,13 +216,17 @@ fn signed_value<'a>(minus: bool, operand: &Expr) -> Result<Value<'a>, BindFault>
     number(*numeral, minus)
 }
 
-fn number<'a>(numeral: Numeral, minus: bool) -> Result<Value<'a>, BindFault> {
+fn number<'a>(numeral: Numeral, minus: bool) -> Option<Value<'a>>
+    ensures value { IfSome result (λ v. value_of v ≡ answer.signed minus (Number (pos numeral.units) numeral.scale)) }
+    ensures scale { IfSome result (λ v. numeral.scale ≤ 18) }
+    ensures great { IsNone result → 18 < numeral.scale }
+{
     if numeral.scale > MAX_SCALE {
-        return Err(BindFault::Refused(Refusal::ScaleTooGreat));
+        return None;
     }
     let size = numeral.units as i128;
     let units = if minus { -size } else { size };
-    Ok(Value::Num(Num {
+    Some(Value::Num(Num {
         units,
         scale: numeral.scale,
     }))

@@ -4,8 +4,8 @@
 mod binding;
 pub mod command_line;
 mod ended;
-mod failures;
 mod library;
+mod outcome;
 mod printing;
 mod refusal;
 mod script;
@@ -15,7 +15,6 @@ mod sink;
 mod words;
 
 pub use ended::{Ended, RunFault, status};
-pub use failures::Failures;
 pub use library::{FetchFault, Fetched, Library};
 pub use session::Session;
 pub use sink::{Sink, SinkFault};

@@ -1,6 +1,6 @@
 //! Where LOAD finds its files.
 
-ghost use Rattle.std.specs.Prelude.{ℕ, List, Option, IfOk, IfErr};
+ghost use Rattle.std.specs.Prelude.{◌≤◌, ℕ, List, Option, IfOk, IfErr};
 ghost use Rattle.sqlr.specs.Devices.{answer_of, FetchFailed};
 
 use thiserror::Error;
@@ -17,7 +17,8 @@ pub trait Library: Drop {
     /// The file of a name.
     fn fetch(&mut self, name: &str) -> Result<Fetched, FetchFault>
         ensures answer { IfOk result (λ fetched. answers self.old name.now (answer_of fetched) self.new) }
-        ensures fault { IfErr result (λ fault. FetchFailed (failures self.old) (failures self.new) fault) };
+        ensures fault { IfErr result (λ fault. FetchFailed (failures self.old) (failures self.new) fault) }
+        ensures counted { failures self.old ≤ failures self.new };
 }
 
 /// What a library answers.

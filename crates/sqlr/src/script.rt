@@ -3,7 +3,8 @@
 ghost use Rattle.std.specs.Prelude.{◌≡◌, IfOk, IfErr, option_map};
 ghost use Rattle.syntax.specs.Trees.{statements_of};
 ghost use Rattle.lexer.specs.Meaning.{fault_of};
-ghost use Rattle.sqlr.specs.Scripts.{AreStatements, IsFault, tells, lexical_line};
+ghost use Rattle.definitions.specs.Step.{AreStatements};
+ghost use Rattle.sqlr.specs.Scripts.{IsFault, line_of, lexical_line};
 
 use lexer::{LexFault, lex};
 use std::alloc::Global;
@@ -33,7 +34,7 @@ pub fn read(alloc: Global, script: &str) -> Result<Vec<Statement>, ScriptFault>
 }
 
 fn lexical(fault: LexFault) -> ScriptFault
-    ensures { tells result ≡ option_map lexical_line (fault_of fault) }
+    ensures { line_of result ≡ option_map lexical_line (fault_of fault) }
 {
     match fault {
         LexFault::StrayCharacter { at } => ScriptFault::Told { label: "E01", at },

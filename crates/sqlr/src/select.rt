@@ -1,10 +1,14 @@
 //! The answer of a query, as it is printed.
 
-ghost use Rattle.std.specs.Prelude.{◌≡◌, ◌<◌, All, length};
-ghost use Rattle.syntax.specs.Trees.{op_of, block_of};
+ghost use Rattle.std.specs.Prelude.{◌≡◌, ◌<◌, ◌++◌, [], All, IfOk, IfErr, IfSome, OnOk, length, map, slice_index_or};
 ghost use Rattle.definitions.specs.Answer as spec;
-ghost use Rattle.sqlr.specs.Binding.{IsPlaced};
-ghost use Rattle.sqlr.specs.Simple.{IsSimple};
+ghost use Rattle.definitions.specs.Printing.{fields_line, item_name, row_line, table_text};
+ghost use Rattle.definitions.specs.Refusal as refusal;
+ghost use Rattle.sqlvalue.specs.Meaning.{value_of};
+ghost use Rattle.syntax.specs.Trees.{op_of, block_of, item_of};
+ghost use Rattle.sqlr.specs.Binding.{IsPlaced, keeps, is_true, rows_of, told, values_at};
+ghost use Rattle.sqlr.specs.Selecting.{PrintsAnswer};
+ghost use Rattle.sqlr.specs.Simple.{IsSimple, IsColumnItem};
 
 use crate::binding::{BindFault, Bound, Comparison, bind};
 use crate::printing::{write_decimal, write_value};
@@ -14,18 +18,26 @@ use std::alloc::{AllocError, Global};
 use std::cmp::Ordering;
 use syntax::{Block, Expr, Item, Op};
 
-/// What a query prints: the header, its rows and how many there are.
+/// What a query prints: the header, its rows and how many there are; or a fault that it has.
 pub fn select(alloc: Global, database: &Database, block: &Block) -> Result<Vec<u8>, BindFault>
     requires { IsSimple (block_of block.now) }
+    ensures prints { IfOk result (λ text. PrintsAnswer database.now (block_of block.now) text.items) }
+    ensures refused { IfErr result (λ f. IfSome (told f) (refusal.BlockFaulty database.now (block_of block.now))) }
 {
-    let bound = bind(alloc, database, block)?;
+    let bound = match bind(alloc, database, block) {
+        Ok(bound) => bound,
+        Err(fault) => return Err(fault),
+    };
     let mut out = Vec::new(alloc);
-    write_answer(&mut out, &bound, &block.items).map_err(|_| BindFault::Memory)?;
-    Ok(out)
+    match write_answer(&mut out, &bound, &block.items) {
+        Ok(()) => Ok(out),
+        Err(_) => Err(BindFault::Memory),
+    }
 }
 
 fn write_answer(out: &mut Vec<u8>, bound: &Bound, items: &[Item]) -> Result<(), AllocError>
     requires { IsPlaced bound.now }
+    ensures { OnOk result (out.new.items ≡ out.old.items ++ table_text (map item_name (map item_of items.now)) (rows_of bound.now bound.now.table.now.rows)) }
 {
     write_header(out, items)?;
     let mut count: usize = 0;
@@ -40,19 +52,23 @@ fn write_answer(out: &mut Vec<u8>, bound: &Bound, items: &[Item]) -> Result<(), 
 }
 
 /// The names of the result columns.
-fn write_header(out: &mut Vec<u8>, items: &[Item]) -> Result<(), AllocError> {
+fn write_header(out: &mut Vec<u8>, items: &[Item]) -> Result<(), AllocError>
+    ensures { OnOk result (out.new.items ≡ out.old.items ++ fields_line (map item_name (map item_of items.now))) }
+{
     'items: for (i, item) in items.iter().enumerate() {
         if i > 0 {
             out.push(b'|')?;
         }
-        out.extend_from_slice(item_name(item).as_bytes())?;
+        out.extend_from_slice(name_of(item).as_bytes())?;
     }
     out.push(b'\n')?;
     Ok(())
 }
 
 /// The name of a result column: a plain column's own.
-fn item_name(item: &Item) -> &str {
+fn name_of(item: &Item) -> &str
+    ensures { result.now ≡ item_name (item_of item.now) }
+{
     match &item.value {
         Expr::Column(name) => name.text.as_str(),
         _ => "",
@@ -62,6 +78,7 @@ fn item_name(item: &Item) -> &str {
 fn write_row(out: &mut Vec<u8>, bound: &Bound, row: usize) -> Result<(), AllocError>
     requires placed { IsPlaced bound.now }
     requires in_rows { row < length bound.now.table.now.rows }
+    ensures { OnOk result (out.new.items ≡ out.old.items ++ row_line (values_at bound.now.columns.items (slice_index_or bound.now.table.now.rows row []))) }
 {
     'columns: for (i, column) in bound.columns.iter().enumerate() {
         if i > 0 {
@@ -77,16 +94,18 @@ fn write_row(out: &mut Vec<u8>, bound: &Bound, row: usize) -> Result<(), AllocEr
 fn is_kept(bound: &Bound, row: usize) -> bool
     requires placed { IsPlaced bound.now }
     requires in_rows { row < length bound.now.table.now.rows }
+    ensures { result ≡ keeps bound.now.condition (slice_index_or bound.now.table.now.rows row []) }
 {
     match &bound.condition {
-        Some(comparison) => is_true(bound.table, comparison, row),
+        Some(comparison) => is_met(bound.table, comparison, row),
         None => true,
     }
 }
 
-fn is_true(table: &Table, comparison: &Comparison, row: usize) -> bool
+fn is_met(table: &Table, comparison: &Comparison, row: usize) -> bool
     requires in_rows { row < length table.now.rows }
     requires in_columns { comparison.now.column < length table.now.columns }
+    ensures { result ≡ is_true comparison.now (slice_index_or table.now.rows row []) }
 {
     let value = table.cell(row, comparison.column);
     match compare(&value, &comparison.literal) {

@@ -1,22 +1,30 @@
 //! Sessions.
 
-ghost use Rattle.std.specs.Prelude.{map};
+ghost use Rattle.std.specs.Prelude.{◌≡◌, ◌≢◌, ◌≤◌, [], None, map, IfOk, IfErr, OnErr};
 ghost use Rattle.std.specs.List.{AllByRecursion};
-ghost use Rattle.syntax.specs.Trees.{block_of, statement_of, statements_of};
+ghost use Rattle.definitions.specs.Printing.{fault_text};
+ghost use Rattle.definitions.specs.Statement as tree;
+ghost use Rattle.definitions.specs.Step.{AreStatements};
+ghost use Rattle.definitions.specs.Table.{table_named};
+ghost use Rattle.catalog.specs.Meaning as catalog;
+ghost use Rattle.syntax.specs.Trees.{block_of, definitions_of, name_of, statement_of, statements_of, text_of};
+ghost use Rattle.sqlr.specs.declared.outcome.StepFault.TheVariants as fault;
+ghost use Rattle.sqlr.specs.Meaning.{refusal_of};
+ghost use Rattle.sqlr.specs.Sessions.{BreaksIn, BreaksLine, BreaksOff, IsBlamed, IsBoth, IsLibraryBlamed, IsSinkBlamed, Runs, RunsAll, Takes, TakesBytes, Tells};
 ghost use Rattle.sqlr.specs.Simple.{IsSimple, IsSimpleStatement};
 
 use crate::binding::BindFault;
 use crate::ended::{Ended, RunFault};
 use crate::library::{FetchFault, Fetched, Library};
-use crate::printing::{
-    LOADED_ROOM, write_fault, write_loaded, write_record_refusal, write_refusal,
-};
+use crate::outcome::{Printed, StepFault, refused, refused_record};
+use crate::printing::{LOADED_ROOM, write_fault, write_loaded};
 use crate::refusal::{FieldError, Refusal};
 use crate::script::{ScriptFault, read};
 use crate::select::select;
 use crate::sink::Sink;
 use catalog::{CreateFault, Database, FieldFault, LoadFault, NewColumn, RecordFault};
-use std::alloc::Global;
+use std::alloc::{AllocError, Global};
+use std::marker::Model;
 use syntax::{Block, ColumnDefinition, Name, Statement, StringLiteral};
 
 /// A database, and the library that LOAD finds its files in.
@@ -27,22 +35,20 @@ pub struct Session<L: Library> {
     database: Database,
 }
 
-/// What a statement prints, and how it ended.
-#[derive(Drop)]
-struct Printed {
-    text: Vec<u8>,
-    ended: Ended,
-}
+impl<L: Library> Model for Session<L> {
+    ghost use Rattle.definitions.specs.Step.{State};
 
-/// Why a statement broke off.
-enum StepFault {
-    Memory,
-    Library,
+    ghost Value = { State L };
+
+    ghost view = { λ s. record { library = s.library; database = s.database } };
 }
 
 impl<L: Library> Session<L> {
     /// A session with an empty database.
-    pub fn new(alloc: Global, library: L) -> Session<L> {
+    pub fn new(alloc: Global, library: L) -> Session<L>
+        ensures library { result.library ≡ library }
+        ensures database { result.database ≡ [] }
+    {
         Session {
             alloc,
             library,
@@ -50,10 +56,17 @@ impl<L: Library> Session<L> {
         }
     }
 
-    /// Runs a script, and puts what it prints into a sink, the text of each statement as a whole.
-    /// The script is read first; a fault there prints its one line, and nothing is run. After a
-    /// refused statement the script goes on.
-    pub fn run<S: Sink>(&mut self, script: &str, sink: &mut S) -> Result<Ended, RunFault> {
+    /// Runs a script, and puts what it prints into a sink, the text of each statement as a whole
+    /// (own). The script is read first; a fault there prints its one line, and nothing is run. After
+    /// a refused statement the script goes on. A run that breaks off leaves the database as the
+    /// statements before left it; where the sink failed, the statement whose text it refused has
+    /// taken effect, and a beginning of that text was printed.
+    pub fn run<S: Sink>(&mut self, script: &str, sink: &mut S) -> Result<Ended, RunFault>
+        ensures runs { IfOk result (Runs L.answers self.old script.now self.new (S.told sink.old) (S.told sink.new)) }
+        ensures breaks { IfErr result (BreaksOff L.answers self.old script.now self.new (S.told sink.old) (S.told sink.new)) }
+        ensures library { IfErr result (IsLibraryBlamed (L.failures self.old.library) (L.failures self.new.library)) }
+        ensures sink { IfErr result (IsSinkBlamed (S.failures sink.old) (S.failures sink.new)) }
+    {
         match read(self.alloc, script) {
             Ok(statements) => self.run_statements(&statements, sink),
             Err(ScriptFault::Told { label, at }) => self.tell_fault(label, at, sink),
@@ -61,7 +74,12 @@ impl<L: Library> Session<L> {
         }
     }
 
-    fn tell_fault<S: Sink>(&self, label: &str, at: usize, sink: &mut S) -> Result<Ended, RunFault> {
+    /// Prints the line of a fault of the script's text.
+    fn tell_fault<S: Sink>(&self, label: &str, at: usize, sink: &mut S) -> Result<Ended, RunFault>
+        ensures told { IfOk result (Tells (fault_text label.now at) (S.told sink.old) (S.told sink.new)) }
+        ensures breaks { IfErr result (BreaksLine (fault_text label.now at) (S.told sink.old) (S.told sink.new)) }
+        ensures blamed { IfErr result (IsSinkBlamed (S.failures sink.old) (S.failures sink.new)) }
+    {
         let mut text = Vec::new(self.alloc);
         if write_fault(&mut text, label, at).is_err() {
             return Err(RunFault::Memory);
@@ -78,6 +96,10 @@ impl<L: Library> Session<L> {
         sink: &mut S,
     ) -> Result<Ended, RunFault>
         requires { AllByRecursion IsSimpleStatement (statements_of statements.now) }
+        ensures runs { IfOk result (RunsAll L.answers self.old (statements_of statements.now) self.new (S.told sink.old) (S.told sink.new)) }
+        ensures breaks { IfErr result (BreaksIn L.answers self.old (statements_of statements.now) self.new (S.told sink.old) (S.told sink.new)) }
+        ensures library { IfErr result (IsLibraryBlamed (L.failures self.old.library) (L.failures self.new.library)) }
+        ensures sink { IfErr result (IsSinkBlamed (S.failures sink.old) (S.failures sink.new)) }
     {
         let mut ended = Ended::Well;
         'statements: for statement in statements {
@@ -86,12 +108,11 @@ impl<L: Library> Session<L> {
                 Err(StepFault::Memory) => return Err(RunFault::Memory),
                 Err(StepFault::Library) => return Err(RunFault::Library),
             };
-            if sink.put(&printed.text).is_err() {
-                return Err(RunFault::Sink);
+            match sink.put(&printed.text) {
+                Ok(()) => {}
+                Err(_) => return Err(RunFault::Sink),
             }
-            if printed.ended == Ended::Faulted {
-                ended = Ended::Faulted;
-            }
+            ended = both(ended, printed.ended);
         }
         Ok(ended)
     }
@@ -99,6 +120,10 @@ impl<L: Library> Session<L> {
     /// Runs a statement. One that breaks off has changed nothing in the database.
     fn step(&mut self, statement: &Statement) -> Result<Printed, StepFault>
         requires { IsSimpleStatement (statement_of statement.now) }
+        ensures takes { IfOk result (Takes L.answers self.old (statement_of statement.now) self.new) }
+        ensures kept { OnErr result (self.new.database ≡ self.old.database) }
+        ensures blamed { IfErr result (IsBlamed (L.failures self.old.library) (L.failures self.new.library)) }
+        ensures counted { L.failures self.old.library ≤ L.failures self.new.library }
     {
         match statement {
             Statement::CreateTable { name, columns } => self.create_table(name, columns),
@@ -111,9 +136,20 @@ impl<L: Library> Session<L> {
         &mut self,
         name: &Name,
         columns: &[ColumnDefinition],
-    ) -> Result<Printed, StepFault> {
-        let columns = new_columns(self.alloc, columns)?;
-        let text = Vec::from_slice(self.alloc, b"OK\n").map_err(|_| StepFault::Memory)?;
+    ) -> Result<Printed, StepFault>
+        ensures takes { IfOk result (Takes L.answers self.old (tree.CreateTable (name_of name.now) (definitions_of columns.now)) self.new) }
+        ensures kept { OnErr result (self.new.database ≡ self.old.database) }
+        ensures memory { IfErr result (λ f. f ≡ fault.Memory) }
+        ensures library { self.new.library ≡ self.old.library }
+    {
+        let columns = match new_columns(self.alloc, columns) {
+            Ok(columns) => columns,
+            Err(_) => return Err(StepFault::Memory),
+        };
+        let text = match Vec::from_slice(self.alloc, b"OK\n") {
+            Ok(text) => text,
+            Err(_) => return Err(StepFault::Memory),
+        };
         match self.database.create_table(name.text.as_str(), &columns) {
             Ok(()) => Ok(Printed {
                 text,
@@ -125,7 +161,12 @@ impl<L: Library> Session<L> {
         }
     }
 
-    fn load(&mut self, table: &Name, file: &StringLiteral) -> Result<Printed, StepFault> {
+    fn load(&mut self, table: &Name, file: &StringLiteral) -> Result<Printed, StepFault>
+        ensures takes { IfOk result (Takes L.answers self.old (tree.Load (name_of table.now) (text_of file.now)) self.new) }
+        ensures kept { OnErr result (self.new.database ≡ self.old.database) }
+        ensures blamed { IfErr result (IsBlamed (L.failures self.old.library) (L.failures self.new.library)) }
+        ensures counted { L.failures self.old.library ≤ L.failures self.new.library }
+    {
         if self.database.table(table.text.as_str()).is_none() {
             return refused(self.alloc, Refusal::NotFound);
         }
@@ -137,8 +178,18 @@ impl<L: Library> Session<L> {
         }
     }
 
-    fn load_bytes(&mut self, table: &Name, bytes: &[u8]) -> Result<Printed, StepFault> {
-        let mut text = Vec::with_capacity(self.alloc, LOADED_ROOM).map_err(|_| StepFault::Memory)?;
+    /// Loads the bytes of a file into a table that is there.
+    fn load_bytes(&mut self, table: &Name, bytes: &[u8]) -> Result<Printed, StepFault>
+        requires { table_named self.old.database (name_of table.now) ≢ None }
+        ensures takes { IfOk result (TakesBytes self.old.database (name_of table.now) bytes.now self.new.database) }
+        ensures kept { OnErr result (self.new.database ≡ self.old.database) }
+        ensures memory { IfErr result (λ f. f ≡ fault.Memory) }
+        ensures library { self.new.library ≡ self.old.library }
+    {
+        let mut text = match Vec::with_capacity(self.alloc, LOADED_ROOM) {
+            Ok(text) => text,
+            Err(_) => return Err(StepFault::Memory),
+        };
         match self.database.load(table.text.as_str(), bytes) {
             Ok(rows) => {
                 write_loaded(&mut text, rows);
@@ -147,7 +198,7 @@ impl<L: Library> Session<L> {
                     ended: Ended::Well,
                 })
             }
-            Err(LoadFault::NoTable) => refused(self.alloc, Refusal::NotFound),
+            Err(LoadFault::NoTable) => unreachable!(),
             Err(LoadFault::Record { fault, number }) => {
                 refused_record(self.alloc, record_refusal(fault), number)
             }
@@ -158,6 +209,8 @@ impl<L: Library> Session<L> {
 
     fn query(&self, block: &Block) -> Result<Printed, StepFault>
         requires { IsSimple (block_of block.now) }
+        ensures takes { IfOk result (Takes L.answers self.now (tree.Query (record { block = block_of block.now })) self.now) }
+        ensures memory { IfErr result (λ f. f ≡ fault.Memory) }
     {
         match select(self.alloc, &self.database, block) {
             Ok(text) => Ok(Printed {
@@ -170,44 +223,37 @@ impl<L: Library> Session<L> {
     }
 }
 
+/// How two statements ended, one behind the other.
+fn both(first: Ended, second: Ended) -> Ended
+    ensures { IsBoth first second result }
+{
+    match first {
+        Ended::Well => second,
+        _ => first,
+    }
+}
+
+/// The columns of a new table.
 fn new_columns<'a>(
     alloc: Global,
     definitions: &'a [ColumnDefinition],
-) -> Result<Vec<NewColumn<'a>>, StepFault> {
+) -> Result<Vec<NewColumn<'a>>, AllocError>
+    ensures { IfOk result (λ columns. catalog.definitions_of columns.items ≡ definitions_of definitions.now) }
+{
     let mut columns = Vec::new(alloc);
     'definitions: for definition in definitions {
-        let column = NewColumn {
+        columns.push(NewColumn {
             name: definition.name.text.as_str(),
             declared: definition.declared,
-        };
-        columns.push(column).map_err(|_| StepFault::Memory)?;
+        })?;
     }
     Ok(columns)
 }
 
-fn refused(alloc: Global, refusal: Refusal) -> Result<Printed, StepFault> {
-    let mut text = Vec::new(alloc);
-    match write_refusal(&mut text, refusal) {
-        Ok(()) => Ok(Printed {
-            text,
-            ended: Ended::Faulted,
-        }),
-        Err(_) => Err(StepFault::Memory),
-    }
-}
-
-fn refused_record(alloc: Global, refusal: Refusal, number: u64) -> Result<Printed, StepFault> {
-    let mut text = Vec::new(alloc);
-    match write_record_refusal(&mut text, refusal, number) {
-        Ok(()) => Ok(Printed {
-            text,
-            ended: Ended::Faulted,
-        }),
-        Err(_) => Err(StepFault::Memory),
-    }
-}
-
-fn record_refusal(fault: RecordFault) -> Refusal {
+/// The refusal that a record's fault is.
+fn record_refusal(fault: RecordFault) -> Refusal
+    ensures { refusal_of result ≡ catalog.record_refusal fault }
+{
     match fault {
         RecordFault::FieldCount => Refusal::FieldCount,
         RecordFault::Field(FieldFault::BadText) => Refusal::Field(FieldError::BadText),

@@ -1,6 +1,6 @@
 //! Where the printed bytes go.
 
-ghost use Rattle.std.specs.Prelude.{◌<◌, ℕ, List, Option, OnOk, OnErr};
+ghost use Rattle.std.specs.Prelude.{◌<◌, ◌≤◌, ℕ, List, Option, OnOk, OnErr};
 ghost use Rattle.sqlr.specs.Devices.{Took, TookBeginning};
 
 use thiserror::Error;
@@ -17,7 +17,8 @@ pub trait Sink {
     fn put(&mut self, bytes: &[u8]) -> Result<(), SinkFault>
         ensures ok { OnOk result (Took (told self.old) bytes.now (told self.new)) }
         ensures fault { OnErr result (TookBeginning (told self.old) bytes.now (told self.new)) }
-        ensures failed { OnErr result (failures self.old < failures self.new) };
+        ensures failed { OnErr result (failures self.old < failures self.new) }
+        ensures counted { failures self.old ≤ failures self.new };
 }
 
 /// A sink's device has failed.

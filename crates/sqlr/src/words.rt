@@ -1,30 +1,60 @@
 //! From the words of a command line to what they ask for.
 
-ghost use Rattle.std.specs.Prelude.{◌≡◌, false, IfOk};
-ghost use Rattle.clap.specs.Words.{app_of, rule_of};
+ghost use Rattle.std.specs.Prelude.{◌≡◌, Some, true, false, map, option_map, IfOk, IfErr, IsErr, IsSome};
+ghost use Rattle.clap.specs.Simple.{subcommand_rows_of};
+ghost use Rattle.clap.specs.Words.{app_of, rule_of, kind_of, takes};
+ghost use Rattle.clap.specs.declared.error.kind.ErrorKind.TheVariants as kind;
+ghost use Rattle.sqlr.specs.CommandLine as spec;
+ghost use Rattle.sqlr.specs.Request.{script_text};
 ghost use Rattle.clap.specs.declared.builder.Command.TheViews.{out-Command};
-ghost use Rattle.sqlr.specs.CommandLine.{line, run, word_rule};
+ghost use Rattle.sqlr.specs.CommandLine.{line, run, script_in, word_rule};
 
 use crate::command_line::{LineFault, Request};
 use clap::error::ErrorKind;
 use clap::{Arg, ArgAction, ArgMatches, Command};
 use std::alloc::{AllocError, Global};
 
-/// What the words of a command line ask for, the first of which is the program's name; or `clap`'s
-/// fault, which asked-for help is too (own).
-pub fn request(alloc: Global, words: &[&str]) -> Result<Request, LineFault> {
-    let mut command = command(alloc)?;
-    let matches = command.try_get_matches_from_mut(words)?;
-    match script_of(&matches) {
-        Some(script) => Ok(Request::Run(String::from_str(alloc, script)?)),
-        None => Err(command.error(ErrorKind::MissingSubcommand, "a subcommand is required")?),
+/// What the words of a command line ask for, the first of which is the program's name, as `clap`
+/// gives them to the command; or `clap`'s fault, which asked-for help is too (own).
+pub fn request(alloc: Global, words: &[&str]) -> Result<Request, LineFault>
+    ensures asked { IfOk result (λ r. spec.script_of (map (λ w. w.now) words.now) ≡ Some (script_text r)) }
+    ensures refused { IfErr result (λ f. takes line (map (λ w. w.now) words.now) ≡ true → IsSome (spec.script_of (map (λ w. w.now) words.now)) → kind_of f ≡ kind.OutOfMemory) }
+{
+    let mut command = match command(alloc) {
+        Ok(command) => command,
+        Err(_) => return Err(LineFault::from(AllocError)),
+    };
+    let matches = match command.try_get_matches_from_mut(words) {
+        Ok(matches) => matches,
+        Err(fault) => return Err(fault),
+    };
+    let Some(script) = script_of(&matches) else {
+        return no_script(&mut command);
+    };
+    match String::from_str(alloc, script) {
+        Ok(script) => Ok(Request::Run(script)),
+        Err(_) => Err(LineFault::from(AllocError)),
     }
 }
 
 /// The script that the subcommand `run` is given.
-fn script_of<'a>(matches: &ArgMatches<'a>) -> Option<&'a str> {
-    let (_, run) = matches.subcommand()?;
-    run.get_str("SCRIPT")
+fn script_of<'a>(matches: &ArgMatches<'a>) -> Option<&'a str>
+    ensures { option_map (λ s. s.now) result ≡ script_in (subcommand_rows_of matches.now) }
+{
+    match matches.subcommand() {
+        Some((name, run)) if name == "run" => run.get_str("SCRIPT"),
+        _ => None,
+    }
+}
+
+/// The fault of words that give no script.
+fn no_script(command: &mut Command) -> Result<Request, LineFault>
+    ensures { IsErr result }
+{
+    match command.error(ErrorKind::MissingSubcommand, "a subcommand is required") {
+        Ok(fault) => Err(fault),
+        Err(_) => Err(LineFault::from(AllocError)),
+    }
 }
 
 /// `sqlr run SCRIPT`.

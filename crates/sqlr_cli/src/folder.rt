@@ -1,6 +1,7 @@
 //! Files of the working folder.
 
-use sqlr::{Failures, FetchFault, Fetched, Library};
+use failures::Failures;
+use sqlr::{FetchFault, Fetched, Library};
 use std::fs;
 use std::io::ErrorKind;
 use std::rt::Files;

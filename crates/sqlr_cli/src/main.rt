@@ -6,10 +6,11 @@ mod output;
 
 ghost use Rattle.std.specs.Prelude.{◌≡◌, ◌<◌};
 
+use failures::Failures;
 use folder::Folder;
 use output::Output;
 use sqlr::command_line::Request;
-use sqlr::{Failures, Session, request, status};
+use sqlr::{Session, request, status};
 use std::alloc::AllocError;
 use std::fmt::Display;
 use std::marker::Brand;

@@ -1,6 +1,7 @@
 //! Standard output as a sink.
 
-use sqlr::{Failures, Sink, SinkFault};
+use failures::Failures;
+use sqlr::{Sink, SinkFault};
 use std::io::Write;
 use std::sync::ledger::Ledger;
 

@@ -2,9 +2,8 @@
 
 ghost use Rattle.std.specs.Prelude.{◌≡◌, ◌<◌};
 
-use sqlr::{
-    Ended, Failures, FetchFault, Fetched, Library, RunFault, Session, Sink, SinkFault, status,
-};
+use failures::Failures;
+use sqlr::{Ended, FetchFault, Fetched, Library, RunFault, Session, Sink, SinkFault, status};
 use std::alloc::Global;
 use std::marker::Brand;
 use std::sync::ledger::{Blank, Ledger};

@@ -1,4 +1,4 @@
-use Rattle.std.proofs.Common.{◌≡◌, ◌∙◌, ◌++◌, ap, append_assoc, codes}
+use Rattle.std.proofs.Common.{◌∙◌, append_assoc}
 use Rattle.sqlr.proofs.printing.write_loaded.Goals as goal
 
 pub returns : goal.returns

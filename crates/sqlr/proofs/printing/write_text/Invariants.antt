@@ -1,4 +1,4 @@
-use Rattle.std.proofs.Common.{◌≡◌, ◌++◌, ◌∷◌, [], drop}
+use Rattle.std.proofs.Common.{◌≡◌, ◌++◌, ◌∷◌, drop}
 use Rattle.definitions.specs.Printing.{doubled}
 use Rattle.sqlr.proofs.printing.write_text.Given as goal
 

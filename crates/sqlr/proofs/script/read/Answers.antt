@@ -1,5 +1,5 @@
 use Rattle.std.proofs.Common.{refl}
-use Rattle.sqlr.specs.Scripts as s
+use Rattle.definitions.specs.Step as s
 use Rattle.sqlr.proofs.Scripts.{lexical_told}
 use Rattle.sqlr.proofs.script.read.Goals as goal
 

@@ -1,7 +1,28 @@
+use Rattle.std.proofs.Common.{arith}
 use Rattle.syntax.specs.Trees.{statement_of}
 use Rattle.sqlr.specs.Simple.{IsSimpleStatement}
-use Rattle.sqlr.proofs.Simple.{at_place}
+use Rattle.sqlr.proofs.Simple.{at_place, next}
+use Rattle.sqlr.proofs.Running.{one_more, broke_undone, broke_done, memory_apart, library_apart}
 use Rattle.sqlr.proofs.session.Session.run_statements.Goals as goal
 
 pub step-requires : goal.step-requires
 step-requires g c = at_place IsSimpleStatement statement_of c.args.statements.now c.statements.statement-index c.statement-item.result c.requires c.statements-test.true c.statement-item.is
+
+pub returns-in-Err-Memory-clause-breaks : goal.returns-in-Err-Memory-clause-breaks
+returns-in-Err-Memory-clause-breaks g c =
+    broke_undone _ _ _ _ c.args.statements.now _ _ _ _ _ _ c.statements-test.true c.statement-item.is c.statements.invariant.ran c.in-Err-Memory.ensures.kept memory_apart
+
+pub returns-in-Err-Library-clause-breaks : goal.returns-in-Err-Library-clause-breaks
+returns-in-Err-Library-clause-breaks g c =
+    broke_undone _ _ _ _ c.args.statements.now _ _ _ _ _ _ c.statements-test.true c.statement-item.is c.statements.invariant.ran c.in-Err-Library.ensures.kept library_apart
+
+pub returns-in-Err-clause-breaks : goal.returns-in-Err-clause-breaks
+returns-in-Err-clause-breaks g c =
+    broke_done _ _ _ _ c.args.statements.now _ _ _ _ _ _ c.in-Ok.printed c.statements-test.true c.statement-item.is c.statements.invariant.ran c.in-Ok.ensures.takes (rw c.deref.ensures.value at c.in-Err.ensures.fault)
+
+pub statements-preserved : goal.statements-preserved
+statements-preserved g c = record {
+  ran = rw (next c.statements.statement-index) (one_more _ _ _ _ c.args.statements.now _ _ _ _ _ _ _ c.in-Ok.printed c.statements-test.true c.statement-item.is c.statements.invariant.ran c.in-Ok.ensures.takes (rw c.deref.ensures.value at c.in-Ok-put.ensures.ok) c.both-ended.ensures);
+  fetches = omega (arith, c.statements.invariant.fetches, c.in-Ok.ensures.counted);
+  puts = omega (arith, c.statements.invariant.puts, c.in-Ok-put.ensures.counted);
+}

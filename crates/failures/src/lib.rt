@@ -1,4 +1,5 @@
-//! How often a device has failed.
+//! How often a device has failed, counted for contracts alone.
+#![tactic(auto)]
 
 use std::marker::Model;
 use std::sync::ledger::{Book, Ledger, Share};

@@ -1,0 +1,131 @@
+-- Steps one after another, and what a sink has taken of their texts.
+use Rattle.std.proofs.Common.{ℕ, ◌≡◌, ◌<◌, ◌∙◌, ◌++◌, refl, sym, ap, subst, zero, suc, List, [], ◌∷◌, Option, Some, None, Result, Ok, Err, length, take, drop, get_or, IfOk, IfErr, arith}
+use Rattle.std.proofs.lemmas.List.{append-nil, append_assoc}
+use Rattle.definitions.specs.Statement.{Statement}
+use Rattle.definitions.specs.Step as step
+use Rattle.definitions.specs.Step.{Answering, State, Step, Steps, AreStatements, FaultLine, both_ended, StepsBreak, SinkFailed, NoMemory, LibraryFailed}
+use Rattle.syntax.specs.declared.tree.Statement as tree
+use Rattle.syntax.specs.Trees.{statement_of, statements_of}
+use Rattle.sqlr.specs.declared.ended.Ended.{Ended}
+use Rattle.sqlr.specs.declared.ended.Ended.TheVariants as e
+use Rattle.sqlr.specs.declared.ended.RunFault.{RunFault}
+use Rattle.sqlr.specs.declared.ended.RunFault.TheVariants as r
+use Rattle.sqlr.specs.declared.outcome.Printed.{Printed}
+use Rattle.sqlr.specs.Devices.{Took, TookBeginning, TookUpTo}
+use Rattle.sqlr.specs.Sessions.{BreaksIn, BreaksLine, BreaksOff, IsBoth, Runs, RunsAll, Takes, Tells}
+
+-- ---- how statements ended
+
+ended_first : (a : step.Ended) → both_ended a step.Well ≡ a
+ended_first step.Well = refl
+ended_first step.Faulted = refl
+
+ended_assoc : (a b c : step.Ended) → both_ended (both_ended a b) c ≡ both_ended a (both_ended b c)
+ended_assoc step.Well b c = refl
+ended_assoc step.Faulted b c = refl
+
+-- ---- steps
+
+-- steps, and one more
+steps_more : {L : Type 0} (answers : Answering L) (ss : List Statement) (old mid new : State L) (s : Statement) (text own : List ℕ) (a b : step.Ended)
+    → Steps answers old ss mid text a → Step answers mid s new own b → Steps answers old (ss ++ s ∷ []) new (text ++ own) (both_ended a b)
+steps_more answers [] old mid new s text own a b (same, none, well) h =
+    (new, own, [], b, step.Well, subst (λ x. Step answers x s new own b) same h, (refl, refl, refl), ap (λ t. t ++ own) none ∙ sym (append-nil own), ap (λ x. both_ended x b) well ∙ sym (ended_first b))
+steps_more answers (x ∷ ss) old mid new s text own a b (next, first, rest, c, d, this, others, joined, both) h =
+    (next, first, rest ++ own, c, both_ended d b, this, steps_more answers ss next mid new s rest own d b others h, ap (λ t. t ++ own) joined ∙ append_assoc first rest own, ap (λ x. both_ended x b) both ∙ ended_assoc c d b)
+
+-- ---- sinks
+
+took_nothing : (told : Option (List ℕ)) → Took told [] told
+took_nothing None = tt
+took_nothing (Some before) = ap (λ x. Some x) (sym (append-nil before))
+
+took_more : (a b c : Option (List ℕ)) (text own : List ℕ) → Took a text b → Took b own c → Took a (text ++ own) c
+took_more None b c text own h k = tt
+took_more (Some before) b c text own h k =
+    let took : Took (Some (before ++ text)) own c = subst (λ x. Took x own c) h k in
+    took ∙ ap (λ x. Some x) (append_assoc before text own)
+
+-- a text that was taken, and a beginning of the next
+took_up_to : (a b c : Option (List ℕ)) (text own : List ℕ) → Took a text b → TookBeginning b own c → TookUpTo a text own c
+took_up_to None b c text own h k = tt
+took_up_to (Some before) b c text own h k = subst (λ x. TookBeginning x own c) h k
+
+-- nothing of the next
+took_all : (a b : Option (List ℕ)) (text : List ℕ) → Took a text b → TookUpTo a text [] b
+took_all None b text h = tt
+took_all (Some before) b text h = (0, omega arith, h ∙ ap (λ x. Some x) (sym (append-nil (before ++ text))))
+
+-- ---- statements of a script
+
+abbrev pub RanTo : {L : Type 0} → Answering L → State L → List tree.Statement → ℕ → State L → Option (List ℕ) → Option (List ℕ) → Ended → Type 0
+RanTo answers old xs i new told told' ended = RunsAll answers old (statements_of (take i xs)) new told told' ended
+
+pub nothing_ran : {L : Type 0} (answers : Answering L) (old : State L) (xs : List tree.Statement) (told : Option (List ℕ)) → RanTo answers old xs 0 old told told e.Well
+nothing_ran answers old xs told = ([], step.Well, (refl, refl, refl), refl, took_nothing told)
+
+front : (xs : List tree.Statement) (i : ℕ) (x : tree.Statement) → i < length xs → x ≡ get_or xs i x → statements_of (take (suc i) xs) ≡ statements_of (take i xs) ++ statement_of x ∷ []
+front [] i x l h = absurd (omega (arith, l))
+front (y ∷ xs) zero x l h = ap (λ z. statement_of z ∷ []) (sym h)
+front (y ∷ xs) (suc i) x l h = ap (λ zs. statement_of y ∷ zs) (front xs i x (omega (arith, l)) h)
+
+split : (xs : List tree.Statement) (i : ℕ) (x : tree.Statement) → i < length xs → x ≡ get_or xs i x → statements_of xs ≡ statements_of (take i xs) ++ statement_of x ∷ statements_of (drop (suc i) xs)
+split [] i x l h = absurd (omega (arith, l))
+split (y ∷ xs) zero x l h = ap (λ z. statement_of z ∷ statements_of xs) (sym h)
+split (y ∷ xs) (suc i) x l h = ap (λ zs. statement_of y ∷ zs) (split xs i x (omega (arith, l)) h)
+
+pub one_more : {L : Type 0} (answers : Answering L) (old mid new : State L) (xs : List tree.Statement) (i : ℕ) (x : tree.Statement) (told told' told'' : Option (List ℕ)) (ended both : Ended) (p : Printed)
+    → i < length xs → x ≡ get_or xs i x → RanTo answers old xs i mid told told' ended → Takes answers mid (statement_of x) new p → Took told' p.text.items told'' → IsBoth ended p.ended both
+    → RanTo answers old xs (suc i) new told told'' both
+one_more answers old mid new xs i x told told' told'' ended both p l h (text, how, ran, is, took) (own, this, own_is) taken b =
+    (text ++ p.text.items, both_ended how own, subst (λ ss. Steps answers old ss new (text ++ p.text.items) (both_ended how own)) (sym (front xs i x l h)) (steps_more answers _ old mid new (statement_of x) text p.text.items how own ran this), b how own is own_is, took_more told told' told'' text p.text.items took taken)
+
+pub memory_apart : r.Memory ≡ r.Sink → ⊥
+memory_apart k = cc
+
+pub library_apart : r.Library ≡ r.Sink → ⊥
+library_apart k = cc
+
+-- a statement breaks off, and has done nothing
+pub broke_undone : {L : Type 0} (answers : Answering L) (old mid new : State L) (xs : List tree.Statement) (i : ℕ) (x : tree.Statement) (told told' : Option (List ℕ)) (ended : Ended) (fault : RunFault)
+    → i < length xs → x ≡ get_or xs i x → RanTo answers old xs i mid told told' ended → new.database ≡ mid.database → ((fault ≡ r.Sink) → ⊥) → BreaksIn answers old (statements_of xs) new told told' fault
+broke_undone answers old mid new xs i x told told' ended r.Memory l h (text, how, ran, is, took) same n =
+    (text, [], step.undone (statements_of (take i xs)) (statements_of (drop (suc i) xs)) (statement_of x) mid how (split xs i x l h) ran (λ k. cc) same refl, took_all told told' text took)
+broke_undone answers old mid new xs i x told told' ended r.Library l h (text, how, ran, is, took) same n =
+    (text, [], step.undone (statements_of (take i xs)) (statements_of (drop (suc i) xs)) (statement_of x) mid how (split xs i x l h) ran (λ k. cc) same refl, took_all told told' text took)
+broke_undone answers old mid new xs i x told told' ended r.Sink l h ran same n = absurd (n refl)
+
+-- the sink refuses a statement's text
+pub broke_done : {L : Type 0} (answers : Answering L) (old mid new : State L) (xs : List tree.Statement) (i : ℕ) (x : tree.Statement) (told told' told'' : Option (List ℕ)) (ended : Ended) (p : Printed)
+    → i < length xs → x ≡ get_or xs i x → RanTo answers old xs i mid told told' ended → Takes answers mid (statement_of x) new p → TookBeginning told' p.text.items told'' → BreaksIn answers old (statements_of xs) new told told'' r.Sink
+broke_done answers old mid new xs i x told told' told'' ended p l h (text, how, ran, is, took) (own, this, own_is) begun =
+    (text, p.text.items, step.done (statements_of (take i xs)) (statements_of (drop (suc i) xs)) (statement_of x) mid how own (split xs i x l h) ran refl this, took_up_to told told' told'' text p.text.items took begun)
+
+-- ---- scripts
+
+pub script_ran : {L : Type 0} (answers : Answering L) (old new : State L) (script : List ℕ) (ss : List Statement) (told told' : Option (List ℕ)) (result : Result Ended RunFault)
+    → AreStatements script ss → IfOk result (RunsAll answers old ss new told told') → IfOk result (Runs answers old script new told told')
+script_ran answers old new script ss told told' (Ok ended) a (text, how, ran, is, took) = (text, how, step.run ss a ran, is, took)
+script_ran answers old new script ss told told' (Err f) a h = tt
+
+pub script_broke : {L : Type 0} (answers : Answering L) (old new : State L) (script : List ℕ) (ss : List Statement) (told told' : Option (List ℕ)) (result : Result Ended RunFault)
+    → AreStatements script ss → IfErr result (BreaksIn answers old ss new told told') → IfErr result (BreaksOff answers old script new told told')
+script_broke answers old new script ss told told' (Ok ended) a h = tt
+script_broke answers old new script ss told told' (Err f) a (printed, begun, broke, took) = (printed, begun, step.steps ss a broke, took)
+
+pub line_told : {L : Type 0} (answers : Answering L) (old : State L) (script line : List ℕ) (told told' : Option (List ℕ)) (result : Result Ended RunFault)
+    → FaultLine script line → IfOk result (Tells line told told') → IfOk result (Runs answers old script old told told')
+line_told answers old script line told told' (Ok ended) f (is, took) = (line, step.Faulted, step.fault f refl refl, is, took)
+line_told answers old script line told told' (Err x) f h = tt
+
+pub nothing_done : {L : Type 0} (answers : Answering L) (old : State L) (script : List ℕ) (told : Option (List ℕ)) → BreaksOff answers old script old told told r.Memory
+nothing_done answers old script told = ([], [], step.unread refl refl refl refl, took_all told told [] (took_nothing told))
+
+line_broke_at : {L : Type 0} (answers : Answering L) (old : State L) (script line : List ℕ) (told told' : Option (List ℕ)) (fault : RunFault) → FaultLine script line → BreaksLine line told told' fault → BreaksOff answers old script old told told' fault
+line_broke_at answers old script line told told' r.Memory f h = subst (λ x. BreaksOff answers old script old told x r.Memory) (sym h) (nothing_done answers old script told)
+line_broke_at answers old script line told told' r.Library f h = absurd h
+line_broke_at answers old script line told told' r.Sink f h = ([], line, step.fault refl f refl refl, took_up_to told told told' [] line (took_nothing told) h)
+
+pub line_broke : {L : Type 0} (answers : Answering L) (old : State L) (script line : List ℕ) (told told' : Option (List ℕ)) (result : Result Ended RunFault) → FaultLine script line → IfErr result (BreaksLine line told told') → IfErr result (BreaksOff answers old script old told told')
+line_broke answers old script line told told' (Ok ended) f h = tt
+line_broke answers old script line told told' (Err x) f h = line_broke_at answers old script line told told' x f h

@@ -1,0 +1,82 @@
+-- What a session's calls do, in the words of the definitions.
+use Rattle.std.specs.Prelude.{ℕ, ◌≡◌, ◌<◌, ⊤, List, Option, Some}
+use Rattle.definitions.specs.Statement.{Name, Statement}
+use Rattle.definitions.specs.Table.{Table, Database, table_named}
+use Rattle.definitions.specs.Loading.{Record, AreFileRecords}
+use Rattle.definitions.specs.Step as step
+use Rattle.definitions.specs.Step.{Answering, State, Step, Steps, Run, Loaded, both_ended, Break, NoMemory, LibraryFailed, SinkFailed, StepsBreak, Breaks}
+use Rattle.sqlr.specs.declared.ended.Ended.{Ended}
+use Rattle.sqlr.specs.declared.ended.Ended.TheVariants as e
+use Rattle.sqlr.specs.declared.ended.RunFault.{RunFault}
+use Rattle.sqlr.specs.declared.ended.RunFault.TheVariants as r
+use Rattle.sqlr.specs.declared.outcome.Printed.{Printed}
+use Rattle.sqlr.specs.declared.outcome.StepFault.{StepFault}
+use Rattle.sqlr.specs.declared.outcome.StepFault.TheVariants as f
+use Rattle.sqlr.specs.Devices.{Took, TookBeginning, TookUpTo}
+
+abbrev pub ended_of : step.Ended → Ended
+ended_of step.Well = e.Well
+ended_of step.Faulted = e.Faulted
+
+abbrev pub break_of : RunFault → Break
+break_of r.Memory = NoMemory
+break_of r.Library = LibraryFailed
+break_of r.Sink = SinkFailed
+
+-- a statement takes one state to the next, and prints this
+abbrev pub Takes : {L : Type 0} → Answering L → State L → Statement → State L → Printed → Type 0
+Takes answers old s new p = (how : step.Ended) × Step answers old s new p.text.items how × (p.ended ≡ ended_of how)
+
+-- the bytes of a file are loaded into a table, and this is printed
+pub record TakesBytes (db : Database) (name : Name) (bytes : List ℕ) (db' : Database) (p : Printed) : Type 0 where
+  pub table : Table
+  pub named : table_named db name ≡ Some table
+  pub records : List Record
+  pub are : AreFileRecords bytes records
+  pub how : step.Ended
+  pub loaded : Loaded db name table records db' p.text.items how
+  pub ended : p.ended ≡ ended_of how
+
+-- a script is run: the sink took all that it prints
+abbrev pub Runs : {L : Type 0} → Answering L → State L → List ℕ → State L → Option (List ℕ) → Option (List ℕ) → Ended → Type 0
+Runs answers old script new told told' ended = (text : List ℕ) × (how : step.Ended) × Run answers old script new text how × (ended ≡ ended_of how) × Took told text told'
+
+-- a script's run breaks off: the sink took the beginning of what it prints
+abbrev pub BreaksOff : {L : Type 0} → Answering L → State L → List ℕ → State L → Option (List ℕ) → Option (List ℕ) → RunFault → Type 0
+BreaksOff answers old script new told told' fault =
+    (printed begun : List ℕ) × Breaks answers old script (break_of fault) new printed begun × TookUpTo told printed begun told'
+
+-- statements are run: the sink took all that they print
+abbrev pub RunsAll : {L : Type 0} → Answering L → State L → List Statement → State L → Option (List ℕ) → Option (List ℕ) → Ended → Type 0
+RunsAll answers old ss new told told' ended = (text : List ℕ) × (how : step.Ended) × Steps answers old ss new text how × (ended ≡ ended_of how) × Took told text told'
+
+-- statements break off: the sink took the beginning of what they print
+abbrev pub BreaksIn : {L : Type 0} → Answering L → State L → List Statement → State L → Option (List ℕ) → Option (List ℕ) → RunFault → Type 0
+BreaksIn answers old ss new told told' fault =
+    (printed begun : List ℕ) × StepsBreak answers old ss (break_of fault) new printed begun × TookUpTo told printed begun told'
+
+-- a line is told, or breaks off
+abbrev pub Tells : List ℕ → Option (List ℕ) → Option (List ℕ) → Ended → Type 0
+Tells line told told' ended = (ended ≡ e.Faulted) × Took told line told'
+
+abbrev pub BreaksLine : List ℕ → Option (List ℕ) → Option (List ℕ) → RunFault → Type 0
+BreaksLine line told told' r.Memory = told' ≡ told
+BreaksLine line told told' r.Library = ⊥
+BreaksLine line told told' r.Sink = TookBeginning told line told'
+
+-- how two statements ended, one behind the other
+abbrev pub IsBoth : Ended → Ended → Ended → Type 0
+IsBoth first second both = (a b : step.Ended) → first ≡ ended_of a → second ≡ ended_of b → both ≡ ended_of (both_ended a b)
+
+-- a device is blamed only where it failed in the call
+abbrev pub IsBlamed : ℕ → ℕ → StepFault → Type 0
+IsBlamed before after f.Library = before < after
+IsBlamed before after f.Memory = ⊤
+
+abbrev pub IsLibraryBlamed : ℕ → ℕ → RunFault → Type 0
+IsLibraryBlamed before after r.Library = before < after
+IsLibraryBlamed before after _ = ⊤
+
+abbrev pub IsSinkBlamed : ℕ → ℕ → RunFault → Type 0
+IsSinkBlamed before after r.Sink = before < after
+IsSinkBlamed before after _ = ⊤
