@@ -1,4 +1,4 @@
-use Rattle.std.proofs.Common.{◌≡◌, sym}
+use Rattle.std.proofs.Common.{sym}
 use Rattle.sqlvalue.proofs.Comparing.{by_signs, power_is_positive}
 use Rattle.sqlvalue.proofs.comparison.compare_numbers.Goals as goal
 

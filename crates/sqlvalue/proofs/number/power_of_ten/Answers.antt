@@ -1,4 +1,3 @@
-use Rattle.std.proofs.Common.{◌≤◌, ◌<◌, ◌^◌, ap, sym, subst, ℕ, arith}
 use Rattle.sqlvalue.proofs.Comparing.{power_is_positive, power_is_bounded}
 use Rattle.sqlvalue.proofs.number.power_of_ten.Goals as goal
 
