@@ -1,5 +1,5 @@
 -- Rank is a total order, since it is the order of keys: a kind, a number at a common scale, and a text at a common length.
-use Rattle.std.proofs.Common.{◌≡◌, ◌∙◌, refl, sym, ap, ap₂, ℕ, zero, suc, ◌+◌, ◌-◌, ◌*◌, ◌^◌, ◌<◌, ◌≤◌, List, [], ◌∷◌, Some, length, pow-add, zero-mul, inl, inr, arith, lit<}
+use Rattle.std.proofs.Common.{◌≡◌, ◌≢◌, ◌∙◌, refl, sym, ap, ap₂, ℕ, zero, suc, ◌+◌, ◌-◌, ◌*◌, ◌^◌, ◌<◌, ◌≤◌, List, [], ◌∷◌, Some, length, pow-add, zero-mul, inl, inr, arith, lit<}
 use Rattle.std.specs.Prelude.{ℤ, pos, negsuc, neg_ℤ, ◌*ℤ◌, ◌<ℤ◌}
 use Rattle.std.specs.Cmp.{IsTotalOrder, int_cmp_is, int_ranks, on_total, then_total}
 use Rattle.std.specs.Cmp.Lexicographic.{slice_cmp}
@@ -136,7 +136,12 @@ rank_total = record {
       keyed n a c (omega arith) (omega arith) ∙ key_total.congr (key n a) (key n b) (key n c) (sym (keyed n a b (omega arith) (omega arith)) ∙ h) ∙ sym (keyed n b c (omega arith) (omega arith));
 }
 
--- ---- comparison
+-- ---- nulls, and comparison
+
+pub first_ranked : (v : Value) → v ≢ Null → rank Null v ≡ Less
+first_ranked Null n = absurd (n refl)
+first_ranked (Number u s) n = refl
+first_ranked (Text t) n = refl
 
 pub rank_as_compared : (a b : Value) (o : Ordering) → compare a b ≡ Some o → rank a b ≡ o
 rank_as_compared a b o h = rw h refl

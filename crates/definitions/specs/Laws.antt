@@ -1,9 +1,9 @@
 -- What holds of the definitions, each proved as the contract of a function that has no code.
-use Rattle.std.specs.Prelude.{ℕ, ◌≡◌, ◌↔◌, List, [], ◌∷◌, ◌++◌, Some, Result, true, false}
+use Rattle.std.specs.Prelude.{ℕ, ◌≡◌, ◌≢◌, ◌↔◌, List, [], ◌∷◌, ◌++◌, Some, Result, true, false}
 use Rattle.std.specs.Cmp.{IsTotalOrder}
 use Rattle.std.specs.declared.cmp.Ordering.{Ordering}
-use Rattle.std.specs.declared.cmp.Ordering.TheVariants.{Equal}
-use Rattle.definitions.specs.Value.{Value, SqlType, compare, rank, AreNotDistinct}
+use Rattle.std.specs.declared.cmp.Ordering.TheVariants.{Less, Equal}
+use Rattle.definitions.specs.Value.{Value, Null, SqlType, compare, rank, AreNotDistinct}
 use Rattle.definitions.specs.Refusal.{FieldError}
 use Rattle.definitions.specs.Loading.{FieldLoads}
 use Rattle.definitions.specs.Token.{Token, TokenKind}
@@ -32,6 +32,10 @@ FieldLoadsOnce = (type : SqlType) (field : List ℕ) (a b : Result Value FieldEr
 -- equal rank stand alike to every other
 abbrev pub RankIsTotalOrder : Type 0
 RankIsTotalOrder = ((v : Value) → rank v v ≡ Equal) × IsTotalOrder rank
+
+-- null ranks before every other value
+abbrev pub NullRanksFirst : Type 0
+NullRanksFirst = (v : Value) → v ≢ Null → rank Null v ≡ Less
 
 -- values rank as they compare, where that is known
 abbrev pub RankAgreesWithComparison : Type 0

@@ -163,14 +163,20 @@ fn create_table_has_its_columns(rt: HostRuntime) -> Result<(), Fail> {
 }
 
 #[test]
-fn load_has_its_table_and_file(rt: HostRuntime) -> Result<(), Fail> {
-    let statements = statements(rt.alloc(), "LOAD parts FROM 'it''s.csv';")?;
-    assert_eq!(rt; statements.len(), 1);
-    let Statement::Load { table, file } = &statements[0] else {
-        panic!(rt; "a LOAD")
-    };
-    assert_eq!(rt; placed(table), ("PARTS", 5));
-    assert_eq!(rt; (file.text.as_str(), file.start), ("it's.csv", 16));
+fn loads_have_their_tables_and_files(rt: HostRuntime) -> Result<(), Fail> {
+    let script = "LOAD parts FROM 'it''s.csv'; load B from '';";
+    let statements = statements(rt.alloc(), script)?;
+    let expected = [("PARTS", 5, "it's.csv", 16), ("B", 34, "", 41)];
+    assert_eq!(rt; statements.len(), expected.len());
+    for (i, &(name, at, path, start)) in expected.iter().enumerate() {
+        match &statements[i] {
+            Statement::Load { table, file } => {
+                assert_eq!(rt; placed(table), (name, at));
+                assert_eq!(rt; (file.text.as_str(), file.start), (path, start));
+            }
+            _ => assert!(rt; false, "a LOAD of {name}"),
+        }
+    }
     Ok(())
 }
 
