@@ -3,15 +3,12 @@ use Rattle.std.proofs.Common.{◌≡◌, ◌∙◌, refl, ap, ap₂, ℕ, zero, 
 use Rattle.std.specs.Prelude.{◌⊎◌, ℤ, pos, negsuc, neg_ℤ, ◌*ℤ◌, int_lt}
 use Rattle.std.specs.Ordering.{nat_cmp, int_cmp, ordering_then}
 use Rattle.std.specs.declared.cmp.Ordering.TheVariants.{Less, Greater}
-use Rattle.std.proofs.Math.Nat.{mul-le-mul_left, div-add-mod, one-le-pow, pow-le-pow_right}
+use Rattle.std.proofs.Math.Nat.{mul-le-mul_left, div-add-mod, pow-le-pow_right}
 use Rattle.std.proofs.lemmas.Bool.{cases_lt}
 use Rattle.std.proofs.lemmas.Bool.Decides.{nat_tests}
 use Rattle.definitions.specs.Value.{text_cmp}
 
 -- a power of ten
-pub power_is_positive : (n : ℕ) → 0 < 10 ^ n
-power_is_positive n = omega (arith, one-le-pow n 10 (lit< tt))
-
 pub power_is_bounded : (n : ℕ) → n ≤ 18 → 10 ^ n ≤ 10 ^ 18
 power_is_bounded n h = pow-le-pow_right {n = 10} (lit< tt) h
 
