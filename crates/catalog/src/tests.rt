@@ -1,3 +1,5 @@
+//! Tables and files, well-formed and hostile ones, against the rules of LOAD and CREATE TABLE.
+
 use crate::{CreateFault, Database, FieldFault, LoadFault, NewColumn, RecordFault};
 use sqlvalue::{DeclaredType, Num, SqlType, Value};
 use std::alloc::AllocError;
@@ -341,5 +343,20 @@ fn makes_256_tables(rt: HostRuntime) -> Result<(), Fail> {
         database.create_table("U", &[]),
         Err(CreateFault::OverLimit)
     );
+    Ok(())
+}
+
+#[test]
+fn takes_empty_names(rt: HostRuntime) -> Result<(), Fail> {
+    let mut database = Database::new(rt.alloc());
+    let column = NewColumn {
+        name: "",
+        declared: DeclaredType::Smallint,
+    };
+    assert_eq!(rt; database.create_table("", &[column]), Ok(()));
+    assert_eq!(rt; database.load("", b"7\n"), Ok(1));
+    let table = database.table("").expect(&rt, "the table");
+    assert_eq!(rt; (table.len(), table.column("")), (1, Some(0)));
+    assert_eq!(rt; table.cell(0, 0), Value::Num(Num { units: 7, scale: 0 }));
     Ok(())
 }

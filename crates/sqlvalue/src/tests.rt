@@ -1,3 +1,5 @@
+//! Comparison and rank of values, parameters of types, and parts of numbers.
+
 ghost use Rattle.std.specs.Prelude.{◌<◌, ◌≤◌, ◌^◌, nat_abs};
 
 use crate::{DeclaredType, Num, SqlType, Value, compare, rank};
