@@ -10,7 +10,8 @@ use Rattle.std.proofs.Math.Nat.{mul-le-mul_right, le-mul_of_pos_right}
 use Rattle.std.proofs.lemmas.Bool.Decides.{nat_tests}
 use Rattle.definitions.specs.Characters.{is_digit}
 use Rattle.definitions.specs.Lexing.{is_numeral, digits_of, behind_point}
-use Rattle.catalog.proofs.Scaling.{power_is_positive, power_is_within}
+use Rattle.definitions.proofs.Ranking.{power_is_positive}
+use Rattle.catalog.proofs.Scaling.{power_is_within}
 use Rattle.definitions.specs.Value.{Value, Number}
 use Rattle.definitions.specs.Loading.{IsSign, WritesNumber, negated}
 use Rattle.catalog.specs.Fields.{WritesShort}

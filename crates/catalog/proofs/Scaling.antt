@@ -2,10 +2,8 @@
 use Rattle.std.proofs.Common.{◌≡◌, ◌∙◌, refl, sym, ap, inl, inr, ℕ, ◌+◌, ◌-◌, ◌*◌, ◌/◌, ◌%◌, ◌^◌, ◌<◌, ◌≤◌, arith, lit<}
 use Rattle.std.specs.Prelude.{◌⊎◌, Option, Some, None, IfSome, IfNone}
 use Rattle.std.proofs.lemmas.Nat.{pow-add}
-use Rattle.std.proofs.Math.Nat.{mul-div_cancel, mul-mod_left, one-le-pow, pow-le-pow_right, div-add-mod}
-
-pub power_is_positive : (n : ℕ) → 0 < 10 ^ n
-power_is_positive n = omega (arith, one-le-pow n 10 (lit< tt))
+use Rattle.std.proofs.Math.Nat.{mul-div_cancel, mul-mod_left, pow-le-pow_right, div-add-mod}
+use Rattle.definitions.proofs.Ranking.{power_is_positive}
 
 pub power_is_within : (n m : ℕ) → n ≤ m → 10 ^ n ≤ 10 ^ m
 power_is_within n m h = pow-le-pow_right {n = 10} (lit< tt) h

@@ -9,9 +9,8 @@ use Rattle.definitions.specs.Refusal.{Refusal, FieldError, definition_names}
 use Rattle.definitions.specs.Loading as load
 use Rattle.definitions.specs.Loading.{Record, FieldLoads, FieldsLoad, RecordLoads, AllLoad}
 use Rattle.definitions.specs.Table as table
-use Rattle.definitions.specs.Table.{Column, Row, Table, Database, table_named, IsRow, IsTable, AreDistinct, column_names, column_of, new_table}
+use Rattle.definitions.specs.Table.{Column, Row, Table, Database, table_named, IsRow, IsTable, IsDatabase, AreDistinct, column_names, column_of, new_table}
 use Rattle.catalog.specs.Creates.{AreTypes}
-use Rattle.catalog.specs.Sound.{IsSound, AreSound}
 use Rattle.catalog.specs.Loads.{LoadsRows}
 use Rattle.catalog.specs.declared.fault.LoadFault.{LoadFault}
 
@@ -44,9 +43,9 @@ all_append : {X : Type 0} (P : X → Type 0) (xs ys : List X) → AllByRecursion
 all_append P [] ys h k = k
 all_append P (x ∷ xs) ys h k = (h.0, all_append P xs ys h.1 k)
 
--- a sound table stays sound with rows that load
-pub sound_with_rows : (t : Table) (records : List Record) (rows : List Row) → IsSound t → AllLoad t.columns records rows → length t.rows + length rows ≤ 100000000 → IsSound (table.with_rows t rows)
-sound_with_rows t records rows s a few = record {
+-- what holds of a table holds of it with rows that load
+pub table_with_rows : (t : Table) (records : List Record) (rows : List Row) → IsTable t → AllLoad t.columns records rows → length t.rows + length rows ≤ 100000000 → IsTable (table.with_rows t rows)
+table_with_rows t records rows s a few = record {
   columns = s.columns;
   rows = omega (arith, few, length-append t.rows rows);
   distinct = s.distinct;
@@ -54,7 +53,7 @@ sound_with_rows t records rows s a few = record {
   typed = all_append (IsRow t.columns) t.rows rows s.typed (typed_all t.columns records rows a);
 }
 
--- and so is a new one
+-- and of a new one
 names_of : (ds : List ColumnDefinition) → column_names (map column_of ds) ≡ definition_names ds
 names_of [] = refl
 names_of (d ∷ ds) = ap (λ ns. d.name ∷ ns) (names_of ds)
@@ -63,18 +62,14 @@ types_of : (ds : List ColumnDefinition) → AreTypes ds → AllByRecursion (λ (
 types_of [] h = tt
 types_of (d ∷ ds) h = (h.0, types_of ds h.1)
 
-pub sound_new : (name : List ℕ) (ds : List ColumnDefinition) → length ds ≤ 64 → AreDistinct (definition_names ds) → AreTypes ds → IsSound (new_table name ds)
-sound_new name ds narrow distinct types = record {
+pub new_is_table : (name : List ℕ) (ds : List ColumnDefinition) → length ds ≤ 64 → AreDistinct (definition_names ds) → AreTypes ds → IsTable (new_table name ds)
+new_is_table name ds narrow distinct types = record {
   columns = omega (arith, narrow, length-map ds column_of);
   rows = omega arith;
   distinct = rw (names_of ds) distinct;
   types = types_of ds types;
   typed = tt;
 }
-
--- a sound table with a column is one that statements make
-pub sound_table : (t : Table) → IsSound t → 1 ≤ length t.columns → IsTable t
-sound_table t s some = record { some = some; columns = s.columns; rows = s.rows; distinct = s.distinct; types = s.types; typed = s.typed }
 
 -- ---- databases
 
@@ -96,19 +91,19 @@ distinct_push (u ∷ db) t h n =
     let (other, rest) = not_first (bytes_eq u.name t.name) u (table_named db t.name) n in
     (rw (map-append (λ (t : Table). t.name) db (t ∷ [])) (apart_push u.name t.name (names db) h.0 other), distinct_push db t h.1 rest)
 
-pub sound_push : (db : Database) (t : Table) → AreSound db → IsSound t → length db < 256 → table_named db t.name ≡ None → AreSound (db ++ t ∷ [])
-sound_push db t s h few n = record {
+pub database_push : (db : Database) (t : Table) → IsDatabase db → IsTable t → length db < 256 → table_named db t.name ≡ None → IsDatabase (db ++ t ∷ [])
+database_push db t s h few n = record {
   tables = omega (arith, few, length_push db t);
   distinct = distinct_push db t s.distinct n;
-  each = all_append IsSound db (t ∷ []) s.each (h, tt);
+  each = all_append IsTable db (t ∷ []) s.each (h, tt);
 }
 
-each_set : (db : Database) (k : ℕ) (t : Table) → AllByRecursion IsSound db → IsSound t → AllByRecursion IsSound (set db k t)
+each_set : (db : Database) (k : ℕ) (t : Table) → AllByRecursion IsTable db → IsTable t → AllByRecursion IsTable (set db k t)
 each_set [] k t h s = tt
 each_set (u ∷ db) zero t h s = (s, h.1)
 each_set (u ∷ db) (suc k) t h s = (h.0, each_set db k t h.1 s)
 
-each_at : (db : Database) (k : ℕ) (d : Table) → AllByRecursion IsSound db → k < length db → IsSound (get_or db k d)
+each_at : (db : Database) (k : ℕ) (d : Table) → AllByRecursion IsTable db → k < length db → IsTable (get_or db k d)
 each_at [] k d h l = absurd (omega (arith, l))
 each_at (u ∷ db) zero d h l = h.0
 each_at (u ∷ db) (suc k) d h l = each_at db k d h.1 (omega (arith, l))
@@ -119,28 +114,28 @@ names-set (u ∷ db) zero t d l e = ap (λ n. n ∷ names db) e
 names-set (u ∷ db) (suc k) t d l e = ap (λ ns. u.name ∷ ns) (names-set db k t d (omega (arith, l)) e)
 
 -- another table of its name in place of one
-pub sound_set : (db : Database) (k : ℕ) (old new : Table) → AreSound db → k < length db → old ≡ get_or db k old → IsSound new → new.name ≡ old.name → AreSound (set db k new)
-sound_set db k old new s l e h n = record {
+pub database_set : (db : Database) (k : ℕ) (old new : Table) → IsDatabase db → k < length db → old ≡ get_or db k old → IsTable new → new.name ≡ old.name → IsDatabase (set db k new)
+database_set db k old new s l e h n = record {
   tables = omega (arith, s.tables, length-set db k new);
   distinct = rw (names-set db k new old l (n ∙ ap (λ (t : Table). t.name) e)) s.distinct;
   each = each_set db k new s.each h;
 }
 
--- what LOAD leaves of a sound database
-pub sound_loaded : (db : Database) (k n : ℕ) (bytes : List ℕ) (old new : Table) → AreSound db → k < length db → old ≡ get_or db k old → LoadsRows bytes old n new → AreSound (set db k new)
-sound_loaded db k n bytes old new s l e (rows, loads, few, count, is) =
-    let was : IsSound old = rw e (each_at db k old s.each l) in
-    sound_set db k old new s l e (rw is (sound_with_rows old loads.0 rows was loads.2 few)) (ap (λ (t : Table). t.name) is)
+-- what LOAD leaves of a database
+pub database_loaded : (db : Database) (k n : ℕ) (bytes : List ℕ) (old new : Table) → IsDatabase db → k < length db → old ≡ get_or db k old → LoadsRows bytes old n new → IsDatabase (set db k new)
+database_loaded db k n bytes old new s l e (rows, loads, few, count, is) =
+    let was : IsTable old = rw e (each_at db k old s.each l) in
+    database_set db k old new s l e (rw is (table_with_rows old loads.0 rows was loads.2 few)) (ap (λ (t : Table). t.name) is)
 
-pub sound_after : (result : Result ℕ LoadFault) (db : Database) (k : ℕ) (bytes : List ℕ) (old new : Table) → AreSound db → k < length db → old ≡ get_or db k old
-    → IfOk result (λ n. LoadsRows bytes old n new) → OnErr result (new ≡ old) → AreSound (set db k new)
-sound_after (Ok n) db k bytes old new s l e loads same = sound_loaded db k n bytes old new s l e loads
-sound_after (Err f) db k bytes old new s l e loads same =
+pub database_after : (result : Result ℕ LoadFault) (db : Database) (k : ℕ) (bytes : List ℕ) (old new : Table) → IsDatabase db → k < length db → old ≡ get_or db k old
+    → IfOk result (λ n. LoadsRows bytes old n new) → OnErr result (new ≡ old) → IsDatabase (set db k new)
+database_after (Ok n) db k bytes old new s l e loads same = database_loaded db k n bytes old new s l e loads
+database_after (Err f) db k bytes old new s l e loads same =
     let unchanged : set db k new ≡ db = ap (set db k) (same ∙ e) ∙ set-get_or db k old in
     rw unchanged s
 
 -- what a push leaves of one
-pub sound_pushed : (pushed : Bool) (db new : Database) (t : Table) (name : Name) (ds : List ColumnDefinition) → new ≡ cond pushed (db ++ t ∷ []) db → t ≡ new_table name ds → AreSound db → IsSound t → length db < 256
-    → table_named db name ≡ None → AreSound new
-sound_pushed true db new t name ds e h s i few n = rw e (sound_push db t s i few (ap (λ (u : Table). table_named db u.name) h ∙ n))
-sound_pushed false db new t name ds e h s i few n = rw e s
+pub database_pushed : (pushed : Bool) (db new : Database) (t : Table) (name : Name) (ds : List ColumnDefinition) → new ≡ cond pushed (db ++ t ∷ []) db → t ≡ new_table name ds → IsDatabase db → IsTable t → length db < 256
+    → table_named db name ≡ None → IsDatabase new
+database_pushed true db new t name ds e h s i few n = rw e (database_push db t s i few (ap (λ (u : Table). table_named db u.name) h ∙ n))
+database_pushed false db new t name ds e h s i few n = rw e s

@@ -9,7 +9,6 @@ pub mod Texts
 pub mod Fields
 pub mod Cells
 pub mod Columns
-pub mod Sound
 pub mod Tables
 pub mod Places
 pub mod Creates

@@ -1,8 +1,7 @@
 -- What a table keeps.
 use Rattle.std.specs.Prelude.{◌≤◌}
 use Rattle.std.specs.String.{string_bytes}
-use Rattle.definitions.specs.Table.{Table}
-use Rattle.catalog.specs.Sound.{IsSound}
+use Rattle.definitions.specs.Table.{Table, IsTable}
 use Rattle.catalog.specs.Stored.{table_of, AreFilled}
 use Rattle.catalog.specs.declared.table.Table.TheInside.{Inside}
 
@@ -13,4 +12,4 @@ stored_table t = table_of (string_bytes t.name) t.columns.items t.len
 pub record IsStoredTable (t : Inside) : Type 0 where
   pub filled : AreFilled t.len t.columns.items
   pub few : t.len ≤ 100000000
-  pub sound : IsSound (stored_table t)
+  pub valid : IsTable (stored_table t)

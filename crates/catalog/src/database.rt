@@ -10,7 +10,6 @@ ghost use Rattle.definitions.specs.Table.{AreDistinct, new_table, table_named};
 ghost use Rattle.definitions.specs.Refusal.{Faulty, IsAccepted, definition_names};
 ghost use Rattle.catalog.specs.Meaning.{create_refusal, definitions_of};
 ghost use Rattle.catalog.specs.Loads.{Loads, RefusesLoad};
-ghost use Rattle.catalog.specs.Sound.{AreSound};
 
 use crate::fault::{CreateFault, LoadFault};
 use crate::table::{NewColumn, Table};
@@ -31,14 +30,13 @@ pub struct Database {
 }
 
 impl Model for Database {
-    ghost use Rattle.definitions.specs.Table.{Database};
-    ghost use Rattle.catalog.specs.Sound.{AreSound};
+    ghost use Rattle.definitions.specs.Table.{Database, IsDatabase};
 
     ghost Value = { Database };
 
     ghost view = { λ d. d.tables.items };
 
-    ghost invariant = { λ d. AreSound d.tables.items };
+    ghost invariant = { λ d. IsDatabase d.tables.items };
 }
 
 impl Database {
@@ -90,7 +88,7 @@ impl Database {
     /// The table of a name.
     pub fn table(&self, name: &str) -> Option<&Table>
         ensures named { option_copied result ≡ table_named self.now name.now }
-        ensures sound { AreSound self.now }
+        ensures valid { spec.IsDatabase self.now }
     {
         match self.place(name) {
             Some(place) => Some(&self.tables[place]),

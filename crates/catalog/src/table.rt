@@ -48,7 +48,6 @@ impl Table {
     ghost use Rattle.catalog.specs.Meaning.{cell_at, definitions_of};
     ghost use Rattle.catalog.specs.Creates.{AreTypes, RefusesTypes};
     ghost use Rattle.catalog.specs.Loads.{LoadsRows, RefusesRows};
-    ghost use Rattle.catalog.specs.Sound.{IsSound};
     ghost use Rattle.definitions.specs.Refusal.{definition_names};
 
     /// A table without rows.
@@ -61,7 +60,7 @@ impl Table {
         requires distinct { spec.AreDistinct (definition_names (definitions_of columns.now)) }
         ensures ok { IfOk result (λ t. t ≡ spec.new_table name.now (definitions_of columns.now)) }
         ensures types { OnOk result (AreTypes (definitions_of columns.now)) }
-        ensures sound { IfOk result IsSound }
+        ensures valid { IfOk result spec.IsTable }
         ensures err { IfErr result (RefusesTypes (definitions_of columns.now)) }
     {
         let mut made = Vec::new(alloc);
@@ -92,7 +91,7 @@ impl Table {
     pub fn len(&self) -> usize
         ensures exact { result ≡ length self.now.rows }
         ensures bound { result ≤ 100000000 }
-        ensures sound { IsSound self.now }
+        ensures valid { spec.IsTable self.now }
         ensures whole { AllByRecursion (λ row. length row ≡ length self.now.columns) self.now.rows }
     {
         self.len

@@ -1,6 +1,7 @@
 pub mod Lexing
 pub mod Grammar
 pub mod Loading
+pub mod Ranking
 mod Quoting
 mod Examples
 mod Runs

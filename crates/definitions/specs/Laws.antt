@@ -1,8 +1,11 @@
 -- What holds of the definitions. Each is proved as the contract of a function that has no code, but those that speak of every library,
 -- which no contract can state: they are proved in proofs/Runs.
-use Rattle.std.specs.Prelude.{ℕ, ◌≡◌, List, [], ◌∷◌, ◌++◌, Some, Result, Bool, true, false, map}
+use Rattle.std.specs.Prelude.{ℕ, ◌≡◌, ◌≢◌, ◌↔◌, List, [], ◌∷◌, ◌++◌, Some, Result, Bool, true, false, map}
+use Rattle.std.specs.Cmp.{IsTotalOrder}
 use Rattle.std.specs.List.{count_by}
-use Rattle.definitions.specs.Value.{Value, SqlType}
+use Rattle.std.specs.declared.cmp.Ordering.{Ordering}
+use Rattle.std.specs.declared.cmp.Ordering.TheVariants.{Less, Equal}
+use Rattle.definitions.specs.Value.{Value, Null, SqlType, compare, rank, AreNotDistinct}
 use Rattle.definitions.specs.Refusal.{FieldError}
 use Rattle.definitions.specs.Loading.{FieldLoads}
 use Rattle.definitions.specs.Token.{Token, TokenKind}
@@ -29,6 +32,23 @@ QuotedReadsBack = (text : List ℕ) → quoted false (doubled text ++ 39 ∷ [])
 -- a field loads as at most one value or error
 abbrev pub FieldLoadsOnce : Type 0
 FieldLoadsOnce = (type : SqlType) (field : List ℕ) (a b : Result Value FieldError) → FieldLoads type field a → FieldLoads type field b → a ≡ b
+
+-- each value ranks as equal to itself; two the other way round rank the reverse; what is less than a lesser value is less; and values of
+-- equal rank stand alike to every other
+abbrev pub RankIsTotalOrder : Type 0
+RankIsTotalOrder = ((v : Value) → rank v v ≡ Equal) × IsTotalOrder rank
+
+-- null ranks before every other value
+abbrev pub NullRanksFirst : Type 0
+NullRanksFirst = (v : Value) → v ≢ Null → rank Null v ≡ Less
+
+-- values rank as they compare, where that is known
+abbrev pub RankAgreesWithComparison : Type 0
+RankAgreesWithComparison = (a b : Value) (o : Ordering) → compare a b ≡ Some o → rank a b ≡ o
+
+-- values of equal rank are those that are not distinct
+abbrev pub EqualRankIsNotDistinct : Type 0
+EqualRankIsNotDistinct = (a b : Value) → (rank a b ≡ Equal) ↔ AreNotDistinct a b
 
 -- a text is that of a query's answer: the rows of the definition and no others, each as often as there
 pub record PrintsAnswer (db : Database) (q : Select) (text : List ℕ) : Type 0 where

@@ -1,19 +1,14 @@
 -- Comparison of numbers by their signs, their whole parts and what is left, and of texts place by place.
-use Rattle.std.proofs.Common.{◌≡◌, ◌≢◌, ◌∙◌, refl, sym, ap, ap₂, ℕ, zero, suc, ◌+◌, ◌-◌, ◌*◌, ◌/◌, ◌%◌, ◌^◌, ◌<◌, ◌≤◌, List, [], ◌∷◌, Bool, true, false, length, get_or, drop, arith, inl, inr, lit<}
-use Rattle.std.specs.Prelude.{◌⊎◌, ℤ, pos, negsuc, neg_ℤ, ◌*ℤ◌, ◌<ℤ◌, nat_abs, int_lt}
+use Rattle.std.proofs.Common.{◌≡◌, ◌∙◌, refl, ap, ap₂, ℕ, zero, suc, ◌+◌, ◌*◌, ◌/◌, ◌%◌, ◌^◌, ◌<◌, ◌≤◌, List, [], ◌∷◌, true, false, length, get_or, drop, arith, inl, inr, lit<}
+use Rattle.std.specs.Prelude.{◌⊎◌, ℤ, pos, negsuc, neg_ℤ, ◌*ℤ◌, int_lt}
 use Rattle.std.specs.Ordering.{nat_cmp, int_cmp, ordering_then}
-use Rattle.std.specs.declared.cmp.Ordering.{Ordering}
-use Rattle.std.specs.declared.cmp.Ordering.TheVariants.{Less, Equal, Greater}
-use Rattle.std.proofs.Math.Nat.{mul-le-mul_left, div-add-mod, one-le-pow, pow-le-pow_right, mul_comm, mul_assoc}
-use Rattle.std.proofs.lemmas.List.{get_or-drop}
+use Rattle.std.specs.declared.cmp.Ordering.TheVariants.{Less, Greater}
+use Rattle.std.proofs.Math.Nat.{mul-le-mul_left, div-add-mod, pow-le-pow_right}
 use Rattle.std.proofs.lemmas.Bool.{cases_lt}
 use Rattle.std.proofs.lemmas.Bool.Decides.{nat_tests}
 use Rattle.definitions.specs.Value.{text_cmp}
 
 -- a power of ten
-pub power_is_positive : (n : ℕ) → 0 < 10 ^ n
-power_is_positive n = omega (arith, one-le-pow n 10 (lit< tt))
-
 pub power_is_bounded : (n : ℕ) → n ≤ 18 → 10 ^ n ≤ 10 ^ 18
 power_is_bounded n h = pow-le-pow_right {n = 10} (lit< tt) h
 

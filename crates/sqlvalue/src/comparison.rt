@@ -23,6 +23,30 @@ pub fn compare(a: &Value, b: &Value) -> Option<Ordering>
     }
 }
 
+/// Where two values stand in the total order of values: as they compare, a null before all others
+/// and as equal to a null (ISO/IEC 9075:1992, 13.1, which leaves it open whether nulls sort first
+/// or last; that they are first is own). Values of equal rank are those that GROUP BY and DISTINCT
+/// take as one (3.1.3, distinct). Of two kinds, numbers stand before texts (own).
+pub fn rank(a: &Value, b: &Value) -> Ordering
+    ensures { result ≡ spec.rank (value_of a.now) (value_of b.now) }
+{
+    match compare(a, b) {
+        Some(order) => order,
+        None => kind_place(a).cmp(&kind_place(b)),
+    }
+}
+
+/// The place of a value's kind among the kinds.
+fn kind_place(value: &Value) -> u8
+    ensures { result ≡ spec.kind_place (value_of value.now) }
+{
+    match value {
+        Value::Null => 0,
+        Value::Num(_) => 1,
+        Value::Text(_) => 2,
+    }
+}
+
 fn compare_numbers(a: Num, b: Num) -> Ordering
     ensures { result ≡ spec.number_cmp a.units a.scale b.units b.scale }
 {

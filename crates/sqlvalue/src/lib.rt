@@ -6,7 +6,10 @@ mod number;
 mod sql_type;
 mod value;
 
-pub use comparison::compare;
+pub use comparison::{compare, rank};
 pub use number::Num;
 pub use sql_type::{DeclaredType, SqlType};
 pub use value::Value;
+
+#[cfg(test)]
+mod tests;

@@ -1,5 +1,6 @@
-use Rattle.std.proofs.Common.{◌≡◌, sym}
-use Rattle.sqlvalue.proofs.Comparing.{by_signs, power_is_positive}
+use Rattle.std.proofs.Common.{sym}
+use Rattle.definitions.proofs.Ranking.{power_is_positive}
+use Rattle.sqlvalue.proofs.Comparing.{by_signs}
 use Rattle.sqlvalue.proofs.comparison.compare_numbers.Goals as goal
 
 pub returns-in-true-false : goal.returns-in-true-false

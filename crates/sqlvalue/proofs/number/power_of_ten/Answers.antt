@@ -1,5 +1,5 @@
-use Rattle.std.proofs.Common.{◌≤◌, ◌<◌, ◌^◌, ap, sym, subst, ℕ, arith}
-use Rattle.sqlvalue.proofs.Comparing.{power_is_positive, power_is_bounded}
+use Rattle.definitions.proofs.Ranking.{power_is_positive}
+use Rattle.sqlvalue.proofs.Comparing.{power_is_bounded}
 use Rattle.sqlvalue.proofs.number.power_of_ten.Goals as goal
 
 pub returns-clause-positive : goal.returns-clause-positive

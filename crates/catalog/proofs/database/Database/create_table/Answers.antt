@@ -4,7 +4,7 @@ use Rattle.std.specs.Result.{is_ok}
 use Rattle.definitions.specs.Refusal as r
 use Rattle.catalog.specs.Meaning.{definitions_of, definition_of}
 use Rattle.catalog.proofs.Naming.{taken, not_taken, accepted, untyped_fault, over_limit, on_ok}
-use Rattle.catalog.proofs.Typing.{sound_pushed}
+use Rattle.catalog.proofs.Typing.{database_pushed}
 use Rattle.catalog.proofs.database.Database.create_table.Goals as goal
 use Rattle.catalog.proofs.database.Database.create_table.Goals.{then-is_some-via-then-is_some, then-is_some-via-else-is_some+then-has_twins}
 
@@ -31,6 +31,6 @@ returns-clause-accepted c =
 
 pub invariant_of-self : goal.invariant_of-self
 invariant_of-self c =
-    sound_pushed (is_ok c.push.result) c.self.inside.tables.items c.push.new.self.items c.in-Ok.table c.args.name.now (definitions_of c.args.columns.now) c.push.ensures.items (c.in-Ok.ensures).ok c.self.invariant (c.in-Ok.ensures).sound
+    database_pushed (is_ok c.push.result) c.self.inside.tables.items c.push.new.self.items c.in-Ok.table c.args.name.now (definitions_of c.args.columns.now) c.push.ensures.items (c.in-Ok.ensures).ok c.self.invariant (c.in-Ok.ensures).valid
     (omega (arith, c.if-len-ge-MAX_TABLES.false, c.len.ensures, c.self.inside.tables.ok.0))
     (rw c.self.view_is (not_taken c.args.self.now c.args.name.now c.table.result c.table.ensures.named (sym c.is_some.ensures ∙ c.if-is_some.false)))

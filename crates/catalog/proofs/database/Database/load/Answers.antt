@@ -2,7 +2,7 @@ use Rattle.std.proofs.Common.{◌≡◌, ◌∙◌, sym, ap, get_or, length, Lis
 use Rattle.std.proofs.lemmas.Result.{IfOk-weaker, IfErr-weaker}
 use Rattle.definitions.specs.Table.{Table}
 use Rattle.catalog.proofs.Naming.{IsPlace, named_some, named_none, loads_database, refuses_database}
-use Rattle.catalog.proofs.Typing.{sound_after}
+use Rattle.catalog.proofs.Typing.{database_after}
 use Rattle.catalog.proofs.database.Database.load.Goals as goal
 
 -- the table that is loaded stands at the place of the name
@@ -26,4 +26,4 @@ returns-in-None-clause-refused c = named_none c.args.self.now c.args.table.now 0
 
 pub invariant_of-self : goal.invariant_of-self
 invariant_of-self c =
-    sound_after c.load.result c.self.inside.tables.items c.in-Some.place c.args.bytes.now c.index_mut.result.now c.load.new.self c.self.invariant (omega (arith, (c.in-Some.ensures).within, ap length c.self.view_is)) c.index_mut.ensures.value c.load.ensures.ok c.load.ensures.err
+    database_after c.load.result c.self.inside.tables.items c.in-Some.place c.args.bytes.now c.index_mut.result.now c.load.new.self c.self.invariant (omega (arith, (c.in-Some.ensures).within, ap length c.self.view_is)) c.index_mut.ensures.value c.load.ensures.ok c.load.ensures.err

@@ -1,5 +1,6 @@
 use Rattle.std.proofs.Common.{arith}
-use Rattle.catalog.proofs.Scaling.{power_is_positive, power_is_within}
+use Rattle.definitions.proofs.Ranking.{power_is_positive}
+use Rattle.catalog.proofs.Scaling.{power_is_within}
 use Rattle.catalog.proofs.field.number.power_of_ten.Goals as goal
 
 pub pow-requires : goal.pow-requires

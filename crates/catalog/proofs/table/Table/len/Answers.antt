@@ -9,5 +9,5 @@ returns-clause-exact c = sym (length-rows_of c.self.inside.len c.self.inside.col
 pub returns-clause-whole : goal.returns-clause-whole
 returns-clause-whole c = whole_in_table _ c.self.inside.columns.items c.self.inside.len c.args.self.now c.self.view_is
 
-pub returns-clause-sound : goal.returns-clause-sound
-returns-clause-sound c = let sound = rw c.self.view_is at c.self.invariant.sound in sound
+pub returns-clause-valid : goal.returns-clause-valid
+returns-clause-valid c = let valid = rw c.self.view_is at c.self.invariant.valid in valid

@@ -4,7 +4,7 @@ use Rattle.std.specs.String.{string_bytes}
 use Rattle.std.proofs.lemmas.List.{with_items_is}
 use Rattle.catalog.specs.Stored.{table_of}
 use Rattle.catalog.proofs.Loading.{LoadedTable, loads_table, refuses_table, columns_back, columns_long}
-use Rattle.catalog.proofs.Typing.{sound_with_rows}
+use Rattle.catalog.proofs.Typing.{table_with_rows}
 use Rattle.catalog.proofs.table.Table.load.Goals as goal
 
 -- the columns as they were pushed onto
@@ -20,8 +20,8 @@ pub invariant_of-self : goal.invariant_of-self
 invariant_of-self c =
     let t = loaded c in
     let (rows, loads, few, count, new) = t.loads in
-    let sound = rw c.self.view_is at c.self.invariant.sound in
-    record { filled = t.filled; few = t.few; sound = rw new (sound_with_rows c.args.self.now loads.0 rows sound loads.2 few) }
+    let valid = rw c.self.view_is at c.self.invariant.valid in
+    record { filled = t.filled; few = t.few; valid = rw new (table_with_rows c.args.self.now loads.0 rows valid loads.2 few) }
 
 pub returns-in-Ok-clause-ok : goal.returns-in-Ok-clause-ok
 returns-in-Ok-clause-ok c = (loaded c).loads
@@ -39,7 +39,7 @@ back c =
     (with_items_is (with_items c.self.inside.columns c.push_records.new.columns) c.truncate.new.columns (c.truncate.auto.columns ∙ c.deref_mut-in-Err.ensures.len))
 
 pub invariant_of-self-in-Err : goal.invariant_of-self-in-Err
-invariant_of-self-in-Err c = record { filled = rw (back c) c.self.invariant.filled; few = c.self.invariant.few; sound = rw (back c) c.self.invariant.sound }
+invariant_of-self-in-Err c = record { filled = rw (back c) c.self.invariant.filled; few = c.self.invariant.few; valid = rw (back c) c.self.invariant.valid }
 
 pub returns-in-Err-clause-refused : goal.returns-in-Err-clause-refused
 returns-in-Err-clause-refused c =

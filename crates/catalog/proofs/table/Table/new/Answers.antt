@@ -3,9 +3,9 @@ use Rattle.std.specs.String.{string_bytes}
 use Rattle.std.proofs.lemmas.List.{take_all, length-map}
 use Rattle.catalog.specs.Meaning.{definition_of, definitions_of}
 use Rattle.catalog.specs.Creates.{AreTypes}
-use Rattle.catalog.proofs.Typing.{sound_new}
+use Rattle.catalog.proofs.Typing.{new_is_table}
 use Rattle.catalog.specs.Stored.{empty_column, table_of}
-use Rattle.catalog.specs.Sound.{IsSound}
+use Rattle.definitions.specs.Table.{IsTable}
 use Rattle.catalog.proofs.Rows.{untyped_at, empty_filled, new_is}
 use Rattle.catalog.proofs.table.Table.new.Goals as goal
 
@@ -25,21 +25,21 @@ typed c =
     let types = c.loop-column.invariant.types in
     rw all at types
 
--- and are those of a sound table
-sound : (c : goal.In_ok-name) → IsSound (table_of (string_bytes c.in_ok-name.name) c.loop-column.made.items 0)
-sound c =
+-- and are those of a table
+valid : (c : goal.In_ok-name) → IsTable (table_of (string_bytes c.in_ok-name.name) c.loop-column.made.items 0)
+valid c =
     rw (new_is (string_bytes c.in_ok-name.name) _ _ (definitions_of c.args.columns.now) refl (made c))
-    (sound_new (string_bytes c.in_ok-name.name) (definitions_of c.args.columns.now) (omega (arith, c.requires.narrow, length-map c.args.columns.now definition_of)) c.requires.distinct (typed c))
+    (new_is_table (string_bytes c.in_ok-name.name) (definitions_of c.args.columns.now) (omega (arith, c.requires.narrow, length-map c.args.columns.now definition_of)) c.requires.distinct (typed c))
 
 pub invariant_of-result : goal.invariant_of-result
 invariant_of-result c = record {
   filled = rw (made c) (empty_filled (definitions_of c.args.columns.now));
   few = omega arith;
-  sound = sound c;
+  valid = valid c;
 }
 
-pub returns-clause-sound : goal.returns-clause-sound
-returns-clause-sound c = sound c
+pub returns-clause-valid : goal.returns-clause-valid
+returns-clause-valid c = valid c
 
 pub returns-clause-ok : goal.returns-clause-ok
 returns-clause-ok c =
