@@ -4,3 +4,4 @@ pub mod Loading
 mod Quoting
 mod Examples
 mod Runs
+pub mod PlanTheory

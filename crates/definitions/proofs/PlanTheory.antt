@@ -1,0 +1,10 @@
+pub mod TableSets
+pub mod Elements
+pub mod Orders
+pub mod Bounds
+pub mod Exactness
+pub mod Below
+pub mod Growing
+pub mod Finding
+pub mod Numbers
+pub mod TwoTables
