@@ -6,5 +6,6 @@ pub mod Exactness
 pub mod Below
 pub mod Growing
 pub mod Finding
+pub mod Verdicts
 pub mod Numbers
 pub mod TwoTables

@@ -1,6 +1,6 @@
 //! What plans are, what they cost, and how a certificate shows that a plan is least: laws over `specs/Plans`.
-ghost use Rattle.definitions.specs.Plans.Laws.{BoundsHold, ValidIsLeast, AttainedIsExact, RefusedIsNotValid, SolvedIsExact, SpaceHasPlan, SearchFinds, FoundGivesRequired, EachIsNumbered, NoOtherIsNumbered, NumberedOnce, EmptyIsFirst};
-ghost use Rattle.definitions.specs.Plans.Examples.{NeedsTwoSorts, TwoSortsAreLeast, EmptyIsRefused, CostStops, ProductsAndClasses, RequiredComesFirst, RepeatsAreLeftOut};
+ghost use Rattle.definitions.specs.Plans.Laws.{BoundsHold, ValidIsLeast, AttainedIsExact, RefusedIsNotValid, VerdictsAgree, SolvedIsExact, SpaceHasPlan, SearchFinds, FoundGivesRequired, EachIsNumbered, NoOtherIsNumbered, NumberedOnce, EmptyIsFirst};
+ghost use Rattle.definitions.specs.Plans.Examples.{NeedsTwoSorts, LoopsCostMore, TwoSortsAreLeast, EmptyIsRefused, LowerIsRefused, CostStops, ProductsAndClasses, RequiredComesFirst, RepeatsAreLeftOut};
 
 /// No plan costs less than the bound of its state.
 pub fn bounds_hold()
@@ -17,9 +17,10 @@ pub fn attained_is_exact()
     ensures { AttainedIsExact }
 {}
 
-/// A certificate that a checker refuses isn't valid.
+/// A certificate that a checker refuses isn't valid, and all checkers refuse it by the same rule.
 pub fn refused_is_not_valid()
-    ensures { RefusedIsNotValid }
+    ensures refused { RefusedIsNotValid }
+    ensures agree { VerdictsAgree }
 {}
 
 /// The states that a search has solved below the cost of its cheapest plan are a certificate, valid and exact for it.
@@ -49,8 +50,10 @@ pub fn orders_are_numbered()
 /// A join of two tables: two sorts and a merge, what that costs, and the certificate by which it is least.
 pub fn two_tables()
     ensures plan { NeedsTwoSorts }
+    ensures loops { LoopsCostMore }
     ensures least { TwoSortsAreLeast }
-    ensures refused { EmptyIsRefused }
+    ensures empty { EmptyIsRefused }
+    ensures lower { LowerIsRefused }
     ensures stops { CostStops }
 {}
 

@@ -10,7 +10,7 @@ use Rattle.definitions.specs.Plans.Conjunct.{Conjunct}
 use Rattle.definitions.specs.Plans.Path.{SegmentScan}
 use Rattle.definitions.specs.Plans.Plan.{Plan, Access, Loop, Sort}
 use Rattle.definitions.specs.Plans.Space.{Space, whole, order_at}
-use Rattle.definitions.specs.Plans.ColumnClass.{one, Satisfies}
+use Rattle.definitions.specs.Plans.ColumnClass.{itself, Satisfies}
 use Rattle.definitions.specs.Plans.PlanSpace.{Links, MayFollow, CanSort, tables_of, IsPlan, access, loop, sort, InSpace, GivesRequired}
 use Rattle.definitions.specs.Plans.Search.{IsComplete}
 use Rattle.definitions.proofs.PlanTheory.TableSets.{Decided, search_below, has_decided, lacks_decided, both_decided, meets_decided, within_decided}
@@ -144,7 +144,7 @@ grow space v (suc fuel) p r e =
 
 satisfies_itself : (space : Space) (s : ℕ) (d : Order) → Satisfies space s d d
 satisfies_itself space s [] = tt
-satisfies_itself space s (d ∷ ds) = (refl, one d.column, satisfies_itself space s ds)
+satisfies_itself space s (d ∷ ds) = (refl, itself d.column, satisfies_itself space s ds)
 
 satisfies_any : (space : Space) (s : ℕ) (d r : Order) → r ≡ [] → Satisfies space s d r
 satisfies_any space s d r e = rw e tt

@@ -4,7 +4,7 @@ use Rattle.definitions.specs.Plans.Order.{BlockColumn, SortKey, ascending}
 use Rattle.definitions.specs.Plans.Path.{Path, table_of}
 use Rattle.definitions.specs.Plans.Plan.{Inner, Plan, Access, Loop, Merge, Sort}
 use Rattle.definitions.specs.Plans.Space.{Space, whole, order_at, IsOver}
-use Rattle.definitions.specs.Plans.ColumnClass.{Equates, SameClass, one, chain, Satisfies}
+use Rattle.definitions.specs.Plans.ColumnClass.{Equates, SameClass, itself, chain, Satisfies}
 use Rattle.definitions.specs.Plans.PlanSpace.{IsPath, IsMergeConjunct, CanMerge, tables_of, order_of, IsPlan, access, loop, merge, sort}
 use Rattle.definitions.specs.Plans.Cost.{saturated}
 use Rattle.definitions.specs.Plans.Folding.{OpensMerge, IsUseful, Folds}
@@ -12,7 +12,7 @@ use Rattle.definitions.proofs.PlanTheory.TableSets.{has_more, lacks_less, only_h
 
 -- columns that are one class in a set are one in each greater set
 pub same_more : (space : Space) (s s' : ℕ) → ((u : ℕ) → Has s u → Has s' u) → (x y : BlockColumn) → SameClass space s x y → SameClass space s' x y
-same_more space s s' sub x y (one x') = one x'
+same_more space s s' sub x y (itself x') = itself x'
 same_more space s s' sub x z (chain g x' y z' e hx hy r) = chain g x' y z' e (sub _ hx) (sub _ hy) (same_more space s s' sub y z' r)
 
 -- the tables of a plan are tables of the block
@@ -80,11 +80,11 @@ folds_once space s d k k' (inr (n, e)) (inr (n', e')) = omega arith
 
 -- what holds of x and goes along each conjunct in S holds of x's class: a closed set of marks is the class
 pub same_closed : (space : Space) (s : ℕ) (P : BlockColumn → Type 0) → ((g : ℕ) (a b : BlockColumn) → Equates space g a b → Has s a.table → Has s b.table → P a → P b) → (x y : BlockColumn) → SameClass space s x y → P x → P y
-same_closed space s P closed x y (one x') h = h
+same_closed space s P closed x y (itself x') h = h
 same_closed space s P closed x z (chain g x' y z' e hx hy r) h = same_closed space s P closed y z' r (closed g x' y e hx hy h)
 
 pub same_trans : (space : Space) (s : ℕ) (x y z : BlockColumn) → SameClass space s x y → SameClass space s y z → SameClass space s x z
-same_trans space s x y z (one x') r = r
+same_trans space s x y z (itself x') r = r
 same_trans space s x y z (chain g x' m y' e hx hy l) r = chain g x' m z e hx hy (same_trans space s m y' z l r)
 
 equates_turned : (space : Space) (g : ℕ) (x y : BlockColumn) → Equates space g x y → Equates space g y x
@@ -92,8 +92,8 @@ equates_turned space g x y (c, is, early, inl e) = (c, is, early, inr e)
 equates_turned space g x y (c, is, early, inr e) = (c, is, early, inl e)
 
 pub same_turned : (space : Space) (s : ℕ) (x y : BlockColumn) → SameClass space s x y → SameClass space s y x
-same_turned space s x y (one x') = one x'
-same_turned space s x z (chain g x' m z' e hx hm r) = same_trans space s z' m x' (same_turned space s m z' r) (chain g m x' x' (equates_turned space g x' m e) hm hx (one x'))
+same_turned space s x y (itself x') = itself x'
+same_turned space s x z (chain g x' m z' e hx hm r) = same_trans space s z' m x' (same_turned space s m z' r) (chain g m x' x' (equates_turned space g x' m e) hm hx (itself x'))
 
 -- what the fold satisfies, the order satisfies
 satisfied_by_fold : (space : Space) (s d k : ℕ) → order_at space 0 ≡ [] → (r : List SortKey) → Satisfies space s (order_at space k) r → k ≡ 0 → Satisfies space s (order_at space d) r

@@ -11,19 +11,18 @@ use Rattle.definitions.specs.Plans.Conjunct.{Conjunct}
 use Rattle.definitions.specs.Plans.Path.{Path, SegmentScan, table_of}
 use Rattle.definitions.specs.Plans.Plan.{Inner, Plan, Sort}
 use Rattle.definitions.specs.Plans.Space.{order_at, IsOver}
-use Rattle.definitions.specs.Plans.ColumnClass.{Equates, one}
+use Rattle.definitions.specs.Plans.ColumnClass.{Equates, itself}
 use Rattle.definitions.specs.Plans.PlanSpace.{MayFollow, CanLoop, IsMergeConjunct, IsInner, CanMerge, CanSort, IsPlan, access, merge, sort, InSpace}
 use Rattle.definitions.specs.Plans.Cost.{limit, saturated, loop_cost, merge_cost, cost_of}
 use Rattle.definitions.specs.Plans.Folding.{AwaitsMerge, OpensMerge, IsUseful, Folds, IsOn}
-use Rattle.definitions.specs.Plans.Certificate.{StateCost, Lists, bound, Precedes, AreRising, AreStates}
+use Rattle.definitions.specs.Plans.Certificate.{StateCost, Certificate, Lists, IsListed, bound, Precedes, AreRising, AreStates}
 use Rattle.definitions.specs.Plans.Validity.{AccessesHold, LoopsHold, MergesHold, SortsHold, IsValid}
 use Rattle.definitions.specs.Plans.Exact.{IsExact, AreAttained}
-use Rattle.definitions.specs.Plans.Checking.{AccessFails}
+use Rattle.definitions.specs.Plans.Checking.{AccessFails, LoopFails, MergeFails}
 use Rattle.definitions.specs.Plans.Search.{as_bounds, IsSolved, IsCheapest, IsComplete}
 use Rattle.definitions.specs.Plans.Examples.{x_column, y_column, x_is_y, two_tables, scan_of, two_sorts, outer_unsorted, inner_unsorted, solved_states, two_tables_certificate}
 use Rattle.definitions.proofs.PlanTheory.Elements.{first_or_rest, not_in_empty}
 use Rattle.definitions.proofs.PlanTheory.Orders.{fold_useless}
-use Rattle.definitions.proofs.PlanTheory.Bounds.{here}
 use Rattle.definitions.proofs.PlanTheory.Below.{searched}
 
 -- ---- the tables, the columns of the conjunct and the paths
@@ -118,10 +117,13 @@ second_follows = (lit≤ tt, refl, inr (inl (0, x_is_y, refl, refl, refl, (0, re
 merges : IsMergeConjunct two_tables 0 x_column y_column
 merges = ((x_is_y, refl, refl, inl refl), λ e. absurd (omega (arith, e)))
 
+merges_back : IsMergeConjunct two_tables 0 y_column x_column
+merges_back = ((x_is_y, refl, refl, inr refl), λ e. absurd (omega (arith, e)))
+
 pub two_sorts_in_space : InSpace two_tables two_sorts
 two_sorts_in_space = (
   merge (Sort (scan_of 0) 1) 0 (record { path = SegmentScan 1; sorted = true }) sorted_first
-      (second_follows, (x_column, y_column, merges, refl, refl, (refl, one x_column, tt), ((0, lit≤ tt, refl), inl refl))),
+      (second_follows, (x_column, y_column, merges, refl, refl, (refl, itself x_column, tt), ((0, lit≤ tt, refl), inl refl))),
   refl,
 )
 
@@ -179,7 +181,7 @@ solved_form = record {
     of_empty s = (lit≤ tt, λ k d lt. absurd (omega (arith, lt)))
 
 awaits : (s : ℕ) (x y : BlockColumn) → IsMergeConjunct two_tables 0 x y → Lacks s y.table → AwaitsMerge two_tables s x
-awaits s x y is lacks = (0, x, y, is, lacks, one x)
+awaits s x y is lacks = (0, x, y, is, lacks, itself x)
 
 solved_attained : AreAttained two_tables solved_states
 solved_attained = of_listed (λ s k w. (plan : Plan) × IsOn two_tables s k plan × (cost_of two_tables plan ≡ w))
@@ -188,19 +190,16 @@ solved_attained = of_listed (λ s k w. (plan : Plan) × IsOn two_tables s k plan
     (scan_of 1, (second_scan, refl, inr (useless_empty 2, refl)), refl)
     (Sort (scan_of 1) 2, (sorted_second, refl, inl (inr (refl, awaits 2 y_column x_column merges_back refl), refl)), refl)
     (two_sorts, (two_sorts_in_space.0, refl, inr (useless_whole 1, refl)), refl)
-  where
-    merges_back : IsMergeConjunct two_tables 0 y_column x_column
-    merges_back = ((x_is_y, refl, refl, inr refl), λ e. absurd (omega (arith, e)))
 
-solved_accesses : AccessesHold two_tables (as_bounds solved_states)
-solved_accesses path folded below there folds = of_table (table_of path) (two_numbers (table_of path) below) refl (path_is (table_of path) path there) folds
+accesses_hold : (certificate : Certificate) → bound certificate 1 0 ≤ 200 → bound certificate 2 0 ≤ 2000 → AccessesHold two_tables certificate
+accesses_hold certificate first second path folded below there folds = of_table (table_of path) (two_numbers (table_of path) below) (path_is (table_of path) path there) folds
   where
     at_empty : (s : ℕ) → Folds two_tables s 0 folded → folded ≡ 0
     at_empty s f = fold_useless two_tables s 0 folded (useless_empty s) f
 
-    of_table : (t : ℕ) → (t ≡ 0) ⊎ (t ≡ 1) → t ≡ table_of path → SegmentScan t ≡ path → Folds two_tables (only t) 0 folded → bound (as_bounds solved_states) (only t) folded ≤ two_tables.path_cost 0 path
-    of_table t (inl e) here is f = rw (at_empty (only t) f, sym is, e) (lit≤ tt)
-    of_table t (inr e) here is f = rw (at_empty (only t) f, sym is, e) (lit≤ tt)
+    of_table : (t : ℕ) → (t ≡ 0) ⊎ (t ≡ 1) → SegmentScan t ≡ path → Folds two_tables (only t) 0 folded → bound certificate (only t) folded ≤ two_tables.path_cost 0 path
+    of_table t (inl e) is f = rw (at_empty (only t) f, sym is, e) first
+    of_table t (inr e) is f = rw (at_empty (only t) f, sym is, e) second
 
 -- ---- joins and sorts from the solved states
 
@@ -344,7 +343,7 @@ two_tables_complete = record { some = lit≤ tt; scans = λ s t lt. (0, lit≤ t
     small false (suc (suc t)) = lit≤ tt
 
 pub states_are_solved : IsSolved two_tables solved_states
-states_are_solved = record { form = solved_form; attained = solved_attained; accesses = solved_accesses; joins = (solved_loops, solved_merges); sorts = solved_sorts }
+states_are_solved = record { form = solved_form; attained = solved_attained; accesses = accesses_hold (as_bounds solved_states) (lit≤ tt) (lit≤ tt); joins = (solved_loops, solved_merges); sorts = solved_sorts }
 
 two_sorts_cheapest : IsCheapest two_tables solved_states two_sorts
 two_sorts_cheapest = (two_sorts_in_space, tt, lit≤ tt, λ k w there gives. of_listed (λ s k w. s ≡ 3 → 13400 ≤ w) (λ e. absurd (omega (arith, e))) (λ e. absurd (omega (arith, e))) (λ e. absurd (omega (arith, e))) (λ e. absurd (omega (arith, e))) (λ e. lit≤ tt) 3 k w there refl)
@@ -354,3 +353,19 @@ two_tables_valid = searched two_tables solved_states two_sorts states_are_solved
 
 pub empty_refused : AccessFails two_tables (record { target = 13400; states = [] }) 1 0
 empty_refused = (SegmentScan 0, lit≤ tt, (0, lit≤ tt, refl), refl, inr (useless_empty 1, refl), lit≤ tt)
+
+abbrev lower_certificate : Certificate
+lower_certificate = record { target = 13400; states = state 1 0 200 ∷ state 1 1 320 ∷ state 2 0 2000 ∷ state 2 2 3079 ∷ [] }
+
+first_follows : MayFollow two_tables 2 0
+first_follows = (lit≤ tt, refl, inr (inl (0, x_is_y, refl, refl, refl, (1, refl, refl), names_both)))
+  where
+    names_both : (u : ℕ) → Has 3 u → Has (with_table 2 0) u
+    names_both u h = h
+
+pub lower_refused : AccessesHold two_tables lower_certificate × IsListed lower_certificate 2 2 × (LoopFails two_tables lower_certificate 2 2 ⊎ MergeFails two_tables lower_certificate 2 2)
+lower_refused = (
+  accesses_hold lower_certificate (lit≤ tt) (lit≤ tt),
+  (3079, (3, lit≤ tt, refl)),
+  inr (0, sorted_scan 0, 0, (first_follows, (y_column, x_column, merges_back, refl, refl, (refl, itself y_column, tt), ((0, lit≤ tt, refl), inl refl))), inr (useless_whole 2, refl), lit≤ tt),
+)

@@ -1,5 +1,5 @@
 -- What a checker answers of a plan and a certificate of the block (own).
-use Rattle.std.specs.Prelude.{ℕ, ◌+◌, ◌<◌, ◌≡◌, ◌⊎◌}
+use Rattle.std.specs.Prelude.{ℕ, ◌+◌, ◌<◌, ◌≡◌, ◌⊎◌, Option, Some, None}
 use Rattle.definitions.specs.Plans.TableSet.{TableSet, no_tables, only, with_table}
 use Rattle.definitions.specs.Plans.Order.{OrderNumber}
 use Rattle.definitions.specs.Plans.Path.{Path, table_of}
@@ -22,6 +22,10 @@ pub data Rule : Type 0 where
 pub data Verdict : Type 0 where
   Pass : Verdict
   Refused : (rule : Rule) (tables : TableSet) (order : OrderNumber) → Verdict
+
+abbrev pub rule_of : Verdict → Option Rule
+rule_of Pass = None
+rule_of (Refused rule tables order) = Some rule
 
 module _ (space : Space) (certificate : Certificate) where
   -- an access costs less than the bound of its state

@@ -12,7 +12,7 @@ module _ (space : Space) where
 
   -- x and y are one column, or a chain of early conjuncts equates them whose tables are all in the set (Selinger et al. 1979, section 5)
   pub data SameClass (tables : TableSet) : BlockColumn → BlockColumn → Type 0 where
-    one : (x : BlockColumn) → SameClass tables x x
+    itself : (x : BlockColumn) → SameClass tables x x
     chain : (number : ℕ) (x y z : BlockColumn) → Equates number x y → Has tables x.table → Has tables y.table → SameClass tables y z → SameClass tables x z
 
   -- rows of the tables in the one order are in the other: it is no longer, and key by key the directions are equal and the columns of one class

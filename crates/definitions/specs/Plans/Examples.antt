@@ -11,7 +11,7 @@ use Rattle.definitions.specs.Plans.Least.{IsLeast}
 use Rattle.definitions.specs.Plans.Certificate.{StateCost, Certificate}
 use Rattle.definitions.specs.Plans.Validity.{IsValid}
 use Rattle.definitions.specs.Plans.Exact.{IsExact}
-use Rattle.definitions.specs.Plans.Checking.{Accesses, Refused, IsVerdict}
+use Rattle.definitions.specs.Plans.Checking.{Accesses, Joins, Refused, IsVerdict}
 use Rattle.definitions.specs.Plans.Search.{certificate_below, IsSolved, IsComplete}
 use Rattle.definitions.specs.Plans.Numbering.{numbered}
 
@@ -58,6 +58,10 @@ abbrev pub NeedsTwoSorts : Type 0
 NeedsTwoSorts = InSpace two_tables two_sorts × GivesRequired two_tables two_sorts × (cost_of two_tables two_sorts ≡ 13400)
     × (InSpace two_tables outer_unsorted → ⊥) × (InSpace two_tables inner_unsorted → ⊥)
 
+-- the two loops over whole scans cost far more
+abbrev pub LoopsCostMore : Type 0
+LoopsCostMore = (cost_of two_tables (Loop (scan_of 0) (SegmentScan 1)) ≡ 110200) × (cost_of two_tables (Loop (scan_of 1) (SegmentScan 0)) ≡ 112000)
+
 -- the least costs of the states of A, of A by X, of B, of B by Y, and of both
 abbrev pub solved_states : List StateCost
 solved_states = record { tables = 1; order = 0; cost = 200 } ∷ record { tables = 1; order = 1; cost = 320 }
@@ -81,6 +85,15 @@ TwoSortsAreLeast = IsComplete two_tables × IsSolved two_tables solved_states ×
 -- with no STATE, the scan of A alone costs less than the bound of its state
 abbrev pub EmptyIsRefused : Type 0
 EmptyIsRefused = IsVerdict two_tables (record { target = 13400; states = [] }) two_sorts (Refused Accesses 1 0)
+
+-- with B by Y one too low, a merge from there costs 13399, below the target
+abbrev pub LowerIsRefused : Type 0
+LowerIsRefused = IsVerdict two_tables (record {
+  target = 13400;
+  states =
+      record { tables = 1; order = 0; cost = 200 } ∷ record { tables = 1; order = 1; cost = 320 }
+      ∷ record { tables = 2; order = 0; cost = 2000 } ∷ record { tables = 2; order = 2; cost = 3079 } ∷ [];
+}) two_sorts (Refused Joins 2 2)
 
 -- where every set of tables has as many rows as can be counted, the cost of a join stops at the limit
 abbrev pub CostStops : Type 0

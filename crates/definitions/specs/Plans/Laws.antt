@@ -13,7 +13,7 @@ use Rattle.definitions.specs.Plans.Folding.{IsOn}
 use Rattle.definitions.specs.Plans.Certificate.{StateCost, Certificate, Lists, bound}
 use Rattle.definitions.specs.Plans.Validity.{KeepsBounds, IsValid}
 use Rattle.definitions.specs.Plans.Exact.{AreAttained, IsExact}
-use Rattle.definitions.specs.Plans.Checking.{Rule, Verdict, Pass, Refused, IsVerdict}
+use Rattle.definitions.specs.Plans.Checking.{Rule, Verdict, Refused, rule_of, IsVerdict}
 use Rattle.definitions.specs.Plans.Search.{certificate_below, IsSolved, IsCheapest, IsComplete}
 use Rattle.definitions.specs.Plans.Numbering.{without_repeats, numbered, number_of}
 
@@ -36,6 +36,10 @@ AttainedIsExact = (space : Space) (plan : Plan) (certificate : Certificate) → 
 abbrev pub RefusedIsNotValid : Type 0
 RefusedIsNotValid = (space : Space) (plan : Plan) (certificate : Certificate) (rule : Rule) (tables : TableSet) (order : OrderNumber)
     → IsVerdict space certificate plan (Refused rule tables order) → IsValid space plan certificate → ⊥
+
+-- and all verdicts on one agree on the rule that fails
+abbrev pub VerdictsAgree : Type 0
+VerdictsAgree = (space : Space) (plan : Plan) (certificate : Certificate) (a b : Verdict) → IsVerdict space certificate plan a → IsVerdict space certificate plan b → rule_of a ≡ rule_of b
 
 -- ---- searches
 

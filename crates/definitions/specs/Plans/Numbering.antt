@@ -26,13 +26,13 @@ abbrev pub number_of : List Order → Order → OrderNumber
 number_of orders order = position_or_len (same_order order) orders
 
 -- the two columns that an early conjunct equates, if they are of two tables, each ascending
-abbrev pub sides : Option (BlockColumn × BlockColumn) → List Order
-sides None = []
-sides (Some (x, y)) = if nat_eq x.table y.table then [] else ascending x ∷ ascending y ∷ []
+abbrev pub side_orders : Option (BlockColumn × BlockColumn) → List Order
+side_orders None = []
+side_orders (Some (x, y)) = if nat_eq x.table y.table then [] else ascending x ∷ ascending y ∷ []
 
 abbrev pub merge_orders : List Conjunct → List Order
 merge_orders [] = []
-merge_orders (conjunct ∷ conjuncts) = (if conjunct.early then sides conjunct.equated else []) ++ merge_orders conjuncts
+merge_orders (conjunct ∷ conjuncts) = (if conjunct.early then side_orders conjunct.equated else []) ++ merge_orders conjuncts
 
 -- the empty order, the required one, those of the merge conjuncts in the order of the text, and those of the indexes
 abbrev pub numbered : Order → List Conjunct → List Order → List Order

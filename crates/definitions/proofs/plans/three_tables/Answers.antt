@@ -6,7 +6,7 @@ use Rattle.definitions.specs.Plans.Order.{BlockColumn, SortKey, ascending}
 use Rattle.definitions.specs.Plans.Conjunct.{Conjunct}
 use Rattle.definitions.specs.Plans.Path.{SegmentScan}
 use Rattle.definitions.specs.Plans.Plan.{Access, Loop, Sort}
-use Rattle.definitions.specs.Plans.ColumnClass.{Equates, one, Satisfies}
+use Rattle.definitions.specs.Plans.ColumnClass.{Equates, itself, Satisfies}
 use Rattle.definitions.specs.Plans.PlanSpace.{Links, IsMergeConjunct, IsInner, IsPlan, access, loop, merge, sort}
 use Rattle.definitions.specs.Plans.Examples.{x_column, y_column, x_is_y, y_is_z, three_tables, three_tables_freely, product_merged_by}
 use Rattle.definitions.proofs.PlanTheory.TableSets.{only_has}
@@ -22,7 +22,7 @@ looped = loop (Sort (Access (SegmentScan 0)) 1) (SegmentScan 2) (sort (Access (S
 
 merged : IsPlan three_tables_freely (product_merged_by 0)
 merged = merge (Loop (Sort (Access (SegmentScan 0)) 1) (SegmentScan 2)) 0 (record { path = SegmentScan 1; sorted = true }) looped
-    ((lit≤ tt, refl, inl refl), (x_column, y_column, ((x_is_y, refl, refl, inl refl), λ e. absurd (omega (arith, e))), refl, refl, (refl, one x_column, tt), ((0, lit≤ tt, refl), inl refl)))
+    ((lit≤ tt, refl, inl refl), (x_column, y_column, ((x_is_y, refl, refl, inl refl), λ e. absurd (omega (arith, e))), refl, refl, (refl, itself x_column, tt), ((0, lit≤ tt, refl), inl refl)))
 
 -- B is a table of each conjunct
 abbrev SidesTouch : Option (BlockColumn × BlockColumn) → Type 0
