@@ -1,4 +1,5 @@
-//! What plans are, what they cost, and how a certificate shows that a plan is least: laws over `specs/Plans`.
+//! Plans, their costs, and how a certificate shows that a plan is least (docs/PLANS.md): laws over the definitions of
+//! `specs/Plans`, and worked examples of them. No engine uses them yet.
 ghost use Rattle.definitions.specs.Plans.Laws.{BoundsHold, ValidIsLeast, AttainedIsExact, RefusedIsNotValid, VerdictsAgree, SolvedIsExact, SpaceHasPlan, SearchFinds, FoundGivesRequired, EachIsNumbered, NoOtherIsNumbered, NumberedOnce, EmptyIsFirst};
 ghost use Rattle.definitions.specs.Plans.Examples.{NeedsTwoSorts, LoopsCostMore, TwoSortsAreLeast, EmptyIsRefused, LowerIsRefused, CostStops, ProductsAndClasses, RequiredComesFirst, RepeatsAreLeftOut};
 

@@ -1,21 +1,20 @@
 use Rattle.std.proofs.lemmas.Bool.{cases_eq}
 use Rattle.std.proofs.Common.{ap, ◌≢◌, ◌∷◌, rules, ◌≡◌, ℕ, ◌+◌, ◌≤◌, ◌⊎◌, inl, inr, List, [], arith, refl}
 use Rattle.std.proofs.lemmas.Bool.Decides.{nat_tests}
-use Rattle.std.specs.Prelude.{Contains}
-use Rattle.definitions.specs.Plans.TableSet.{with_table}
 use Rattle.definitions.specs.Plans.Order.{Order}
-use Rattle.definitions.specs.Plans.Path.{Path, table_of}
-use Rattle.definitions.specs.Plans.Plan.{Plan, Access, Loop, Merge, Sort}
+use Rattle.definitions.specs.Plans.Path.{Path}
+use Rattle.definitions.specs.Plans.Plan.{Plan}
 use Rattle.definitions.specs.Plans.Space.{Space, whole, order_at}
 use Rattle.definitions.specs.Plans.ColumnClass.{Satisfies}
-use Rattle.definitions.specs.Plans.PlanSpace.{CanLoop, CanSort, tables_of, order_of, IsPlan, access, loop, merge, sort, InSpace, GivesRequired}
-use Rattle.definitions.specs.Plans.Cost.{limit, saturated, loop_cost, merge_cost}
-use Rattle.definitions.specs.Plans.Folding.{IsUseful, Folds, IsOn}
+use Rattle.definitions.specs.Plans.PlanSpace.{tables_of, order_of, IsPlan, InSpace, GivesRequired}
+use Rattle.definitions.specs.Plans.Cost.{limit, saturated}
+use Rattle.definitions.specs.Plans.Folding.{Folds, IsOn}
 use Rattle.definitions.specs.Plans.Certificate.{StateCost, Lists, IsListed, bound}
 use Rattle.definitions.specs.Plans.Search.{as_bounds, IsSolved, IsComplete}
 use Rattle.definitions.proofs.PlanTheory.TableSets.{by_cases}
 use Rattle.definitions.proofs.PlanTheory.Elements.{later, first_or_rest}
-use Rattle.definitions.proofs.PlanTheory.Orders.{plan_in_whole, useful_less, merge_useful, fold_useless, fold_zero, order_of_fold}
+use Rattle.definitions.proofs.PlanTheory.Orders.{order_of_fold}
+use Rattle.definitions.proofs.PlanTheory.Induction.{every_plan}
 use Rattle.definitions.proofs.PlanTheory.Bounds.{here, listed_or_target}
 use Rattle.definitions.proofs.PlanTheory.Growing.{has_plan}
 
@@ -31,27 +30,14 @@ module _ (space : Space) (xs : List StateCost) (v : IsSolved space xs) (small : 
       of_cases (inl l) = l
       of_cases (inr e) = absurd (omega arith)
 
-  -- the state of each plan is among the as_bounds
+  -- the state of each plan is solved
   pub reached : (p : Plan) → IsPlan space p → (k : ℕ) → Folds space (tables_of space p) (order_of space p) k → bound (as_bounds xs) (tables_of space p) k ≤ limit
-  reached (Access a) (access a' lt r) k f = let le = v.accesses a k lt r f in let w = small 0 a in omega (arith, le, w)
-  reached (Loop p a) (loop p' a' r can) k f = by_cases (IsUseful space (tables_of space p) (order_of space p)) _ _ (λ u. looped p a k can f (λ k' f'. listed _ k' (reached p r k' f')) u)
-    where
-      looped : (p : Plan) (a : Path) (k : ℕ) → CanLoop space (tables_of space p) a → Folds space (with_table (tables_of space p) (table_of a)) (order_of space p) k → ((k' : ℕ) → Folds space (tables_of space p) (order_of space p) k' → IsListed (as_bounds xs) (tables_of space p) k') → IsUseful space (tables_of space p) (order_of space p) ⊎ (IsUseful space (tables_of space p) (order_of space p) → ⊥) → bound (as_bounds xs) (with_table (tables_of space p) (table_of a)) k ≤ limit
-      looped p a k can f low (inl u) = sat_top (bound (as_bounds xs) (tables_of space p) (order_of space p) + loop_cost space (tables_of space p) a) (bound (as_bounds xs) (with_table (tables_of space p) (table_of a)) k) (v.joins.0 (tables_of space p) (order_of space p) a k (low (order_of space p) (inl (u, refl))) can f)
-      looped p a k can f low (inr useless) =
-          let s = tables_of space p in
-          let t = table_of a in
-          let zero_at : k ≡ 0 = fold_useless space (with_table s t) (order_of space p) k (λ u. useless (useful_less space s t (order_of space p) u)) f in
-          by_cases (IsUseful space (with_table s t) 0) (bound (as_bounds xs) (with_table s t) k) limit (λ w. sat_top (bound (as_bounds xs) s 0 + loop_cost space s a) (bound (as_bounds xs) (with_table s t) k) (v.joins.0 s 0 a k (low 0 (inr (useless, refl))) can (fold_zero space (with_table s t) k zero_at w)))
-  reached (Merge p g i) (merge p' g' i' r can) k f =
-      let s = tables_of space p in
-      let d = order_of space p in
-      sat_top (bound (as_bounds xs) s d + merge_cost space s g i) (bound (as_bounds xs) (with_table s (table_of i.path)) k) (v.joins.1 s d g i k (listed s d (reached p r d (inl (merge_useful space s d g i (plan_in_whole space p r) can, refl)))) can f)
-  reached (Sort p o) (sort p' o' r can) k f = by_cases (IsUseful space (tables_of space p) (order_of space p)) _ _ (λ u. sorted p o k can f (λ k' f'. listed _ k' (reached p r k' f')) u)
-    where
-      sorted : (p : Plan) (o k : ℕ) → CanSort space (tables_of space p) o → Folds space (tables_of space p) o k → ((k' : ℕ) → Folds space (tables_of space p) (order_of space p) k' → IsListed (as_bounds xs) (tables_of space p) k') → IsUseful space (tables_of space p) (order_of space p) ⊎ (IsUseful space (tables_of space p) (order_of space p) → ⊥) → bound (as_bounds xs) (tables_of space p) k ≤ limit
-      sorted p o k can f low (inl u) = sat_top (bound (as_bounds xs) (tables_of space p) (order_of space p) + space.sort_cost (tables_of space p)) (bound (as_bounds xs) (tables_of space p) k) (v.sorts (tables_of space p) (order_of space p) o k (low (order_of space p) (inl (u, refl))) can f)
-      sorted p o k can f low (inr useless) = sat_top (bound (as_bounds xs) (tables_of space p) 0 + space.sort_cost (tables_of space p)) (bound (as_bounds xs) (tables_of space p) k) (v.sorts (tables_of space p) 0 o k (low 0 (inr (useless, refl))) can f)
+  reached = every_plan space (λ s k p. bound (as_bounds xs) s k ≤ limit)
+      (λ A s k p f. by_cases A (bound (as_bounds xs) s k) limit f)
+      (λ path folded below is_path folds. let le = v.accesses path folded below is_path folds in let w = small 0 path in omega (arith, le, w))
+      (λ p path k folded le can folds. sat_top _ _ (v.joins.0 (tables_of space p) k path folded (listed _ k le) can folds))
+      (λ p g inner k folded le can folds. sat_top _ _ (v.joins.1 (tables_of space p) k g inner folded (listed _ k le) can folds))
+      (λ p into k folded le can folds. sat_top _ _ (v.sorts (tables_of space p) k into folded (listed _ k le) can folds))
 
 -- some state of the tables is listed, or none is
 any_on : (xs : List StateCost) (s : ℕ) → ((k : ℕ) × (w : ℕ) × Lists xs s k w) ⊎ ((k w : ℕ) → Lists xs s k w → ⊥)

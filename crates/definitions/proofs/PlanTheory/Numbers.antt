@@ -1,6 +1,5 @@
 use Prim.Native.Nat.{zero}
-use Rattle.std.proofs.Common.{suc, sym, ap, ◌∙◌, ◌≡◌, ℕ, ◌+◌, ◌<◌, ◌⊎◌, inl, inr, List, [], ◌∷◌, length, Bool, true, false, not, cond, ◌&&◌, nat_eq, if◌then◌else◌, arith, refl, rules}
-use Rattle.std.proofs.Math.ListN.{get_or}
+use Rattle.std.proofs.Common.{suc, sym, ap, ◌∙◌, ◌≡◌, ℕ, ◌+◌, ◌⊎◌, inl, inr, List, [], ◌∷◌, Bool, true, false, not, cond, ◌&&◌, nat_eq, arith, refl, rules}
 use Rattle.std.proofs.lemmas.Bool.{false≢true}
 use Rattle.std.proofs.lemmas.List.Elements.{Contains-get_or}
 use Rattle.std.specs.Prelude.{⊤, Contains, filter}

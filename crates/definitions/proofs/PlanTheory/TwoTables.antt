@@ -1,10 +1,9 @@
 use Prim.Native.Nat.{zero}
-use Rattle.std.proofs.Common.{suc, sym, ap, ◌∙◌, ◌≡◌, ◌≢◌, ℕ, ◌+◌, ◌<◌, ◌≤◌, ◌⊎◌, inl, inr, List, [], ◌∷◌, Bool, true, false, Option, Some, None, slice_get, slice_index_or, if◌then◌else◌, nat_eq, lit≤, arith, refl, rules}
+use Rattle.std.proofs.Common.{suc, sym, ap, ◌∙◌, ◌≡◌, ℕ, ◌+◌, ◌<◌, ◌≤◌, ◌⊎◌, inl, inr, [], ◌∷◌, Bool, true, false, Some, slice_index_or, if◌then◌else◌, nat_eq, lit≤, arith, refl, rules}
 use Rattle.std.proofs.Math.ListN.{get_or}
 use Rattle.std.proofs.lemmas.Bool.{cases_lt, false≢true}
 use Rattle.std.proofs.lemmas.List.Elements.{All-from_recursion, All-contains}
 use Rattle.std.specs.Prelude.{drop, All, Contains}
-use Rattle.std.specs.List.{AllByRecursion}
 use Rattle.definitions.specs.Plans.TableSet.{Has, Lacks, only, with_table}
 use Rattle.definitions.specs.Plans.Order.{BlockColumn, SortKey, Order, ascending}
 use Rattle.definitions.specs.Plans.Conjunct.{Conjunct}

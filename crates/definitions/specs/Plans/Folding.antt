@@ -2,7 +2,7 @@
 -- each set of tables and interesting order; that orders of no further use fold into one is own).
 use Rattle.std.specs.Prelude.{ℕ, ◌≤◌, ◌≡◌, ◌≢◌, ◌⊎◌, [], ◌∷◌, false}
 use Rattle.definitions.specs.Plans.TableSet.{TableSet, Lacks}
-use Rattle.definitions.specs.Plans.Order.{BlockColumn, SortKey, Order, OrderNumber}
+use Rattle.definitions.specs.Plans.Order.{BlockColumn, Order, OrderNumber}
 use Rattle.definitions.specs.Plans.Plan.{Plan}
 use Rattle.definitions.specs.Plans.Space.{Space, whole, order_at}
 use Rattle.definitions.specs.Plans.ColumnClass.{SameClass, Satisfies}

@@ -16,7 +16,7 @@ module _ (space : Space) where
   Links tables table = (number : ℕ) × (conjunct : Conjunct) × (slice_get space.conjuncts number ≡ Some conjunct) × (conjunct.early ≡ true) × Has conjunct.tables table
       × ((other : ℕ) × Has tables other × Has conjunct.tables other) × ((other : ℕ) → Has conjunct.tables other → Has (with_table tables table) other)
 
-  -- a table outside the set that is linked to it, or any where none is: products of tables come last, unless they are free
+  -- a table outside the set that is linked to it, or any where none is: products of tables come last, as there, unless they are free
   abbrev pub MayFollow : TableSet → ℕ → Type 0
   MayFollow tables table = (table < space.table_count) × Lacks tables table
       × ((space.free_products ≡ true) ⊎ Links tables table ⊎ ((other : ℕ) → other < space.table_count → Lacks tables other → Links tables other → ⊥))

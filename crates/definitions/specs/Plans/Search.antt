@@ -33,8 +33,8 @@ IsCheapest space states plan = InSpace space plan × GivesRequired space plan ×
 abbrev pub certificate_below : ℕ → List StateCost → Certificate
 certificate_below target states = record { target = target; states = filter (λ (state : StateCost). nat_lt state.cost target) states }
 
--- what holds of the space of every block: each table can be scanned, order 0 is the empty one, the required order is empty or
--- numbered, and no path costs more than the limit
+-- the space of a block with a table or more: each can be scanned, order 0 is the empty one, the required order is empty or numbered,
+-- and no path costs more than the limit
 pub record IsComplete (space : Space) : Type 0 where
   pub some : 0 < space.table_count
   pub scans : (tables : TableSet) (table : ℕ) → table < space.table_count → IsPath space tables (SegmentScan table)
