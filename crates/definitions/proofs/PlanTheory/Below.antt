@@ -5,15 +5,16 @@ use Rattle.std.proofs.lemmas.List.Elements.{All-filter, Contains-get_or}
 use Rattle.std.specs.Prelude.{Contains, All, filter}
 use Rattle.definitions.specs.Plans.TableSet.{only}
 use Rattle.definitions.specs.Plans.Path.{table_of}
-use Rattle.definitions.specs.Plans.Plan.{Plan}
+use Rattle.definitions.specs.Plans.Plan.{Plan, Access, Loop, Merge, Sort}
 use Rattle.definitions.specs.Plans.Space.{Space, whole, IsOver}
+use Rattle.definitions.specs.Plans.PlanSpace.{IsPlan, access}
 use Rattle.definitions.specs.Plans.Cost.{limit, saturated, cost_of}
 use Rattle.definitions.specs.Plans.Certificate.{StateCost, Lists, IsListed, listed_or, bound, Precedes, AreRising}
 use Rattle.definitions.specs.Plans.Validity.{NoneFinal, KeepsBounds, IsValid}
 use Rattle.definitions.specs.Plans.Exact.{IsExact, AreAttained}
-use Rattle.definitions.specs.Plans.Search.{as_bounds, IsSolved, IsCheapest, certificate_below}
+use Rattle.definitions.specs.Plans.Search.{as_bounds, IsSolved, IsCheapest, certificate_below, IsComplete}
 use Rattle.definitions.proofs.PlanTheory.Elements.{filter_had, filter_has}
-use Rattle.definitions.proofs.PlanTheory.Bounds.{bound_cases, within_target}
+use Rattle.definitions.proofs.PlanTheory.Bounds.{bound_cases, within_target, least}
 use Rattle.definitions.proofs.PlanTheory.Exactness.{listed_cost, exact}
 
 abbrev is_below : ℕ → StateCost → Bool
@@ -91,9 +92,16 @@ module _ (space : Space) (xs : List StateCost) (v : IsSolved space xs) (target :
     sorts = λ s k into folded l can folds. let was = was_listed s k l in still_within _ _ _ _ _ (below_all _ folded) (v.sorts s k into folded was.0 can folds) was.1;
   }
 
+-- no plan of a complete space costs more than the limit
+cost_within : (space : Space) → IsComplete space → (p : Plan) → IsPlan space p → cost_of space p ≤ limit
+cost_within space complete (Access path) (access path' below is_path) = complete.costs path below is_path
+cost_within space complete (Loop p path) is_plan = omega arith
+cost_within space complete (Merge p g inner) is_plan = omega arith
+cost_within space complete (Sort p into) is_plan = omega arith
+
 -- the solved states below the cost of the cheapest plan are a certificate, valid and exact
-pub searched : (space : Space) (xs : List StateCost) (p : Plan) → IsSolved space xs → IsCheapest space xs p → IsValid space p (certificate_below (cost_of space p) xs) × IsExact space (certificate_below (cost_of space p) xs)
-searched space xs p v (inside, gives, small, cheapest) = (valid, exact space p (certificate_below (cost_of space p) xs) valid attained)
+pub searched : (space : Space) (xs : List StateCost) (p : Plan) → IsComplete space → IsSolved space xs → IsCheapest space xs p → IsValid space p (certificate_below (cost_of space p) xs) × IsExact space (certificate_below (cost_of space p) xs)
+searched space xs p complete v (inside, gives, cheapest) = (valid, exact space p (certificate_below (cost_of space p) xs) valid attained)
   where
     none_final : NoneFinal space (certificate_below (cost_of space p) xs)
     none_final k (w, there) gives' =
@@ -103,7 +111,7 @@ searched space xs p v (inside, gives, small, cheapest) = (valid, exact space p (
         absurd (omega arith)
 
     valid : IsValid space p (certificate_below (cost_of space p) xs)
-    valid = (below_keeps space xs v (cost_of space p) small, (none_final, (inside, gives, refl)))
+    valid = (below_keeps space xs v (cost_of space p) (cost_within space complete p inside.0), (none_final, (inside, gives, refl)))
 
     attained : AreAttained space (certificate_below (cost_of space p) xs).states
     attained s k w there = v.attained s k w (kept_was (cost_of space p) xs _ there).0

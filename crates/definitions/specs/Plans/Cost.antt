@@ -1,5 +1,5 @@
 -- What plans cost (own, after Selinger et al. 1979, section 4: pages fetched, with a weight, and calls for a row).
-use Rattle.std.specs.Prelude.{ℕ, ◌+◌, ◌*◌, ◌^◌, true, false, Option, Some, None, min, slice_get}
+use Rattle.std.specs.Prelude.{ℕ, ◌+◌, ◌*◌, ◌^◌, if◌then◌else◌, Option, Some, None, min, slice_get}
 use Rattle.std.specs.Int.{div_ceil}
 use Rattle.definitions.specs.Plans.TableSet.{TableSet, no_tables, only}
 use Rattle.definitions.specs.Plans.Conjunct.{Conjunct}
@@ -28,8 +28,9 @@ module _ (space : Space) where
   abbrev pub loop_cost : TableSet → Path → ℕ
   loop_cost tables path = saturated (space.cardinality tables * space.path_cost tables path)
 
+  -- one scan of the path, and the sort of its rows if there is one
   abbrev pub inner_cost : Inner → ℕ
-  inner_cost inner = elim inner.sorted [ true ↦ saturated (space.path_cost no_tables inner.path + space.sort_cost (only (table_of inner.path))) | false ↦ space.path_cost no_tables inner.path ]
+  inner_cost inner = if inner.sorted then saturated (space.path_cost no_tables inner.path + space.sort_cost (only (table_of inner.path))) else space.path_cost no_tables inner.path
 
   -- one scan of the inner side, and the pairs of rows that the conjunct is taken to leave
   abbrev pub merge_cost : TableSet → ℕ → Inner → ℕ

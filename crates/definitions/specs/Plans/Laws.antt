@@ -1,5 +1,5 @@
 -- What holds of plans, costs and certificates in every space, each proved as the contract of a function that has no code.
-use Rattle.std.specs.Prelude.{ℕ, ◌<◌, ◌≤◌, ◌≡◌, List, [], length, get_or, Contains}
+use Rattle.std.specs.Prelude.{◌<◌, ◌≤◌, ◌≡◌, List, [], length, get_or, Contains}
 use Rattle.definitions.specs.Plans.TableSet.{TableSet}
 use Rattle.definitions.specs.Plans.Order.{Order, OrderNumber}
 use Rattle.definitions.specs.Plans.Conjunct.{Conjunct}
@@ -43,21 +43,22 @@ VerdictsAgree = (space : Space) (plan : Plan) (certificate : Certificate) (a b :
 
 -- ---- searches
 
--- the solved states that cost less than the cheapest plan are its certificate, valid and exact
+-- the solved states that cost less than the cheapest plan are a certificate, valid and exact for it
 abbrev pub SolvedIsExact : Type 0
-SolvedIsExact = (space : Space) (states : List StateCost) (plan : Plan) → IsSolved space states → IsCheapest space states plan
+SolvedIsExact = (space : Space) (states : List StateCost) (plan : Plan) → IsComplete space → IsSolved space states → IsCheapest space states plan
     → IsValid space plan (certificate_below (cost_of space plan) states) × IsExact space (certificate_below (cost_of space plan) states)
 
 -- some plan of a complete space gives the required order
 abbrev pub SpaceHasPlan : Type 0
 SpaceHasPlan = (space : Space) → IsComplete space → (plan : Plan) × InSpace space plan × GivesRequired space plan
 
--- a search has solved a state on all tables that gives the required order
+-- a search has solved a state on all tables that gives the required order, with a plan that gives it
 abbrev pub SearchFinds : Type 0
 SearchFinds = (space : Space) (states : List StateCost) → IsComplete space → IsSolved space states
-    → (order : OrderNumber) × (cost : ℕ) × Lists states (whole space) order cost × Satisfies space (whole space) (order_at space order) space.required
+    → (order : OrderNumber) × (plan : Plan) × Lists states (whole space) order (cost_of space plan) × Satisfies space (whole space) (order_at space order) space.required
+    × InSpace space plan × GivesRequired space plan
 
--- and each plan on such a state gives it
+-- as each plan on such a state does
 abbrev pub FoundGivesRequired : Type 0
 FoundGivesRequired = (space : Space) (order : OrderNumber) (plan : Plan) → IsComplete space → IsOn space (whole space) order plan
     → Satisfies space (whole space) (order_at space order) space.required → InSpace space plan × GivesRequired space plan

@@ -35,10 +35,10 @@ module _ (space : Space) where
 
   -- a path of the table alone, whose rows are sorted by the column or come in its order
   abbrev pub IsInner : BlockColumn → Inner → Type 0
-  IsInner y inner = IsPath no_tables inner.path
-      × ((inner.sorted ≡ true) ⊎ ((inner.sorted ≡ false) × Satisfies space (only (table_of inner.path)) (order_at space (space.path_order inner.path)) (ascending y)))
+  IsInner column inner = IsPath no_tables inner.path
+      × ((inner.sorted ≡ true) ⊎ ((inner.sorted ≡ false) × Satisfies space (only (table_of inner.path)) (order_at space (space.path_order inner.path)) (ascending column)))
 
-  -- both sides are in order of their column of a merge conjunct
+  -- both sides are in the order of their column of a merge conjunct: x is of the set, y of the table that comes next
   abbrev pub CanMerge : TableSet → OrderNumber → ℕ → Inner → Type 0
   CanMerge tables order number inner = MayFollow tables (table_of inner.path)
       × ((x : BlockColumn) × (y : BlockColumn) × IsMergeConjunct number x y × Has tables x.table × (y.table ≡ table_of inner.path)
