@@ -1,7 +1,10 @@
 //! Plans, their costs, and how a certificate shows that a plan is least (docs/PLANS.md): laws over the definitions of
 //! `specs/Plans`, and worked examples of them. No engine uses them yet.
-ghost use Rattle.definitions.specs.Plans.Laws.{BoundsHold, ValidIsLeast, AttainedIsExact, RefusedIsNotValid, VerdictsAgree, SolvedIsExact, SpaceHasPlan, SearchFinds, FoundGivesRequired, EachIsNumbered, NoOtherIsNumbered, NumberedOnce, EmptyIsFirst};
-ghost use Rattle.definitions.specs.Plans.Examples.{NeedsTwoSorts, LoopsCostMore, TwoSortsAreLeast, EmptyIsRefused, LowerIsRefused, CostStops, ProductsAndClasses, RequiredComesFirst, RepeatsAreLeftOut};
+ghost use Rattle.definitions.specs.Plans.Laws.{BoundsHold, ValidIsLeast, AttainedIsExact, RefusedIsNotValid, VerdictsAgree};
+ghost use Rattle.definitions.specs.Plans.Laws.{SolvedIsExact, SpaceHasPlan, SearchFinds, FoundGivesRequired};
+ghost use Rattle.definitions.specs.Plans.Laws.{EachIsNumbered, NoOtherIsNumbered, NumberedOnce, EmptyIsFirst};
+ghost use Rattle.definitions.specs.Plans.Examples.{NeedsTwoSorts, LoopsCostMore, TwoSortsAreLeast, EmptyIsRefused, LowerIsRefused, CostStops};
+ghost use Rattle.definitions.specs.Plans.Examples.{ProductsAndClasses, RequiredComesFirst, RepeatsAreLeftOut};
 
 /// No plan costs less than the bound of its state.
 pub fn bounds_hold()

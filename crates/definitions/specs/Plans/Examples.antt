@@ -124,7 +124,8 @@ product_merged_by number = Merge (Loop (Sort (scan_of 0) 1) (SegmentScan 2)) num
 -- where products are free the product merges by X = Y; by Y = Z it doesn't, as X and Z are of one class only once B is there; and
 -- where they come last there is no such product, as B is linked to A and C isn't
 abbrev pub ProductsAndClasses : Type 0
-ProductsAndClasses = InSpace three_tables_freely (product_merged_by 0) × (InSpace three_tables_freely (product_merged_by 1) → ⊥) × (InSpace three_tables (product_merged_by 0) → ⊥)
+ProductsAndClasses = InSpace three_tables_freely (product_merged_by 0) × (InSpace three_tables_freely (product_merged_by 1) → ⊥)
+    × (InSpace three_tables (product_merged_by 0) → ⊥)
 
 -- ---- numbers of orders: the two tables with ORDER BY Y
 

@@ -12,7 +12,8 @@ use Rattle.definitions.specs.Plans.Cost.{cost_of}
 module _ (space : Space) where
   -- a merge with a table outside the set may go by the column, or by one of its class under all tables
   abbrev pub AwaitsMerge : TableSet → BlockColumn → Type 0
-  AwaitsMerge tables column = (number : ℕ) × (x : BlockColumn) × (y : BlockColumn) × IsMergeConjunct space number x y × Lacks tables y.table × SameClass space (whole space) column x
+  AwaitsMerge tables column = (number : ℕ) × (x : BlockColumn) × (y : BlockColumn)
+      × IsMergeConjunct space number x y × Lacks tables y.table × SameClass space (whole space) column x
 
   abbrev pub OpensMerge : TableSet → Order → Type 0
   OpensMerge tables [] = ⊥
@@ -20,7 +21,8 @@ module _ (space : Space) where
 
   -- an order is useful at a set of tables if it gives a required order that is not empty, or opens a merge that is still to come
   abbrev pub IsUseful : TableSet → OrderNumber → Type 0
-  IsUseful tables order = ((space.required ≢ []) × Satisfies space (whole space) (order_at space order) space.required) ⊎ OpensMerge tables (order_at space order)
+  IsUseful tables order = ((space.required ≢ []) × Satisfies space (whole space) (order_at space order) space.required)
+      ⊎ OpensMerge tables (order_at space order)
 
   -- the fold of an order: itself where it is useful, else the empty order
   abbrev pub Folds : TableSet → OrderNumber → OrderNumber → Type 0

@@ -30,7 +30,8 @@ ValidIsLeast = (space : Space) (plan : Plan) (certificate : Certificate) → IsV
 
 -- a valid certificate whose listed costs are attained is exact
 abbrev pub AttainedIsExact : Type 0
-AttainedIsExact = (space : Space) (plan : Plan) (certificate : Certificate) → IsValid space plan certificate → AreAttained space certificate.states → IsExact space certificate
+AttainedIsExact = (space : Space) (plan : Plan) (certificate : Certificate) → IsValid space plan certificate
+    → AreAttained space certificate.states → IsExact space certificate
 
 -- a certificate that a checker refuses isn't valid
 abbrev pub RefusedIsNotValid : Type 0
@@ -39,7 +40,8 @@ RefusedIsNotValid = (space : Space) (plan : Plan) (certificate : Certificate) (r
 
 -- and all verdicts on one agree on the rule that fails
 abbrev pub VerdictsAgree : Type 0
-VerdictsAgree = (space : Space) (plan : Plan) (certificate : Certificate) (a b : Verdict) → IsVerdict space certificate plan a → IsVerdict space certificate plan b → rule_of a ≡ rule_of b
+VerdictsAgree = (space : Space) (plan : Plan) (certificate : Certificate) (a b : Verdict)
+    → IsVerdict space certificate plan a → IsVerdict space certificate plan b → rule_of a ≡ rule_of b
 
 -- ---- searches
 
@@ -55,7 +57,8 @@ SpaceHasPlan = (space : Space) → IsComplete space → (plan : Plan) × InSpace
 -- a search has solved a state on all tables that gives the required order, with a plan that gives it
 abbrev pub SearchFinds : Type 0
 SearchFinds = (space : Space) (states : List StateCost) → IsComplete space → IsSolved space states
-    → (order : OrderNumber) × (plan : Plan) × Lists states (whole space) order (cost_of space plan) × Satisfies space (whole space) (order_at space order) space.required
+    → (order : OrderNumber) × (plan : Plan) × Lists states (whole space) order (cost_of space plan)
+    × Satisfies space (whole space) (order_at space order) space.required
     × InSpace space plan × GivesRequired space plan
 
 -- as each plan on such a state does
@@ -78,7 +81,8 @@ NoOtherIsNumbered = (orders : List Order) (order : Order) → Contains (without_
 
 -- and none has two
 abbrev pub NumberedOnce : Type 0
-NumberedOnce = (orders : List Order) (order : Order) (a b : OrderNumber) → HasNumber (without_repeats orders) order a → HasNumber (without_repeats orders) order b → a ≡ b
+NumberedOnce = (orders : List Order) (order : Order) (a b : OrderNumber)
+    → HasNumber (without_repeats orders) order a → HasNumber (without_repeats orders) order b → a ≡ b
 
 -- the empty order has the number 0
 abbrev pub EmptyIsFirst : Type 0
