@@ -5,3 +5,4 @@ pub mod Ranking
 mod Quoting
 mod Examples
 mod Runs
+pub mod PlanTheory
