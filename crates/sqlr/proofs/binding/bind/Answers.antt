@@ -2,7 +2,7 @@ use Rattle.std.proofs.Common.{◌≡◌, ◌≤◌, sym, inl, Some, length, map,
 use Rattle.std.proofs.lemmas.List.{length-map}
 use Rattle.definitions.specs.Table.{table_named}
 use Rattle.definitions.specs.Refusal as r
-use Rattle.catalog.specs.Sound.{IsSound}
+use Rattle.definitions.specs.Table as table
 use Rattle.syntax.specs.Trees.{item_of, block_of}
 use Rattle.sqlr.specs.Binding.{IsFrom}
 use Rattle.sqlr.proofs.Bound.{bound_accepted, condition_fault, found_each, rows_answered, unknown_item}
@@ -33,5 +33,5 @@ returns-clause-accepted c =
 pub returns-clause-rows : goal.returns-clause-rows
 returns-clause-rows c =
     let named : table_named c.args.database.now c.source_name.result.now ≡ Some c.in-Some.table.now = sym c.in-Some.ensures.named in
-    let sound : IsSound c.in-Some.table.now = found_each IsSound _ _ _ c.table.ensures.sound.each named in
-    rows_answered _ (block_of c.args.block.now) _ _ _ c.requires (rw c.deref.ensures.value at c.in-Ok.ensures.places) c.in-Ok-bind_condition.ensures.binds sound.typed
+    let valid : table.IsTable c.in-Some.table.now = found_each table.IsTable _ _ _ c.table.ensures.valid.each named in
+    rows_answered _ (block_of c.args.block.now) _ _ _ c.requires (rw c.deref.ensures.value at c.in-Ok.ensures.places) c.in-Ok-bind_condition.ensures.binds valid.typed
