@@ -1,16 +1,18 @@
 -- Rows that load have values of their columns' types.
-use Rattle.std.proofs.Common.{◌≡◌, ◌∙◌, refl, ap, ◌+◌, ◌≤◌, ◌<◌, List, [], ◌∷◌, ◌++◌, Option, Some, None, Bool, true, false, cond, Result, Ok, Err, ℕ, zero, suc, length, map, get_or, set, arith}
+use Rattle.std.proofs.Common.{◌≡◌, ◌∙◌, refl, sym, ap, subst, ◌+◌, ◌≤◌, ◌<◌, List, [], ◌∷◌, ◌++◌, Option, Some, None, Bool, true, false, cond, Result, Ok, Err, ℕ, zero, suc, length, map, get_or, set, arith}
 use Rattle.std.specs.Prelude.{IsFalse, IfOk, OnErr, bytes_eq}
 use Rattle.std.specs.List.{AllByRecursion}
 use Rattle.std.proofs.lemmas.List.{length-append, length-map, length_push, length-set, set-get_or, map-append}
 use Rattle.definitions.specs.Value.{Value, Null, SqlType, HasType, IsType}
 use Rattle.definitions.specs.Statement.{Name, ColumnDefinition}
 use Rattle.definitions.specs.Refusal.{Refusal, FieldError, definition_names}
+use Rattle.definitions.specs.Refusal as refusal
 use Rattle.definitions.specs.Loading as load
 use Rattle.definitions.specs.Loading.{Record, FieldLoads, FieldsLoad, RecordLoads, AllLoad}
 use Rattle.definitions.specs.Table as table
 use Rattle.definitions.specs.Table.{Column, Row, Table, Database, table_named, IsRow, IsTable, IsDatabase, AreDistinct, column_names, column_of, new_table}
 use Rattle.catalog.specs.Creates.{AreTypes}
+use Rattle.catalog.specs.Stored.{StoredColumn, headers}
 use Rattle.catalog.specs.Loads.{LoadsRows}
 use Rattle.catalog.specs.declared.fault.LoadFault.{LoadFault}
 
@@ -139,3 +141,15 @@ pub database_pushed : (pushed : Bool) (db new : Database) (t : Table) (name : Na
     → table_named db name ≡ None → IsDatabase new
 database_pushed true db new t name ds e h s i few n = rw e (database_push db t s i few (ap (λ (u : Table). table_named db u.name) h ∙ n))
 database_pushed false db new t name ds e h s i few n = rw e s
+
+-- the type of each column is one that columns may have
+pub type_at : (cs : List StoredColumn) (i : ℕ) (x : StoredColumn) → AllByRecursion (λ (c : Column). IsType c.type) (headers cs) → i < length (headers cs) → x ≡ get_or cs i x → IsType x.header.type
+type_at [] i x h l e = absurd (omega (arith, l))
+type_at (c ∷ cs) zero x h l e = subst (λ (y : StoredColumn). IsType y.header.type) (sym e) h.0
+type_at (c ∷ cs) (suc i) x h l e = type_at cs i x h.1 (omega (arith, l)) e
+
+-- a field's refusal is its fault
+pub field_fault_is : (type : SqlType) (field : List ℕ) (f : FieldError) → ((e : FieldError) × (refusal.Field f ≡ refusal.Field e) × FieldLoads type field (Err e)) → FieldLoads type field (Err f)
+field_fault_is type field f (e, same, loads) =
+    let back : e ≡ f = cc in
+    subst (λ x. FieldLoads type field (Err x)) back loads

@@ -14,3 +14,4 @@ pub mod Places
 pub mod Creates
 pub mod Loads
 pub mod Files
+pub mod Judging

@@ -44,10 +44,16 @@ impl Column {
         })
     }
 
+    pub(crate) fn name(&self) -> &str
+        ensures { result.now ≡ self.now.header.name }
+    {
+        self.name.as_str()
+    }
+
     pub(crate) fn is_named(&self, name: &str) -> bool
         ensures { result ≡ bytes_eq self.now.header.name name.now }
     {
-        self.name.as_str() == name
+        self.name() == name
     }
 
     pub(crate) fn sql_type(&self) -> SqlType

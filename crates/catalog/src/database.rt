@@ -85,6 +85,13 @@ impl Database {
         }
     }
 
+    /// The tables, in the order in which they were made.
+    pub fn tables(&self) -> &[Table]
+        ensures { result.now ≡ self.now }
+    {
+        self.tables.as_slice()
+    }
+
     /// The table of a name.
     pub fn table(&self, name: &str) -> Option<&Table>
         ensures named { option_copied result ≡ table_named self.now name.now }

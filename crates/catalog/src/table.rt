@@ -3,14 +3,15 @@
 ghost use Rattle.std.specs.Prelude.{◌≡◌, ◌<◌, ◌≤◌, ◌↔◌, Some, None, IsNone, IfOk, IfErr, OnOk, OnErr, IfSome, length, bytes_eq, option_map, slice_get};
 ghost use Rattle.std.specs.List.{AllByRecursion, position_from};
 ghost use Rattle.definitions.specs.Table as spec;
+ghost use Rattle.definitions.specs.Value.{IsType};
 ghost use Rattle.catalog.specs.Places.{IsColumnPlace};
 ghost use Rattle.sqlvalue.specs.Meaning.{type_of, value_of};
 
 use crate::column::Column;
-use crate::fault::{CreateFault, LoadFault};
+use crate::fault::{CreateFault, FieldFault, LoadFault, PushFault, RecordFault};
 use crate::file;
 use sqlvalue::{DeclaredType, SqlType, Value};
-use std::alloc::Global;
+use std::alloc::{AllocError, Global};
 use std::marker::Model;
 
 /// How many rows a table may have.
@@ -47,6 +48,7 @@ impl Model for Table {
 impl Table {
     ghost use Rattle.catalog.specs.Meaning.{cell_at, definitions_of};
     ghost use Rattle.catalog.specs.Creates.{AreTypes, RefusesTypes};
+    ghost use Rattle.catalog.specs.Judging.{JudgesField};
     ghost use Rattle.catalog.specs.Loads.{LoadsRows, RefusesRows};
     ghost use Rattle.definitions.specs.Refusal.{definition_names};
 
@@ -84,7 +86,29 @@ impl Table {
     pub(crate) fn is_named(&self, name: &str) -> bool
         ensures { result ≡ bytes_eq self.now.name name.now }
     {
-        self.name.as_str() == name
+        self.name() == name
+    }
+
+    /// The table's name.
+    pub fn name(&self) -> &str
+        ensures { result.now ≡ self.now.name }
+    {
+        self.name.as_str()
+    }
+
+    /// How many columns the table has.
+    pub fn width(&self) -> usize
+        ensures { result ≡ length self.now.columns }
+    {
+        self.columns.len()
+    }
+
+    /// The name of a column.
+    pub fn column_name(&self, column: usize) -> &str
+        requires { column < length self.now.columns }
+        ensures { option_map (λ (c : spec.Column). c.name) (slice_get self.now.columns column) ≡ Some result.now }
+    {
+        self.columns[column].name()
     }
 
     /// How many rows the table has. Each has a value for each column, of its type.
@@ -115,7 +139,8 @@ impl Table {
     /// The type of a column.
     pub fn sql_type(&self, column: usize) -> SqlType
         requires { column < length self.now.columns }
-        ensures { option_map (λ (c : spec.Column). c.type) (slice_get self.now.columns column) ≡ Some (type_of result) }
+        ensures exact { option_map (λ (c : spec.Column). c.type) (slice_get self.now.columns column) ≡ Some (type_of result) }
+        ensures valid { IsType (type_of result) }
     {
         self.columns[column].sql_type()
     }
@@ -127,6 +152,25 @@ impl Table {
         ensures { value_of result ≡ cell_at self.now row column }
     {
         self.columns[column].cell(row)
+    }
+
+    /// Why a field of a file does not load into a column, if it does not (own).
+    pub fn field_fault(
+        &self,
+        alloc: Global,
+        column: usize,
+        field: &[u8],
+    ) -> Result<Option<FieldFault>, AllocError>
+        requires { column < length self.now.columns }
+        ensures { IfOk result (JudgesField self.now.columns column field.now) }
+    {
+        let mut scratch = Column::new(alloc, "", self.sql_type(column))?;
+        match scratch.push_field(field) {
+            Ok(()) => Ok(None),
+            Err(PushFault::Refused(RecordFault::Field(fault))) => Ok(Some(fault)),
+            Err(PushFault::Refused(RecordFault::FieldCount)) => unreachable!(),
+            Err(PushFault::Memory) => Err(AllocError),
+        }
     }
 
     /// LOAD of the bytes of a file (own): adds a row for each record, and says how many. An `Err`

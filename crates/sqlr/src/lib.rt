@@ -14,6 +14,7 @@ mod session;
 mod sink;
 mod words;
 
+pub use diagnostics::{Message, Place, Problem, Report};
 pub use ended::{Ended, RunFault, status};
 pub use library::{FetchFault, Fetched, Library};
 pub use session::Session;

@@ -9,13 +9,15 @@ ghost use Rattle.sqlr.specs.Meaning.{refusal_of};
 use crate::ended::Ended;
 use crate::printing::{write_record_refusal, write_refusal};
 use crate::refusal::Refusal;
-use std::alloc::Global;
+use diagnostics::Message;
+use std::alloc::{AllocError, Global};
 
-/// What a statement prints, and how it ended.
+/// What a statement prints, how it ended, and what people are told beside.
 #[derive(Drop)]
 pub struct Printed {
     pub text: Vec<u8>,
     pub ended: Ended,
+    pub message: Option<Message>,
 }
 
 /// Why a statement broke off.
@@ -25,7 +27,11 @@ pub enum StepFault {
 }
 
 /// A refused statement's line.
-pub fn refused(alloc: Global, refusal: Refusal) -> Result<Printed, StepFault>
+pub fn refused(
+    alloc: Global,
+    refusal: Refusal,
+    message: Option<Message>,
+) -> Result<Printed, StepFault>
     ensures text { IfOk result (λ p. p.text.items ≡ refusal_text (refusal_of refusal)) }
     ensures ended { IfOk result (λ p. p.ended ≡ ended.Faulted) }
     ensures memory { IfErr result (λ f. f ≡ fault.Memory) }
@@ -35,13 +41,19 @@ pub fn refused(alloc: Global, refusal: Refusal) -> Result<Printed, StepFault>
         Ok(()) => Ok(Printed {
             text,
             ended: Ended::Faulted,
+            message,
         }),
         Err(_) => Err(StepFault::Memory),
     }
 }
 
 /// The line of a LOAD whose record of this number is refused.
-pub fn refused_record(alloc: Global, refusal: Refusal, number: u64) -> Result<Printed, StepFault>
+pub fn refused_record(
+    alloc: Global,
+    refusal: Refusal,
+    number: u64,
+    message: Option<Message>,
+) -> Result<Printed, StepFault>
     ensures text { IfOk result (λ p. p.text.items ≡ record_refusal_text (refusal_of refusal) number) }
     ensures ended { IfOk result (λ p. p.ended ≡ ended.Faulted) }
     ensures memory { IfErr result (λ f. f ≡ fault.Memory) }
@@ -51,7 +63,16 @@ pub fn refused_record(alloc: Global, refusal: Refusal, number: u64) -> Result<Pr
         Ok(()) => Ok(Printed {
             text,
             ended: Ended::Faulted,
+            message,
         }),
         Err(_) => Err(StepFault::Memory),
+    }
+}
+
+/// A message, where there is memory for it.
+pub fn told(message: Result<Option<Message>, AllocError>) -> Option<Message> {
+    match message {
+        Ok(message) => message,
+        Err(_) => None,
     }
 }

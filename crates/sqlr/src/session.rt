@@ -16,16 +16,20 @@ ghost use Rattle.sqlr.specs.Simple.{IsSimple, IsSimpleStatement};
 use crate::binding::BindFault;
 use crate::ended::{Ended, RunFault};
 use crate::library::{FetchFault, Fetched, Library};
-use crate::outcome::{Printed, StepFault, refused, refused_record};
+use crate::outcome::{Printed, StepFault, refused, refused_record, told};
 use crate::printing::{LOADED_ROOM, write_fault, write_loaded};
 use crate::refusal::{FieldError, Refusal};
 use crate::script::{ScriptFault, read};
 use crate::select::select;
 use crate::sink::Sink;
 use catalog::{CreateFault, Database, FieldFault, LoadFault, NewColumn, RecordFault};
+use diagnostics::{Message, of_create, of_file, of_load, of_query, of_record, of_rows, of_script};
 use std::alloc::{AllocError, Global};
 use std::marker::Model;
 use syntax::{Block, ColumnDefinition, Name, Statement, StringLiteral};
+
+/// How many messages of a run are kept.
+const MAX_MESSAGES: usize = 1000;
 
 /// A database, and the library that LOAD finds its files in.
 #[derive(Drop)]
@@ -33,6 +37,7 @@ pub struct Session<L: Library> {
     alloc: Global,
     library: L,
     database: Database,
+    messages: Vec<Message>,
 }
 
 impl<L: Library> Model for Session<L> {
@@ -53,7 +58,14 @@ impl<L: Library> Session<L> {
             alloc,
             library,
             database: Database::new(alloc),
+            messages: Vec::new(alloc),
         }
+    }
+
+    /// What people are to be told of the refusals of the last run, beside the printed lines: at most
+    /// its first 1,000 messages, and fewer where memory was wanting (own).
+    pub fn messages(&self) -> &[Message] {
+        self.messages.as_slice()
     }
 
     /// Runs a script, and puts what it prints into a sink, the text of each statement as a whole
@@ -67,10 +79,33 @@ impl<L: Library> Session<L> {
         ensures library { IfErr result (IsLibraryBlamed (L.failures self.old.library) (L.failures self.new.library)) }
         ensures sink { IfErr result (IsSinkBlamed (S.failures sink.old) (S.failures sink.new)) }
     {
+        self.forget();
         match read(self.alloc, script) {
             Ok(statements) => self.run_statements(&statements, sink),
-            Err(ScriptFault::Told { label, at }) => self.tell_fault(label, at, sink),
+            Err(ScriptFault::Told { label, at }) => {
+                self.keep(told(of_script(self.alloc, script)));
+                self.tell_fault(label, at, sink)
+            }
             Err(ScriptFault::Memory) => Err(RunFault::Memory),
+        }
+    }
+
+    /// Forgets the messages of the run before.
+    fn forget(&mut self)
+        ensures { self.new ≡ self.old }
+    {
+        self.messages.clear();
+    }
+
+    /// Keeps a message, if there is room for it.
+    fn keep(&mut self, message: Option<Message>)
+        ensures { self.new ≡ self.old }
+    {
+        if self.messages.len() >= MAX_MESSAGES {
+            return;
+        }
+        if let Some(message) = message {
+            let _ = self.messages.push(message);
         }
     }
 
@@ -113,6 +148,7 @@ impl<L: Library> Session<L> {
                 Err(_) => return Err(RunFault::Sink),
             }
             ended = both(ended, printed.ended);
+            self.keep(printed.message);
         }
         Ok(ended)
     }
@@ -142,21 +178,28 @@ impl<L: Library> Session<L> {
         ensures memory { IfErr result (λ f. f ≡ fault.Memory) }
         ensures library { self.new.library ≡ self.old.library }
     {
-        let columns = match new_columns(self.alloc, columns) {
-            Ok(columns) => columns,
+        let made = match new_columns(self.alloc, columns) {
+            Ok(made) => made,
             Err(_) => return Err(StepFault::Memory),
         };
         let text = match Vec::from_slice(self.alloc, b"OK\n") {
             Ok(text) => text,
             Err(_) => return Err(StepFault::Memory),
         };
-        match self.database.create_table(name.text.as_str(), &columns) {
+        match self.database.create_table(name.text.as_str(), &made) {
             Ok(()) => Ok(Printed {
                 text,
                 ended: Ended::Well,
+                message: None,
             }),
-            Err(CreateFault::NameTaken) => refused(self.alloc, Refusal::NameTaken),
-            Err(CreateFault::OverLimit) => refused(self.alloc, Refusal::OverLimit),
+            Err(CreateFault::NameTaken) => {
+                let message = told(of_create(self.alloc, &self.database, name, columns));
+                refused(self.alloc, Refusal::NameTaken, message)
+            }
+            Err(CreateFault::OverLimit) => {
+                let message = told(of_create(self.alloc, &self.database, name, columns));
+                refused(self.alloc, Refusal::OverLimit, message)
+            }
             Err(CreateFault::Memory) => Err(StepFault::Memory),
         }
     }
@@ -168,18 +211,27 @@ impl<L: Library> Session<L> {
         ensures counted { L.failures self.old.library ≤ L.failures self.new.library }
     {
         if self.database.table(table.text.as_str()).is_none() {
-            return refused(self.alloc, Refusal::NotFound);
+            let message = of_load(self.alloc, &self.database, table).ok();
+            return refused(self.alloc, Refusal::NotFound, message);
         }
         match self.library.fetch(file.text.as_str()) {
-            Ok(Fetched::Bytes(bytes)) => self.load_bytes(table, &bytes),
-            Ok(Fetched::Absent) => refused(self.alloc, Refusal::NoFile),
+            Ok(Fetched::Bytes(bytes)) => self.load_bytes(table, file, &bytes),
+            Ok(Fetched::Absent) => {
+                let message = of_file(self.alloc, file).ok();
+                refused(self.alloc, Refusal::NoFile, message)
+            }
             Err(FetchFault::Device) => Err(StepFault::Library),
             Err(FetchFault::Memory) => Err(StepFault::Memory),
         }
     }
 
     /// Loads the bytes of a file into a table that is there.
-    fn load_bytes(&mut self, table: &Name, bytes: &[u8]) -> Result<Printed, StepFault>
+    fn load_bytes(
+        &mut self,
+        table: &Name,
+        file: &StringLiteral,
+        bytes: &[u8],
+    ) -> Result<Printed, StepFault>
         requires { table_named self.old.database (name_of table.now) ≢ None }
         ensures takes { IfOk result (TakesBytes self.old.database (name_of table.now) bytes.now self.new.database) }
         ensures kept { OnErr result (self.new.database ≡ self.old.database) }
@@ -196,15 +248,31 @@ impl<L: Library> Session<L> {
                 Ok(Printed {
                     text,
                     ended: Ended::Well,
+                    message: None,
                 })
             }
             Err(LoadFault::NoTable) => unreachable!(),
             Err(LoadFault::Record { fault, number }) => {
-                refused_record(self.alloc, record_refusal(fault), number)
+                let message = self.record_message(table, file, bytes, number);
+                refused_record(self.alloc, record_refusal(fault), number, message)
             }
-            Err(LoadFault::TooManyRows) => refused(self.alloc, Refusal::OverLimit),
+            Err(LoadFault::TooManyRows) => {
+                refused(self.alloc, Refusal::OverLimit, Some(of_rows(table)))
+            }
             Err(LoadFault::Memory) => Err(StepFault::Memory),
         }
+    }
+
+    /// What is wrong with a record of a file.
+    fn record_message(
+        &self,
+        table: &Name,
+        file: &StringLiteral,
+        bytes: &[u8],
+        number: u64,
+    ) -> Option<Message> {
+        let table = self.database.table(table.text.as_str())?;
+        told(of_record(self.alloc, table, file, bytes, number))
     }
 
     fn query(&self, block: &Block) -> Result<Printed, StepFault>
@@ -216,8 +284,12 @@ impl<L: Library> Session<L> {
             Ok(text) => Ok(Printed {
                 text,
                 ended: Ended::Well,
+                message: None,
             }),
-            Err(BindFault::Refused(refusal)) => refused(self.alloc, refusal),
+            Err(BindFault::Refused(refusal)) => {
+                let message = told(of_query(self.alloc, &self.database, block));
+                refused(self.alloc, refusal, message)
+            }
             Err(BindFault::Memory) => Err(StepFault::Memory),
         }
     }

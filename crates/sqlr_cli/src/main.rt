@@ -10,7 +10,7 @@ use failures::Failures;
 use folder::Folder;
 use output::Output;
 use sqlr::command_line::Request;
-use sqlr::{Session, request, status};
+use sqlr::{Message, Report, Session, request, status};
 use std::alloc::AllocError;
 use std::fmt::Display;
 use std::marker::Brand;
@@ -103,11 +103,25 @@ fn run_file<F: Ledger, P: Ledger, R: Runtime + AllocGlobal>(
         writer: io::writer(rt),
         failures: put_failures,
     };
-    let run = Session::new(rt.alloc(), folder).run(&script, &mut output);
+    let mut session = Session::new(rt.alloc(), folder);
+    let run = session.run(&script, &mut output);
+    tell(rt, name, &script, session.messages());
     if let Err(fault) = &run {
         let _ = broken_off(rt, name, *fault);
     }
     status(&run)
+}
+
+/// Says on standard error what is wrong with the statements that were refused.
+fn tell<R: Runtime>(rt: &R, script_name: &str, script: &str, messages: &[Message]) {
+    for message in messages {
+        let report = Report {
+            script_name,
+            script,
+            message,
+        };
+        let _ = rt.eprint(format_args!("{report}"));
+    }
 }
 
 /// Says on standard error why nothing more is done.

@@ -1,11 +1,11 @@
-use Rattle.std.proofs.Common.{refl, sym, ap}
+use Rattle.std.proofs.Common.{None, refl, sym, ap}
 use Rattle.sqlr.specs.declared.ended.Ended.TheVariants as e
 use Rattle.sqlr.proofs.Taking.{refusal_told, table_created}
 use Rattle.sqlr.proofs.session.Session.create_table.Goals as goal
 
 pub returns-in-Ok-create_table-clause-takes : goal.returns-in-Ok-create_table-clause-takes
 returns-in-Ok-create_table-clause-takes g c =
-    rw (sym c.self.view_is) (table_created _ (record { library = c.self.inside.library; database = c.self.inside.database }) _ _ _ (record { text = c.in-Ok-from_slice.text; ended = e.Well })
+    rw (sym c.self.view_is) (table_created _ (record { library = c.self.inside.library; database = c.self.inside.database }) _ _ _ (record { text = c.in-Ok-from_slice.text; ended = e.Well; message = None })
     (rw (c.as_str.ensures.value, c.deref.ensures.value, c.in-Ok.ensures) at c.in-Ok-create_table.ensures.accepted)
     (ap (λ db. record { library = c.self.inside.library; database = db }) (rw (c.as_str.ensures.value, c.deref.ensures.value, c.in-Ok.ensures) at c.in-Ok-create_table.ensures.made))
     c.in-Ok-from_slice.ensures.items refl)

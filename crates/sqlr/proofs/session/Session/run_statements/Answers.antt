@@ -22,7 +22,7 @@ returns-in-Err-clause-breaks g c =
 
 pub statements-preserved : goal.statements-preserved
 statements-preserved g c = record {
-  ran = rw (next c.statements.statement-index) (one_more _ _ _ _ c.args.statements.now _ _ _ _ _ _ _ c.in-Ok.printed c.statements-test.true c.statement-item.is c.statements.invariant.ran c.in-Ok.ensures.takes (rw c.deref.ensures.value at c.in-Ok-put.ensures.ok) c.both-ended.ensures);
-  fetches = omega (arith, c.statements.invariant.fetches, c.in-Ok.ensures.counted);
+  ran = rw (c.keep.ensures, next c.statements.statement-index) (one_more _ _ _ _ c.args.statements.now _ _ _ _ _ _ _ c.in-Ok.printed c.statements-test.true c.statement-item.is c.statements.invariant.ran c.in-Ok.ensures.takes (rw c.deref.ensures.value at c.in-Ok-put.ensures.ok) c.both-ended.ensures);
+  fetches = rw c.keep.ensures (omega (arith, c.statements.invariant.fetches, c.in-Ok.ensures.counted));
   puts = omega (arith, c.statements.invariant.puts, c.in-Ok-put.ensures.counted);
 }

@@ -1,0 +1,137 @@
+//! Why a LOAD is refused.
+
+ghost use Rattle.std.specs.Prelude.{◌<◌, length};
+
+use crate::message::{Message, Place, Problem, owned};
+use crate::query::{described, no_table};
+use catalog::{Database, FieldFault, Table};
+use csv::{ByteRecord, ReaderBuilder};
+use sqlvalue::SqlType;
+use std::alloc::{AllocError, Global};
+use syntax::{Name, StringLiteral};
+
+/// How many bytes of a field are shown.
+const SHOWN: usize = 40;
+
+/// That there is no table to load.
+pub fn of_load(alloc: Global, database: &Database, table: &Name) -> Result<Message, AllocError> {
+    no_table(alloc, database, table)
+}
+
+/// That there is no file of a name.
+pub fn of_file(alloc: Global, file: &StringLiteral) -> Result<Message, AllocError> {
+    let problem = Problem::NoFile {
+        file: owned(alloc, file.text.as_str())?,
+    };
+    Ok(Message::at(file.start, problem))
+}
+
+/// That a table would have too many rows.
+pub fn of_rows(table: &Name) -> Message {
+    Message::at(table.start, Problem::ManyRows)
+}
+
+/// What is wrong with the record of a number of a file that does not load into a table: the number of
+/// its fields, or the first field at fault; `None` where nothing is.
+pub fn of_record(
+    alloc: Global,
+    table: &Table,
+    file: &StringLiteral,
+    bytes: &[u8],
+    number: u64,
+) -> Result<Option<Message>, AllocError> {
+    let Some(record) = record_at(alloc, bytes, number)? else {
+        return Ok(None);
+    };
+    let Some((field, problem)) = of_fields(alloc, table, &record)? else {
+        return Ok(None);
+    };
+    Ok(Some(Message {
+        place: Place::File {
+            name: owned(alloc, file.text.as_str())?,
+            record: number,
+            field,
+        },
+        problem,
+        hint: None,
+    }))
+}
+
+/// The record of a number, from 1.
+fn record_at(alloc: Global, bytes: &[u8], number: u64) -> Result<Option<ByteRecord>, AllocError> {
+    let mut reader = ReaderBuilder::new()
+        .has_headers(false)
+        .flexible(true)
+        .from_reader(alloc, bytes);
+    let mut record = ByteRecord::new(alloc);
+    for _record in 0..number {
+        match reader.read_byte_record(&mut record) {
+            Ok(true) => {}
+            Ok(false) => return Ok(None),
+            Err(_) => return Err(AllocError),
+        }
+    }
+    Ok(Some(record))
+}
+
+/// What is wrong with a record, and with which field, by its number from 1.
+fn of_fields(
+    alloc: Global,
+    table: &Table,
+    record: &ByteRecord,
+) -> Result<Option<(Option<usize>, Problem)>, AllocError> {
+    if record.len() != table.width() {
+        let problem = Problem::FieldCount {
+            table: owned(alloc, table.name())?,
+            fields: record.len(),
+            columns: table.width(),
+        };
+        return Ok(Some((None, problem)));
+    }
+    for (place, field) in record.iter().enumerate() {
+        if place >= table.width() {
+            return Ok(None);
+        }
+        if let Some(fault) = table.field_fault(alloc, place, field)? {
+            let problem = of_field(alloc, table, place, field, fault)?;
+            return Ok(Some((Some(place.saturating_add(1)), problem)));
+        }
+    }
+    Ok(None)
+}
+
+fn of_field(
+    alloc: Global,
+    table: &Table,
+    place: usize,
+    field: &[u8],
+    fault: FieldFault,
+) -> Result<Problem, AllocError>
+    requires { place < length table.now.columns }
+{
+    let is_text = match table.sql_type(place) {
+        SqlType::Char { .. } => true,
+        _ => false,
+    };
+    let column = described(alloc, table, place)?;
+    let field = shown(alloc, field)?;
+    Ok(match fault {
+        FieldFault::BadText if is_text => Problem::NotPrintable { field, column },
+        FieldFault::BadText => Problem::NoNumber { field, column },
+        FieldFault::OutOfRange => Problem::OutOfRange { field, column },
+        FieldFault::TooLong => Problem::TooLong { field, column },
+    })
+}
+
+/// The beginning of a field, its bytes outside printable ASCII as `?`.
+fn shown(alloc: Global, field: &[u8]) -> Result<String, AllocError> {
+    let mut text = String::new(alloc);
+    for byte in field.iter().take(SHOWN) {
+        let is_printable = *byte >= 32 && *byte < 127;
+        text.push(if is_printable { char::from(*byte) } else { '?' })?;
+    }
+    if field.len() > SHOWN {
+        text.push_str("...")?;
+    }
+    Ok(text)
+}

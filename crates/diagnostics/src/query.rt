@@ -1,0 +1,151 @@
+//! Why a SELECT is refused.
+
+ghost use Rattle.std.specs.Prelude.{◌<◌, length};
+
+use crate::message::{Message, Problem, owned};
+use crate::near::{near_column, near_table};
+use catalog::{Database, Table};
+use sqlvalue::SqlType;
+use std::alloc::{AllocError, Global};
+use syntax::{Block, Expr, Name};
+
+/// How many items a select list may have.
+const MAX_ITEMS: usize = 64;
+
+/// The greatest scale of a literal.
+const MAX_SCALE: u8 = 18;
+
+/// What is wrong with a query that is refused over a database; `None` where nothing is.
+pub fn of_query(
+    alloc: Global,
+    database: &Database,
+    block: &Block,
+) -> Result<Option<Message>, AllocError> {
+    let Some(source) = block.sources.first() else {
+        return Ok(None);
+    };
+    if block.items.len() > MAX_ITEMS {
+        let problem = Problem::ManyItems {
+            items: block.items.len(),
+        };
+        return Ok(Some(Message::at(source.table.start, problem)));
+    }
+    let Some(table) = database.table(source.table.text.as_str()) else {
+        return Ok(Some(no_table(alloc, database, &source.table)?));
+    };
+    for item in &block.items {
+        if let Some(message) = of_expression(alloc, table, &item.value)? {
+            return Ok(Some(message));
+        }
+    }
+    match &block.condition {
+        Some(condition) => of_condition(alloc, table, condition),
+        None => Ok(None),
+    }
+}
+
+/// That there is no table of a name.
+pub(crate) fn no_table(
+    alloc: Global,
+    database: &Database,
+    name: &Name,
+) -> Result<Message, AllocError> {
+    let problem = Problem::NoTable {
+        table: owned(alloc, name.text.as_str())?,
+    };
+    let mut message = Message::at(name.start, problem);
+    message.hint = near_table(alloc, database, name.text.as_str())?;
+    Ok(message)
+}
+
+/// What is wrong with a column, or with a literal.
+fn of_expression(alloc: Global, table: &Table, expr: &Expr) -> Result<Option<Message>, AllocError> {
+    match expr {
+        Expr::Column(name) if table.column(name.text.as_str()).is_none() => {
+            Ok(Some(no_column(alloc, table, name)?))
+        }
+        Expr::Numeral(numeral) if numeral.scale > MAX_SCALE => {
+            Ok(Some(Message::at(numeral.start, Problem::GreatScale)))
+        }
+        _ => Ok(None),
+    }
+}
+
+fn no_column(alloc: Global, table: &Table, name: &Name) -> Result<Message, AllocError> {
+    let problem = Problem::NoColumn {
+        table: owned(alloc, table.name())?,
+        column: owned(alloc, name.text.as_str())?,
+    };
+    let mut message = Message::at(name.start, problem);
+    message.hint = near_column(alloc, table, name.text.as_str())?;
+    Ok(message)
+}
+
+/// What is wrong with a comparison of a column with a literal.
+fn of_condition(
+    alloc: Global,
+    table: &Table,
+    condition: &Expr,
+) -> Result<Option<Message>, AllocError> {
+    let Expr::Compare { left, right, .. } = condition else {
+        return Ok(None);
+    };
+    if let Some(message) = of_expression(alloc, table, left)? {
+        return Ok(Some(message));
+    }
+    if let Some(message) = of_expression(alloc, table, unsigned(right))? {
+        return Ok(Some(message));
+    }
+    let Expr::Column(name) = &**left else {
+        return Ok(None);
+    };
+    of_kinds(alloc, table, name, unsigned(right))
+}
+
+/// What stands under a sign, or the expression itself.
+fn unsigned(expr: &Expr) -> &Expr {
+    match expr {
+        Expr::Signed { operand, .. } => operand,
+        _ => expr,
+    }
+}
+
+/// That a column is compared with a literal of the other kind.
+fn of_kinds(
+    alloc: Global,
+    table: &Table,
+    name: &Name,
+    literal: &Expr,
+) -> Result<Option<Message>, AllocError> {
+    let Some(place) = table.column(name.text.as_str()) else {
+        return Ok(None);
+    };
+    let column = described(alloc, table, place)?;
+    match (table.sql_type(place), literal) {
+        (SqlType::Char { .. }, Expr::Numeral(numeral)) => Ok(Some(Message::at(
+            numeral.start,
+            Problem::TextWithNumber { column },
+        ))),
+        (SqlType::Char { .. }, _) => Ok(None),
+        (_, Expr::String(string)) => Ok(Some(Message::at(
+            string.start,
+            Problem::NumberWithText { column },
+        ))),
+        _ => Ok(None),
+    }
+}
+
+/// A column with its type, as a statement writes them.
+pub(crate) fn described(alloc: Global, table: &Table, place: usize) -> Result<String, AllocError>
+    requires { place < length table.now.columns }
+{
+    let name = table.column_name(place);
+    match table.sql_type(place) {
+        SqlType::Smallint => format!(in alloc; "{name} SMALLINT"),
+        SqlType::Integer => format!(in alloc; "{name} INTEGER"),
+        SqlType::Numeric { precision, scale } => {
+            format!(in alloc; "{name} NUMERIC({precision},{scale})")
+        }
+        SqlType::Char { length } => format!(in alloc; "{name} CHAR({length})"),
+    }
+}
