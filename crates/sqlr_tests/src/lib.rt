@@ -4,6 +4,8 @@
 #[cfg(test)]
 mod device;
 #[cfg(test)]
+mod guide;
+#[cfg(test)]
 mod limits;
 #[cfg(test)]
 mod scripts;
