@@ -1,6 +1,7 @@
 //! Why a LOAD is refused.
 
-ghost use Rattle.std.specs.Prelude.{◌<◌, length};
+ghost use Rattle.std.specs.Prelude.{◌≡◌, ◌<◌, IfOk, length};
+ghost use Rattle.diagnostics.specs.declared.message.Place.TheVariants as place;
 
 use crate::message::{Message, Place, Problem, owned};
 use crate::query::{described, no_table};
@@ -14,12 +15,16 @@ use syntax::{Name, StringLiteral};
 const SHOWN: usize = 40;
 
 /// That there is no table to load.
-pub fn of_load(alloc: Global, database: &Database, table: &Name) -> Result<Message, AllocError> {
+pub fn of_load(alloc: Global, database: &Database, table: &Name) -> Result<Message, AllocError>
+    ensures { IfOk result (λ m. m.place ≡ place.Script table.now.start) }
+{
     no_table(alloc, database, table)
 }
 
 /// That there is no file of a name.
-pub fn of_file(alloc: Global, file: &StringLiteral) -> Result<Message, AllocError> {
+pub fn of_file(alloc: Global, file: &StringLiteral) -> Result<Message, AllocError>
+    ensures { IfOk result (λ m. m.place ≡ place.Script file.now.start) }
+{
     let problem = Problem::NoFile {
         file: owned(alloc, file.text.as_str())?,
     };
@@ -27,7 +32,9 @@ pub fn of_file(alloc: Global, file: &StringLiteral) -> Result<Message, AllocErro
 }
 
 /// That a table would have too many rows.
-pub fn of_rows(table: &Name) -> Message {
+pub fn of_rows(table: &Name) -> Message
+    ensures { result.place ≡ place.Script table.now.start }
+{
     Message::at(table.start, Problem::ManyRows)
 }
 

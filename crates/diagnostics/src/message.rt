@@ -1,5 +1,8 @@
 //! Messages.
 
+ghost use Rattle.std.specs.Prelude.{◌≡◌};
+ghost use Rattle.diagnostics.specs.declared.message.Place.TheVariants as place;
+
 use std::alloc::{AllocError, Global};
 use thiserror::Error;
 
@@ -120,7 +123,9 @@ pub enum Problem {
 
 impl Message {
     /// A message on a place of the script.
-    pub(crate) fn at(at: usize, problem: Problem) -> Message {
+    pub(crate) fn at(at: usize, problem: Problem) -> Message
+        ensures { result.place ≡ place.Script at }
+    {
         Message {
             place: Place::Script { at },
             problem,

@@ -1,6 +1,7 @@
 //! Why a SELECT is refused.
 
-ghost use Rattle.std.specs.Prelude.{◌<◌, length};
+ghost use Rattle.std.specs.Prelude.{◌≡◌, ◌<◌, IfOk, length};
+ghost use Rattle.diagnostics.specs.declared.message.Place.TheVariants as place;
 
 use crate::message::{Message, Problem, owned};
 use crate::near::{near_column, near_table};
@@ -49,7 +50,9 @@ pub(crate) fn no_table(
     alloc: Global,
     database: &Database,
     name: &Name,
-) -> Result<Message, AllocError> {
+) -> Result<Message, AllocError>
+    ensures { IfOk result (λ m. m.place ≡ place.Script name.now.start) }
+{
     let problem = Problem::NoTable {
         table: owned(alloc, name.text.as_str())?,
     };
