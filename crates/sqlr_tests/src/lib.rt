@@ -4,6 +4,12 @@
 #[cfg(test)]
 mod device;
 #[cfg(test)]
+mod faults;
+#[cfg(test)]
 mod limits;
 #[cfg(test)]
+mod memory;
+#[cfg(test)]
 mod scripts;
+#[cfg(test)]
+mod steps;
