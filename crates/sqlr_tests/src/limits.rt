@@ -91,3 +91,78 @@ fn type_parameters_are_bounded(rt: HostRuntime) -> Result<(), AllocError> {
     }
     Ok(())
 }
+
+/// What stands before and behind copies of a piece in a script, how many of them there may be, what is
+/// printed with as many, and with one more.
+type TextCase = (
+    &'static str,
+    &'static str,
+    &'static str,
+    usize,
+    &'static str,
+    &'static str,
+);
+
+static TEXTS: [TextCase; 4] = [
+    (
+        "CREATE TABLE ",
+        "N",
+        " (A CHAR);",
+        18,
+        "OK\n",
+        "error E04 42000 at 13\n",
+    ),
+    (
+        "LOAD T FROM '",
+        "c",
+        "';",
+        254,
+        "error E08 42000\n",
+        "error E03 42000 at 12\n",
+    ),
+    (
+        "LOAD T FROM '",
+        "''",
+        "';",
+        254,
+        "error E08 42000\n",
+        "error E03 42000 at 12\n",
+    ),
+    (
+        "SELECT A FROM T WHERE A = ",
+        "9",
+        ";",
+        38,
+        "error E08 42000\n",
+        "error E03 42000 at 26\n",
+    ),
+];
+
+fn copies(alloc: Global, piece: &str, count: usize) -> Result<String, AllocError> {
+    let mut copies = String::new(alloc);
+    for _copy in 0..count {
+        copies.push_str(piece)?;
+    }
+    Ok(copies)
+}
+
+#[test]
+fn names_strings_and_numbers_are_bounded(rt: HostRuntime) -> Result<(), AllocError> {
+    let alloc = rt.alloc();
+    for (before, piece, behind, most, printed, refused) in &TEXTS {
+        let most_copies = copies(alloc, piece, *most)?;
+        let script = format!(in alloc; "{before}{most_copies}{behind}")?;
+        assert_eq!(rt;
+            run(alloc, &[], &script).0.as_slice(),
+            printed.as_bytes(),
+            "{script}"
+        );
+        let script = format!(in alloc; "{before}{most_copies}{piece}{behind}")?;
+        assert_eq!(rt;
+            run(alloc, &[], &script).0.as_slice(),
+            refused.as_bytes(),
+            "{script}"
+        );
+    }
+    Ok(())
+}

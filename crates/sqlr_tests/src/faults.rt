@@ -1,0 +1,238 @@
+//! Devices that fail, and statements that are refused: what is printed, and what is left.
+
+ghost use Rattle.std.specs.Prelude.{◌≡◌, ◌<◌};
+
+use crate::device::{FILES, Part, Ran, Shelf, run_in};
+use crate::steps::{LOOK, script, seen_behind, steps_run, text};
+use failures::Failures;
+use sqlr::{Ended, FetchFault, Fetched, Library, RunFault, Session};
+use std::alloc::{AllocError, Global};
+use std::marker::Brand;
+use std::sync::ledger::{Blank, Ledger};
+
+/// A library that has one file more, which cannot be fetched.
+#[derive(Drop)]
+struct Faulty<'a, L: Ledger> {
+    shelf: Shelf<'a>,
+    fault: FetchFault,
+    failures: Failures<L>,
+}
+
+impl<L: Ledger> Library for Faulty<'_, L> {
+    ghost use Rattle.std.specs.Prelude.{◌≡◌, map};
+    ghost use Rattle.sqlr_tests.specs.Files.{file_named};
+
+    ghost answers = { λ old name answer new. (new ≡ old) × (answer ≡ file_named (map (λ f. (f.0.now, f.1.now)) old.shelf.files.now) name) };
+
+    ghost failures = { λ s. s.failures };
+
+    fn fetch(&mut self, name: &str) -> Result<Fetched, FetchFault> {
+        if name != "faulty.csv" {
+            return self.shelf.fetch(name);
+        }
+        match self.fault {
+            FetchFault::Device => {
+                self.failures.rise();
+                Err(FetchFault::Device)
+            }
+            FetchFault::Memory => Err(FetchFault::Memory),
+        }
+    }
+}
+
+/// Scripts that are run one behind the other over a faulty library.
+#[derive(Clone, Copy)]
+struct Job<'a> {
+    fault: FetchFault,
+    first: &'a str,
+    second: &'a str,
+}
+
+fn run_faulty(alloc: Global, job: Job) -> (Ran, Ran) {
+    run_faulty_job::<Brand>(alloc, job, Blank::new(1))
+}
+
+fn run_faulty_job<L: Ledger>(alloc: Global, job: Job, fetches: Blank) -> (Ran, Ran)
+    requires name { fetches.name ≡ L.name }
+    requires parts { fetches.parts ≡ L.parts }
+    requires some { 0 < fetches.parts }
+{
+    let (book, share) = fetches.open::<L>();
+    let library = Faulty {
+        shelf: Shelf {
+            alloc,
+            files: &FILES,
+        },
+        fault: job.fault,
+        failures: Failures::new(book, share),
+    };
+    let mut session = Session::new(alloc, library);
+    let first = run_in(&mut session, Vec::new(alloc), Part::whole(job.first));
+    let second = run_in(&mut session, Vec::new(alloc), Part::whole(job.second));
+    (first, second)
+}
+
+#[test]
+fn faulty_file_changes_nothing(rt: HostRuntime) {
+    let first =
+        "CREATE TABLE T (A INTEGER, B CHAR(3)); LOAD T FROM 'two.csv'; SELECT A FROM T; LOAD T FROM 'faulty.csv'; SELECT B FROM T;";
+    let second = "SELECT A, B FROM T; LOAD T FROM 'two.csv';";
+    for (fault, end) in [
+        (FetchFault::Device, RunFault::Library),
+        (FetchFault::Memory, RunFault::Memory),
+    ] {
+        let job = Job {
+            fault,
+            first,
+            second,
+        };
+        let (broken, after) = run_faulty(rt.alloc(), job);
+        assert_eq!(rt; broken.end, Err(end));
+        assert_eq!(rt;
+            broken.printed.as_slice(),
+            b"OK\n2 rows loaded\nA\n1\n2\n2 rows\n".as_slice()
+        );
+        assert_eq!(rt; after.end, Ok(Ended::Well));
+        assert_eq!(rt;
+            after.printed.as_slice(),
+            b"A|B\n1|'a  '\n2|'b  '\n2 rows\n2 rows loaded\n".as_slice()
+        );
+    }
+}
+
+#[test]
+fn file_of_no_table_is_not_fetched(rt: HostRuntime) {
+    let job = Job {
+        fault: FetchFault::Device,
+        first: "LOAD T FROM 'faulty.csv'; CREATE TABLE T (A INTEGER);",
+        second: "LOAD T FROM 'faulty.csv';",
+    };
+    let (refused, broken) = run_faulty(rt.alloc(), job);
+    assert_eq!(rt; refused.end, Ok(Ended::Faulted));
+    assert_eq!(rt;
+        refused.printed.as_slice(),
+        b"error E08 42000\nOK\n".as_slice()
+    );
+    assert_eq!(rt; broken.end, Err(RunFault::Library));
+    assert!(rt; broken.printed.is_empty());
+}
+
+#[test]
+fn sinks_fail_at_each_byte(rt: HostRuntime) -> Result<(), AllocError> {
+    let alloc = rt.alloc();
+    let (script, text) = (script(alloc)?, text(alloc)?);
+    for room in 0..text.len() {
+        let files = &FILES;
+        let mut session = Session::new(alloc, Shelf { alloc, files });
+        let part = Part {
+            script: &script,
+            room,
+        };
+        let cut = run_in(&mut session, Vec::new(alloc), part);
+        assert_eq!(rt; cut.end, Err(RunFault::Sink), "with room for {room}");
+        assert_eq!(rt;
+            cut.printed.as_slice(),
+            &text.as_bytes()[..room],
+            "with room for {room}"
+        );
+        let look = run_in(&mut session, Vec::new(alloc), Part::whole(LOOK));
+        let seen = seen_behind(steps_run(room));
+        assert_eq!(rt;
+            look.printed.as_slice(),
+            seen.as_bytes(),
+            "with room for {room}"
+        );
+    }
+    Ok(())
+}
+
+#[test]
+fn sink_with_room_for_all_takes_all(rt: HostRuntime) -> Result<(), AllocError> {
+    let alloc = rt.alloc();
+    let (script, text) = (script(alloc)?, text(alloc)?);
+    let files = &FILES;
+    let mut session = Session::new(alloc, Shelf { alloc, files });
+    let part = Part {
+        script: &script,
+        room: text.len(),
+    };
+    let ran = run_in(&mut session, Vec::new(alloc), part);
+    assert_eq!(rt; ran.end, Ok(Ended::Faulted));
+    assert_eq!(rt; ran.printed.as_slice(), text.as_bytes());
+    Ok(())
+}
+
+/// A script that is refused over a table T of two rows, and its line.
+type Refusal = (&'static str, &'static str);
+
+static REFUSALS: [Refusal; 23] = [
+    ("CREATE TABLE T (X INTEGER);", "error E07 42000\n"),
+    ("CREATE TABLE U (X INTEGER, X CHAR);", "error E07 42000\n"),
+    ("LOAD U FROM 'two.csv';", "error E08 42000\n"),
+    ("SELECT X FROM U;", "error E08 42000\n"),
+    ("CREATE TABLE U (X CHAR(255));", "error E09 42000\n"),
+    ("LOAD T FROM 'short.csv';", "error E10 42000 record 2\n"),
+    ("LOAD T FROM 'wide.csv';", "error E10 42000 record 2\n"),
+    ("LOAD T FROM 'no_number.csv';", "error E11 42000 record 2\n"),
+    ("LOAD T FROM 'too_great.csv';", "error E11 22003 record 2\n"),
+    ("LOAD T FROM 'too_long.csv';", "error E11 22001 record 2\n"),
+    (
+        "SELECT A FROM T WHERE A = -0.0000000000000000001;",
+        "error E13 42000\n",
+    ),
+    ("SELECT A, X FROM T;", "error E14 42000\n"),
+    ("SELECT A FROM T WHERE X = 1;", "error E14 42000\n"),
+    ("SELECT A FROM T WHERE A = '1';", "error E15 42000\n"),
+    ("SELECT B FROM T WHERE B = 1;", "error E15 42000\n"),
+    (
+        "SELECT A,A,A,A,A,A,A,A,A,A,A,A,A,A,A,A,A,A,A,A,A,A,A,A,A,A,A,A,A,A,A,A,A,A,A,A,A,A,A,A,A,A,A,A,A,A,A,A,A,A,A,A,A,A,A,A,A,A,A,A,A,A,A,A,A FROM T;",
+        "error E21 42000\n",
+    ),
+    ("LOAD T FROM 'none.csv';", "error E22 42000\n"),
+    ("LOAD T FROM 'two.csv'; ?", "error E01 42000 at 23\n"),
+    (
+        "LOAD T FROM 'two.csv'; LOAD T FROM 'two.csv;",
+        "error E02 42000 at 35\n",
+    ),
+    (
+        "LOAD T FROM 'two.csv'; SELECT A FROM T WHERE A = 100000000000000000000000000000000000000;",
+        "error E03 42000 at 49\n",
+    ),
+    (
+        "CREATE TABLE A234567890123456789 (X CHAR);",
+        "error E04 42000 at 13\n",
+    ),
+    (
+        "CREATE TABLE U (X CHAR); SELECT X FROM",
+        "error E05 42000 at 38\n",
+    ),
+    (
+        "CREATE TABLE U (X CHAR); SELECT X Y FROM U;",
+        "error E05 42000 at 34\n",
+    ),
+];
+
+#[test]
+fn refused_scripts_change_nothing(rt: HostRuntime) {
+    let alloc = rt.alloc();
+    let files = &FILES;
+    let mut session = Session::new(alloc, Shelf { alloc, files });
+    let before = "CREATE TABLE T (A INTEGER, B CHAR(3)); LOAD T FROM 'two.csv';";
+    let begun = run_in(&mut session, Vec::new(alloc), Part::whole(before));
+    assert_eq!(rt; begun.end, Ok(Ended::Well));
+    for (script, line) in &REFUSALS {
+        let refused = run_in(&mut session, Vec::new(alloc), Part::whole(script));
+        assert_eq!(rt; refused.end, Ok(Ended::Faulted), "of {script}");
+        assert_eq!(rt; refused.printed.as_slice(), line.as_bytes(), "of {script}");
+        let look = run_in(
+            &mut session,
+            Vec::new(alloc),
+            Part::whole("SELECT A, B FROM T; SELECT X FROM U;"),
+        );
+        assert_eq!(rt;
+            look.printed.as_slice(),
+            b"A|B\n1|'a  '\n2|'b  '\n2 rows\nerror E08 42000\n".as_slice(),
+            "behind {script}"
+        );
+    }
+}
