@@ -2,7 +2,7 @@
 //! have been meant.
 
 use crate::device::{Part, Ran, Shelf, run_in};
-use sqlr::{Report, Session};
+use sqlr::{Message, Report, Session};
 use std::alloc::{AllocError, Global};
 use std::test::Fail;
 
@@ -142,8 +142,13 @@ fn told(alloc: Global, script: &str) -> Result<String, AllocError> {
     let files = &FILES;
     let mut session = Session::new(alloc, Shelf { alloc, files });
     let Ran { .. } = run_in(&mut session, Vec::new(alloc), Part::whole(script));
+    shown(alloc, script, session.messages())
+}
+
+/// Messages as they are shown, one behind the other.
+fn shown(alloc: Global, script: &str, messages: &[Message]) -> Result<String, AllocError> {
     let mut text = String::new(alloc);
-    for message in session.messages() {
+    for message in messages {
         let report = Report {
             script_name: "s.sql",
             script,
