@@ -4,4 +4,5 @@ pub mod Bound
 pub mod Lines
 pub mod Taking
 pub mod Running
+pub mod Requests
 pub mod CommandLines

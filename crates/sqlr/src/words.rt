@@ -1,6 +1,6 @@
 //! From the words of a command line to what they ask for.
 
-ghost use Rattle.std.specs.Prelude.{◌≡◌, Some, true, false, map, option_map, IfOk, IfErr, IsErr, IsSome};
+ghost use Rattle.std.specs.Prelude.{◌≡◌, Some, true, false, map, option_map, IfOk, IfErr, IsErr};
 ghost use Rattle.clap.specs.Simple.{subcommand_rows_of};
 ghost use Rattle.clap.specs.Words.{app_of, rule_of, kind_of, takes};
 ghost use Rattle.clap.specs.declared.error.kind.ErrorKind.TheVariants as kind;
@@ -18,7 +18,7 @@ use std::alloc::{AllocError, Global};
 /// gives them to the command; or `clap`'s fault, which asked-for help is too (own).
 pub fn request(alloc: Global, words: &[&str]) -> Result<Request, LineFault>
     ensures asked { IfOk result (λ r. spec.script_of (map (λ w. w.now) words.now) ≡ Some (script_text r)) }
-    ensures refused { IfErr result (λ f. takes line (map (λ w. w.now) words.now) ≡ true → IsSome (spec.script_of (map (λ w. w.now) words.now)) → kind_of f ≡ kind.OutOfMemory) }
+    ensures refused { IfErr result (λ f. takes line (map (λ w. w.now) words.now) ≡ true → kind_of f ≡ kind.OutOfMemory) }
 {
     let mut command = match command(alloc) {
         Ok(command) => command,
