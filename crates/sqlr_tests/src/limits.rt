@@ -4,7 +4,7 @@ use crate::device::run;
 use std::alloc::{AllocError, Global};
 
 /// A list of names, `C0,C1,..`, each with what stands behind it.
-fn names(alloc: Global, count: usize, behind: &str) -> Result<String, AllocError> {
+pub(crate) fn names(alloc: Global, count: usize, behind: &str) -> Result<String, AllocError> {
     let mut list = String::new(alloc);
     for i in 0..count {
         if i > 0 {

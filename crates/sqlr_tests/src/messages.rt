@@ -2,9 +2,12 @@
 //! have been meant.
 
 use crate::device::{Part, Ran, Shelf, run_in};
+use crate::limits::names;
+use diagnostics::of_rows;
 use sqlr::{Message, Report, Session};
 use std::alloc::{AllocError, Global};
 use std::test::Fail;
+use syntax::Name;
 
 /// The files that the cases load.
 static FILES: [(&str, &[u8]); 5] = [
@@ -165,5 +168,51 @@ fn refusals_are_told_in_words(rt: HostRuntime) -> Result<(), Fail> {
         let text = told(rt.alloc(), script)?;
         assert_eq!(rt; text.as_str(), *expected, "{script}");
     }
+    Ok(())
+}
+
+#[test]
+fn too_many_columns_are_counted(rt: HostRuntime) -> Result<(), Fail> {
+    let alloc = rt.alloc();
+    let columns = names(alloc, 65, " CHAR")?;
+    let script = format!(in alloc; "CREATE TABLE T ({columns});")?;
+    let text = told(alloc, &script)?;
+    let expected = "s.sql:1:14: error E09: a table has at most 64 columns, not 65\n";
+    assert_eq!(rt; text.as_str(), expected);
+    Ok(())
+}
+
+#[test]
+fn too_many_tables_are_told_where_the_last_begins(rt: HostRuntime) -> Result<(), Fail> {
+    let alloc = rt.alloc();
+    let mut script = String::new(alloc);
+    for i in 1..258 {
+        write!(script, "CREATE TABLE T{i} (A CHAR);\n")?;
+    }
+    let text = told(alloc, &script)?;
+    let expected =
+        "s.sql:257:14: error E09: a database has at most 256 tables\nCREATE TABLE T257 (A CHAR);\n             ^\n";
+    assert_eq!(rt; text.as_str(), expected);
+    Ok(())
+}
+
+/// No test loads so many rows: the message alone is made.
+#[test]
+fn too_many_rows_are_told_at_the_table(rt: HostRuntime) -> Result<(), Fail> {
+    let alloc = rt.alloc();
+    let name = Name {
+        text: String::from_str(alloc, "T")?,
+        start: 5,
+    };
+    let message = of_rows(&name);
+    let report = Report {
+        script_name: "s.sql",
+        script: "LOAD T FROM 'rows.csv';",
+        message: &message,
+    };
+    let text = format!(in alloc; "{report}")?;
+    let expected =
+        "s.sql:1:6: error E09: a table has at most 100,000,000 rows\nLOAD T FROM 'rows.csv';\n     ^\n";
+    assert_eq!(rt; text.as_str(), expected);
     Ok(())
 }
