@@ -70,13 +70,14 @@ A|B
 0 rows
 """
 
-# The fault of each script of examples/faulty.
+# The fault of each script of examples/faulty: its line, and what is told of it, at the column behind
+# the byte of the line.
 FAULTY = {
-    "character": b"error E01 42000 at 28\n",
-    "name": b"error E04 42000 at 7\n",
-    "number": b"error E03 42000 at 26\n",
-    "string": b"error E02 42000 at 12\n",
-    "syntax": b"error E05 42000 at 7\n",
+    "character": (b"error E01 42000 at 28\n", b"1:29: error E01: no token begins with this character\n"),
+    "name": (b"error E04 42000 at 7\n", b"1:8: error E04: a name has at most 18 characters\n"),
+    "number": (b"error E03 42000 at 26\n", b"1:27: error E03: a string has at most 254 characters, and a number 38 digits\n"),
+    "string": (b"error E02 42000 at 12\n", b"1:13: error E02: this string has no closing quote\n"),
+    "syntax": (b"error E05 42000 at 7\n", b"1:8: error E05: expected a name, found FROM\n"),
 }
 
 
@@ -87,9 +88,11 @@ def cases(folder, full):
     device.write_text("CREATE TABLE T (A INTEGER); LOAD T FROM 'examples'; SELECT A FROM T;\n")
     parts, missing = "examples/parts.sql", "examples/missing.sql"
     yield Case("parts", ["run", parts], 0, PARTS)
-    yield Case("faults", ["run", "examples/faults.sql"], 1, FAULTS)
-    for name, line in FAULTY.items():
-        yield Case(f"faulty {name}", ["run", f"examples/faulty/{name}.sql"], 1, line)
+    first_told = b"examples/faults.sql:4:14: error E07: there is a table T\n"
+    yield Case("faults", ["run", "examples/faults.sql"], 1, FAULTS, first_told)
+    for name, (line, told) in FAULTY.items():
+        script = f"examples/faulty/{name}.sql"
+        yield Case(f"faulty {name}", ["run", script], 1, line, f"{script}:".encode() + told)
     yield Case("help", ["--help"], 0, HELP)
     yield Case("no words", [], 2, complaint=b"error: 'sqlr' requires a subcommand but one was not provided\n")
     yield Case("wrong subcommand", ["walk", parts], 2, complaint=b"error: unrecognized subcommand 'walk'\n")
