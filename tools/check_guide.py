@@ -1,10 +1,11 @@
 #!/usr/bin/env python3
-"""Compares docs/FIRST_STEPS.md with crates/sqlr_tests/src/guide.rt, byte for byte.
+"""Compares docs/FIRST_STEPS.md with the cases of cases/first_steps, byte for byte.
 
 On the page a csv block is a file, whose name stands in the line before it, as "the file `NAME`:". A sql
-block is a script, and the text block that comes next is what it prints; sh blocks don't count. In guide.rt `FILES` lists the
-files and `CASES` the scripts with what they print. Whatever stands in one and not in the other is told,
-and then the exit status is 1.
+block is a script, and the text block that comes next is what it prints; sh blocks don't count. Each script
+of the page with what it prints has to be a run of a case, with the page's files; and each case that isn't of
+forms named in words has to be on the page. What stands in one and not in the other is told, and then the
+exit status is 1.
 """
 import pathlib
 import re
@@ -12,17 +13,7 @@ import sys
 
 ROOT = pathlib.Path(__file__).resolve().parent.parent
 PAGE = ROOT / "docs/FIRST_STEPS.md"
-CASES = ROOT / "crates/sqlr_tests/src/guide.rt"
-LEXEME = re.compile(
-    r"""//[^\n]*
-      | \bstatic\ (?P<static>\w+)
-      | \bfn\ \w+ (?P<function>)
-      | \br(?P<marks>\#*)"(?P<raw>.*?)"(?P=marks)
-      | "(?P<plain>(?:[^"\\]|\\.)*)"
-    """,
-    re.DOTALL | re.VERBOSE,
-)
-ESCAPES = {"n": "\n", "t": "\t", "r": "\r", "0": "\0", "\\": "\\", '"': '"', "'": "'"}
+CASES = ROOT / "cases/first_steps"
 
 
 def blocks(text, faults):
@@ -43,7 +34,7 @@ def blocks(text, faults):
 
 
 def page(text, faults):
-    """The files and the scripts of the page, each with its line."""
+    """The files of the page, and its scripts with what they print, each with its line."""
     files, scripts, open_script = {}, {}, None
     for line, language, body, before in blocks(text, faults):
         if language == "sh":
@@ -74,41 +65,46 @@ def page(text, faults):
     return files, scripts
 
 
-def unescaped(text):
-    return re.sub(r"\\(?:u\{(\w+)\}|(.))", lambda m: chr(int(m[1], 16)) if m[1] else ESCAPES[m[2]], text)
+def sections(text):
+    """The sections of a case: the words of each heading, and its body."""
+    for part in text.removesuffix("\n").split("\n---- ")[1:]:
+        heading, _, body = part.partition("\n")
+        yield heading, body + "\n" if "\n" in part else ""
 
 
-def pairs(text):
-    """The texts of each list of the tests, two by two."""
-    lists, at = {}, None
-    for lexeme in LEXEME.finditer(text):
-        if lexeme["static"]:
-            at = lists.setdefault(lexeme["static"], [])
-        elif lexeme["function"] is not None:
-            at = None
-        elif at is not None and lexeme["raw"] is not None:
-            at.append(lexeme["raw"])
-        elif at is not None and lexeme["plain"] is not None:
-            at.append(unescaped(lexeme["plain"]))
-    return {name: list(zip(texts[::2], texts[1::2])) for name, texts in lists.items()}
+def tested(faults):
+    """The files of the cases, and their scripts with what they print, each with its case."""
+    files, scripts = {}, {}
+    for path in sorted(CASES.glob("*.case")):
+        script = None
+        for heading, body in sections(path.read_text(encoding="utf-8")):
+            if heading.startswith("file "):
+                name = heading.removeprefix("file ")
+                if files.setdefault(name, body) != body:
+                    faults.append(f"{path.name}: another case has another file {name}")
+            elif heading == "script":
+                script = body
+            elif heading == "output":
+                scripts[(script, body)] = path.name
+    return files, scripts
 
 
 def main():
     faults = []
     files, scripts = page(PAGE.read_text(encoding="utf-8"), faults)
-    tested = pairs(CASES.read_text(encoding="utf-8"))
+    tested_files, tested_scripts = tested(faults)
     for name, (line, body) in files.items():
-        if (name, body) not in tested["FILES"]:
-            faults.append(f"line {line}: the file {name} is none of the tests'")
-    for (script, printed), line in scripts.items():
-        if (script, printed) not in tested["CASES"]:
-            faults.append(f"line {line}: the script and what it prints are no case of the tests")
-    for name, body in tested["FILES"]:
-        if files.get(name, (0, None))[1] != body:
-            faults.append(f"the tests' file {name} is not on the page")
-    for case in tested["CASES"]:
-        if case not in scripts:
-            faults.append(f"a case of the tests is not on the page: {case[0]!r}")
+        if tested_files.get(name) != body:
+            faults.append(f"line {line}: the file {name} is none of the cases'")
+    for pair, line in scripts.items():
+        if pair not in tested_scripts:
+            faults.append(f"line {line}: the script and what it prints are no run of the cases")
+    for name in tested_files:
+        if name not in files:
+            faults.append(f"the cases' file {name} is not on the page")
+    for pair, case in tested_scripts.items():
+        if pair not in scripts and not case.endswith("_in_words.case"):
+            faults.append(f"{case}: a script with what it prints is not on the page")
     for fault in faults:
         print(fault)
     print(f"{len(files)} files and {len(scripts)} scripts on the page, {len(faults)} faults")

@@ -1,6 +1,9 @@
 #!/usr/bin/env python3
 """Runs the program as it is called, and compares what it prints and its exit status.
 
+usage: program_statuses.py [PROGRAM]
+
+The program is ./sqlr, which builds it where it has to, or the one that is named.
 A line for each case; the status is 1 where one differs. What is expected is worked out by hand from the
 scripts, and the words of a wrong command line are those of clap. Of standard error the beginning is
 compared, since what follows may be the system's words; where nothing is expected there, it is empty.
@@ -105,8 +108,9 @@ def cases(folder, full):
     yield Case("full output for help", ["--help"], 2, output=full)
 
 
-def differences(case):
-    run = subprocess.run([ROOT / "sqlr", *case.words], cwd=ROOT, stdin=subprocess.DEVNULL, stdout=case.output, stderr=subprocess.PIPE)
+def differences(program, case):
+    # Help names the program as it is called.
+    run = subprocess.run(["sqlr", *case.words], executable=program, cwd=ROOT, stdin=subprocess.DEVNULL, stdout=case.output, stderr=subprocess.PIPE)
     if run.returncode != case.status:
         yield f"status {run.returncode}, not {case.status}"
     if (run.stdout or b"") != case.printed:
@@ -120,12 +124,13 @@ def main():
     listed = {it.stem for it in (ROOT / "examples/faulty").glob("*.sql")}
     if listed != set(FAULTY):
         sys.exit(f"examples/faulty has {sorted(listed)}")
-    # The first call builds the program where it has to be, and says so.
-    subprocess.run([ROOT / "sqlr", "--help"], stdout=subprocess.DEVNULL)
+    program = pathlib.Path(sys.argv[1]) if len(sys.argv) > 1 else ROOT / "sqlr"
+    # The first call of ./sqlr builds the program where it has to be, and says so.
+    subprocess.run([program, "--help"], stdout=subprocess.DEVNULL)
     failed = 0
     with tempfile.TemporaryDirectory() as folder, open("/dev/full", "wb") as full:
         for case in cases(pathlib.Path(folder), full):
-            found = list(differences(case))
+            found = list(differences(program, case))
             failed += bool(found)
             print(f"{case.name}: {'; '.join(found) if found else f'as expected, status {case.status}'}", flush=True)
     sys.exit(1 if failed else 0)

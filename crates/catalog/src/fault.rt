@@ -1,5 +1,9 @@
 //! Why a statement on the catalogue is refused.
 
+ghost use Rattle.std.specs.Prelude.{◌≡◌};
+ghost use Rattle.catalog.specs.declared.fault.CreateFault.TheVariants as create;
+
+use std::alloc::{AllocError, AllocFailed};
 use thiserror::Error;
 
 /// Why CREATE TABLE is refused.
@@ -11,6 +15,22 @@ pub enum CreateFault {
     OverLimit,
     #[error("out of memory")]
     Memory,
+}
+
+impl From<AllocError> for CreateFault {
+    ghost from_gives = { λ _ fault. fault ≡ create.Memory };
+
+    fn from(_error: AllocError) -> CreateFault {
+        CreateFault::Memory
+    }
+}
+
+impl<T: Drop> From<AllocFailed<T>> for CreateFault {
+    ghost from_gives = { λ _ fault. fault ≡ create.Memory };
+
+    fn from(_error: AllocFailed<T>) -> CreateFault {
+        CreateFault::Memory
+    }
 }
 
 /// What is wrong with a field.

@@ -13,6 +13,3 @@ mod table;
 pub use database::Database;
 pub use fault::{CreateFault, FieldFault, LoadFault, RecordFault};
 pub use table::{NewColumn, Table};
-
-#[cfg(test)]
-mod tests;

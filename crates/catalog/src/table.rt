@@ -70,12 +70,9 @@ impl Table {
             let Some(sql_type) = column.declared.sql_type() else {
                 return Err(CreateFault::OverLimit);
             };
-            let column = Column::new(alloc, column.name, sql_type).map_err(
-                |_| CreateFault::Memory,
-            )?;
-            made.push(column).map_err(|_| CreateFault::Memory)?;
+            made.push(Column::new(alloc, column.name, sql_type)?)?;
         }
-        let name = String::from_str(alloc, name).map_err(|_| CreateFault::Memory)?;
+        let name = String::from_str(alloc, name)?;
         Ok(Table {
             name,
             columns: made,

@@ -1,6 +1,6 @@
 //! Why CREATE TABLE is refused.
 
-use crate::message::{Message, Problem, owned};
+use crate::message::{Message, owned};
 use catalog::Database;
 use std::alloc::{AllocError, Global};
 use syntax::{ColumnDefinition, Name};
@@ -20,20 +20,20 @@ pub fn of_create(
     columns: &[ColumnDefinition],
 ) -> Result<Option<Message>, AllocError> {
     if database.table(name.text.as_str()).is_some() {
-        let table = owned(alloc, name.text.as_str())?;
-        return Ok(Some(Message::at(name.start, Problem::TableTaken { table })));
+        let problem = format!(in alloc; "error E07: there is a table {}", name.text)?;
+        return Ok(Some(Message::at(name.start, problem)));
     }
     if let Some(message) = of_columns(alloc, columns)? {
         return Ok(Some(message));
     }
     if columns.len() > MAX_COLUMNS {
-        let problem = Problem::ManyColumns {
-            columns: columns.len(),
-        };
+        let count = columns.len();
+        let problem = format!(in alloc; "error E09: a table has at most 64 columns, not {count}")?;
         return Ok(Some(Message::at(name.start, problem)));
     }
     if database.tables().len() >= MAX_TABLES {
-        return Ok(Some(Message::at(name.start, Problem::ManyTables)));
+        let problem = owned(alloc, "error E09: a database has at most 256 tables")?;
+        return Ok(Some(Message::at(name.start, problem)));
     }
     Ok(None)
 }
@@ -43,15 +43,11 @@ fn of_columns(alloc: Global, columns: &[ColumnDefinition]) -> Result<Option<Mess
     for (place, column) in columns.iter().enumerate() {
         let name = column.name.text.as_str();
         if stands_in(&columns[..place], name) {
-            let problem = Problem::ColumnTwice {
-                column: owned(alloc, name)?,
-            };
+            let problem = format!(in alloc; "error E07: the column {name} stands twice")?;
             return Ok(Some(Message::at(column.name.start, problem)));
         }
         if column.declared.sql_type().is_none() {
-            let problem = Problem::NoType {
-                column: owned(alloc, name)?,
-            };
+            let problem = format!(in alloc; "error E09: the type of {name} is out of range")?;
             return Ok(Some(Message::at(column.name.start, problem)));
         }
     }
@@ -59,10 +55,7 @@ fn of_columns(alloc: Global, columns: &[ColumnDefinition]) -> Result<Option<Mess
 }
 
 fn stands_in(columns: &[ColumnDefinition], name: &str) -> bool {
-    for column in columns {
-        if column.name.text.as_str() == name {
-            return true;
-        }
-    }
-    false
+    columns
+        .iter()
+        .any(|column| column.name.text.as_str() == name)
 }

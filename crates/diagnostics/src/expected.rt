@@ -60,7 +60,8 @@ pub(crate) fn expected_at(
 fn statement_start(tokens: &[Token], at: usize) -> usize {
     let mut begin = 0;
     for token in tokens {
-        if token.start < at && token.kind == TokenKind::Mark(Symbol::Semicolon) {
+        let is_end = matches!(token.kind, TokenKind::Mark(Symbol::Semicolon));
+        if is_end && token.start < at {
             begin = token.start.saturating_add(1);
         }
     }
@@ -76,9 +77,21 @@ fn goes_on(alloc: Global, before: &str, sample: &str) -> Result<bool, AllocError
     let Ok(tokens) = lex(alloc, &text) else {
         return Err(AllocError);
     };
-    match parse(alloc, &tokens, end) {
-        Ok(_) => Ok(true),
-        Err(SyntaxFault::Unexpected { at }) => Ok(at == end),
+    Ok(match stop_of(alloc, &tokens, end)? {
+        Some(at) => at == end,
+        None => true,
+    })
+}
+
+/// The byte at which tokens make no statement, if they make none.
+pub(crate) fn stop_of(
+    alloc: Global,
+    tokens: &[Token],
+    end: usize,
+) -> Result<Option<usize>, AllocError> {
+    match parse(alloc, tokens, end) {
+        Ok(_) => Ok(None),
+        Err(SyntaxFault::Unexpected { at }) => Ok(Some(at)),
         Err(SyntaxFault::Memory) => Err(AllocError),
     }
 }

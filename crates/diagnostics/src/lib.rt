@@ -13,7 +13,7 @@ mod script;
 
 pub use create::of_create;
 pub use load::{of_file, of_load, of_record, of_rows};
-pub use message::{Message, Place, Problem};
+pub use message::{Message, Place};
 pub use query::of_query;
 pub use report::Report;
 pub use script::of_script;

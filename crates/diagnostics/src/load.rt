@@ -3,7 +3,7 @@
 ghost use Rattle.std.specs.Prelude.{◌≡◌, ◌<◌, IfOk, length};
 ghost use Rattle.diagnostics.specs.declared.message.Place.TheVariants as place;
 
-use crate::message::{Message, Place, Problem, owned};
+use crate::message::{Message, Place, owned};
 use crate::query::{described, no_table};
 use catalog::{Database, FieldFault, Table};
 use csv::{ByteRecord, ReaderBuilder};
@@ -25,17 +25,16 @@ pub fn of_load(alloc: Global, database: &Database, table: &Name) -> Result<Messa
 pub fn of_file(alloc: Global, file: &StringLiteral) -> Result<Message, AllocError>
     ensures { IfOk result (λ m. m.place ≡ place.Script file.now.start) }
 {
-    let problem = Problem::NoFile {
-        file: owned(alloc, file.text.as_str())?,
-    };
+    let problem = format!(in alloc; "error E22: there is no file '{}'", file.text)?;
     Ok(Message::at(file.start, problem))
 }
 
 /// That a table would have too many rows.
-pub fn of_rows(table: &Name) -> Message
-    ensures { result.place ≡ place.Script table.now.start }
+pub fn of_rows(alloc: Global, table: &Name) -> Result<Message, AllocError>
+    ensures { IfOk result (λ m. m.place ≡ place.Script table.now.start) }
 {
-    Message::at(table.start, Problem::ManyRows)
+    let problem = owned(alloc, "error E09: a table has at most 100,000,000 rows")?;
+    Ok(Message::at(table.start, problem))
 }
 
 /// What is wrong with the record of a number of a file that does not load into a table: the number of
@@ -66,19 +65,17 @@ pub fn of_record(
 
 /// The record of a number, from 1.
 fn record_at(alloc: Global, bytes: &[u8], number: u64) -> Result<Option<ByteRecord>, AllocError> {
-    let mut reader = ReaderBuilder::new()
+    let mut records = ReaderBuilder::new()
         .has_headers(false)
         .flexible(true)
-        .from_reader(alloc, bytes);
-    let mut record = ByteRecord::new(alloc);
-    for _record in 0..number {
-        match reader.read_byte_record(&mut record) {
-            Ok(true) => {}
-            Ok(false) => return Ok(None),
-            Err(_) => return Err(AllocError),
-        }
+        .from_reader(alloc, bytes)
+        .into_byte_records();
+    let before = (number as usize).saturating_sub(1);
+    match records.nth(before) {
+        Some(Ok(record)) => Ok(Some(record)),
+        Some(Err(_)) => Err(AllocError),
+        None => Ok(None),
     }
-    Ok(Some(record))
 }
 
 /// What is wrong with a record, and with which field, by its number from 1.
@@ -86,13 +83,9 @@ fn of_fields(
     alloc: Global,
     table: &Table,
     record: &ByteRecord,
-) -> Result<Option<(Option<usize>, Problem)>, AllocError> {
+) -> Result<Option<(Option<usize>, String)>, AllocError> {
     if record.len() != table.width() {
-        let problem = Problem::FieldCount {
-            table: owned(alloc, table.name())?,
-            fields: record.len(),
-            columns: table.width(),
-        };
+        let problem = of_count(alloc, table, record.len())?;
         return Ok(Some((None, problem)));
     }
     for (place, field) in record.iter().enumerate() {
@@ -113,7 +106,7 @@ fn of_field(
     place: usize,
     field: &[u8],
     fault: FieldFault,
-) -> Result<Problem, AllocError>
+) -> Result<String, AllocError>
     requires { place < length table.now.columns }
 {
     let is_text = match table.sql_type(place) {
@@ -122,12 +115,20 @@ fn of_field(
     };
     let column = described(alloc, table, place)?;
     let field = shown(alloc, field)?;
-    Ok(match fault {
-        FieldFault::BadText if is_text => Problem::NotPrintable { field, column },
-        FieldFault::BadText => Problem::NoNumber { field, column },
-        FieldFault::OutOfRange => Problem::OutOfRange { field, column },
-        FieldFault::TooLong => Problem::TooLong { field, column },
-    })
+    let (problem, of) = match fault {
+        FieldFault::BadText if is_text => ("has a character that is not printable ASCII", ", for"),
+        FieldFault::BadText => ("is no number", ", for"),
+        FieldFault::OutOfRange => ("is out of range", " for"),
+        FieldFault::TooLong => ("is too long", " for"),
+    };
+    format!(in alloc; "'{field}' {problem}{of} {column}")
+}
+
+/// That a record has not as many fields as the table has columns.
+fn of_count(alloc: Global, table: &Table, fields: usize) -> Result<String, AllocError> {
+    let name = table.name();
+    let columns = table.width();
+    format!(in alloc; "the number of fields is {fields}, but table {name} has {columns} columns")
 }
 
 /// The beginning of a field, its bytes outside printable ASCII as `?`.

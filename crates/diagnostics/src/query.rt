@@ -3,7 +3,7 @@
 ghost use Rattle.std.specs.Prelude.{◌≡◌, ◌<◌, IfOk, length};
 ghost use Rattle.diagnostics.specs.declared.message.Place.TheVariants as place;
 
-use crate::message::{Message, Problem, owned};
+use crate::message::{Message, owned};
 use crate::near::{near_column, near_table};
 use catalog::{Database, Table};
 use sqlvalue::SqlType;
@@ -26,9 +26,10 @@ pub fn of_query(
         return Ok(None);
     };
     if block.items.len() > MAX_ITEMS {
-        let problem = Problem::ManyItems {
-            items: block.items.len(),
-        };
+        let count = block.items.len();
+        let problem = format!(in alloc;
+            "error E21: a select list has at most 64 items, not {count}"
+        )?;
         return Ok(Some(Message::at(source.table.start, problem)));
     }
     let Some(table) = database.table(source.table.text.as_str()) else {
@@ -53,12 +54,11 @@ pub(crate) fn no_table(
 ) -> Result<Message, AllocError>
     ensures { IfOk result (λ m. m.place ≡ place.Script name.now.start) }
 {
-    let problem = Problem::NoTable {
-        table: owned(alloc, name.text.as_str())?,
-    };
-    let mut message = Message::at(name.start, problem);
-    message.hint = near_table(alloc, database, name.text.as_str())?;
-    Ok(message)
+    let problem = format!(in alloc; "error E08: there is no table {}", name.text)?;
+    Ok(Message {
+        hint: near_table(alloc, database, name.text.as_str())?,
+        ..Message::at(name.start, problem)
+    })
 }
 
 /// What is wrong with a column, or with a literal.
@@ -68,20 +68,24 @@ fn of_expression(alloc: Global, table: &Table, expr: &Expr) -> Result<Option<Mes
             Ok(Some(no_column(alloc, table, name)?))
         }
         Expr::Numeral(numeral) if numeral.scale > MAX_SCALE => {
-            Ok(Some(Message::at(numeral.start, Problem::GreatScale)))
+            let problem = owned(
+                alloc,
+                "error E13: a number has at most 18 digits behind the point",
+            )?;
+            Ok(Some(Message::at(numeral.start, problem)))
         }
         _ => Ok(None),
     }
 }
 
 fn no_column(alloc: Global, table: &Table, name: &Name) -> Result<Message, AllocError> {
-    let problem = Problem::NoColumn {
-        table: owned(alloc, table.name())?,
-        column: owned(alloc, name.text.as_str())?,
-    };
-    let mut message = Message::at(name.start, problem);
-    message.hint = near_column(alloc, table, name.text.as_str())?;
-    Ok(message)
+    let table_name = table.name();
+    let column = name.text.as_str();
+    let problem = format!(in alloc; "error E14: table {table_name} has no column {column}")?;
+    Ok(Message {
+        hint: near_column(alloc, table, name.text.as_str())?,
+        ..Message::at(name.start, problem)
+    })
 }
 
 /// What is wrong with a comparison of a column with a literal.
@@ -123,19 +127,15 @@ fn of_kinds(
     let Some(place) = table.column(name.text.as_str()) else {
         return Ok(None);
     };
+    let (at, kind) = match (table.sql_type(place), literal) {
+        (SqlType::Char { .. }, Expr::Numeral(numeral)) => (numeral.start, "a number"),
+        (SqlType::Char { .. }, _) => return Ok(None),
+        (_, Expr::String(string)) => (string.start, "a text"),
+        _ => return Ok(None),
+    };
     let column = described(alloc, table, place)?;
-    match (table.sql_type(place), literal) {
-        (SqlType::Char { .. }, Expr::Numeral(numeral)) => Ok(Some(Message::at(
-            numeral.start,
-            Problem::TextWithNumber { column },
-        ))),
-        (SqlType::Char { .. }, _) => Ok(None),
-        (_, Expr::String(string)) => Ok(Some(Message::at(
-            string.start,
-            Problem::NumberWithText { column },
-        ))),
-        _ => Ok(None),
-    }
+    let problem = format!(in alloc; "error E15: {column} is compared with {kind}")?;
+    Ok(Some(Message::at(at, problem)))
 }
 
 /// A column with its type, as a statement writes them.

@@ -8,7 +8,7 @@ const MAX_LINE: usize = 200;
 
 /// A message on a script, as it is shown: `script.sql:3:15: error E14: ..`, the line of the script with
 /// a caret under the place, and the hint; or `orders.csv: record 2, field 2: ..`.
-#[derive(Debug, Drop)]
+#[derive(Drop)]
 pub struct Report<'a> {
     pub script_name: &'a str,
     pub script: &'a str,
@@ -25,33 +25,44 @@ struct Line<'a> {
 
 impl Display for Report<'_> {
     fn fmt<W: fmt::Write>(&self, f: &mut Formatter<W>) -> fmt::Result {
-        let problem = &self.message.problem;
         match &self.message.place {
-            Place::Script { at } => {
-                let line = line_at(self.script, *at);
-                let column = characters(line.before).saturating_add(1);
-                writeln!(
-                    f,
-                    "{}:{}:{column}: {problem}",
-                    self.script_name, line.number
-                )?;
-                show_line(f, &line)?;
-            }
+            Place::Script { at } => self.show_at(f, *at)?,
             Place::File {
                 name,
                 record,
                 field,
-            } => {
-                write!(f, "{name}: record {record}")?;
-                if let Some(field) = field {
-                    write!(f, ", field {field}")?;
-                }
-                writeln!(f, ": {problem}")?;
-            }
+            } => self.show_record(f, name, *record, *field)?,
         }
         match &self.message.hint {
             Some(hint) => writeln!(f, "{hint}"),
             None => Ok(()),
+        }
+    }
+}
+
+impl Report<'_> {
+    /// Shows the problem at a byte of the script, and the line that it stands in.
+    fn show_at<W: fmt::Write>(&self, f: &mut Formatter<W>, at: usize) -> fmt::Result {
+        let line = line_at(self.script, at);
+        let (name, number) = (self.script_name, line.number);
+        let column = characters(line.before).saturating_add(1);
+        let problem = self.message.problem.as_str();
+        writeln!(f, "{name}:{number}:{column}: {problem}")?;
+        show_line(f, &line)
+    }
+
+    /// Shows the problem of a record of a file, and of a field of it, if that is known.
+    fn show_record<W: fmt::Write>(
+        &self,
+        f: &mut Formatter<W>,
+        name: &str,
+        record: u64,
+        field: Option<usize>,
+    ) -> fmt::Result {
+        let problem = self.message.problem.as_str();
+        match field {
+            Some(field) => writeln!(f, "{name}: record {record}, field {field}: {problem}"),
+            None => writeln!(f, "{name}: record {record}: {problem}"),
         }
     }
 }
@@ -95,10 +106,7 @@ fn line_at(script: &str, at: usize) -> Line<'_> {
 
 /// A part of a text, by its bytes.
 fn part(text: &str, from: usize, to: usize) -> &str {
-    match text.get(from..to) {
-        Some(part) => part,
-        None => "",
-    }
+    text.get(from..to).unwrap_or("")
 }
 
 fn characters(text: &str) -> usize {

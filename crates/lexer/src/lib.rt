@@ -7,8 +7,6 @@ mod kind;
 mod lexeme;
 mod numeral;
 mod scan;
-#[cfg(test)]
-mod tests;
 mod token;
 mod word;
 

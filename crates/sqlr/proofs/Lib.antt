@@ -4,5 +4,3 @@ pub mod Bound
 pub mod Lines
 pub mod Taking
 pub mod Running
-pub mod Requests
-pub mod CommandLines

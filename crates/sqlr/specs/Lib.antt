@@ -1,10 +1,8 @@
 pub use Rattle.definitions.specs.Step
 pub mod Binding
-pub mod CommandLine
 pub mod Devices
 pub mod Meaning
 pub mod Scripts
 pub mod Simple
 pub mod Selecting
 pub mod Sessions
-pub mod Request

@@ -2,7 +2,6 @@
 #![tactic(auto)]
 
 mod binding;
-pub mod command_line;
 mod ended;
 mod library;
 mod outcome;
@@ -12,11 +11,10 @@ mod script;
 mod select;
 mod session;
 mod sink;
-mod words;
 
-pub use diagnostics::{Message, Place, Problem, Report};
+pub use command_line::{request, requests};
+pub use diagnostics::{Message, Place, Report};
 pub use ended::{Ended, RunFault, status};
 pub use library::{FetchFault, Fetched, Library};
 pub use session::Session;
 pub use sink::{Sink, SinkFault};
-pub use words::request;

@@ -257,7 +257,8 @@ impl<L: Library> Session<L> {
                 refused_record(self.alloc, record_refusal(fault), number, message)
             }
             Err(LoadFault::TooManyRows) => {
-                refused(self.alloc, Refusal::OverLimit, Some(of_rows(table)))
+                let message = of_rows(self.alloc, table).ok();
+                refused(self.alloc, Refusal::OverLimit, message)
             }
             Err(LoadFault::Memory) => Err(StepFault::Memory),
         }

@@ -9,7 +9,7 @@ ghost use Rattle.std.specs.Prelude.{◌≡◌, ◌<◌};
 use failures::Failures;
 use folder::Folder;
 use output::Output;
-use sqlr::command_line::Request;
+use sqlr::requests::Request;
 use sqlr::{Message, Report, Session, request, status};
 use std::alloc::AllocError;
 use std::fmt::Display;

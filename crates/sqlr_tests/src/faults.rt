@@ -1,10 +1,10 @@
-//! Devices that fail, and statements that are refused: what is printed, and what is left.
+//! Devices that fail: what is printed, and what is left.
 
 ghost use Rattle.std.specs.Prelude.{◌≡◌, ◌<◌};
 
-use crate::device::{FILES, Part, Ran, Shelf, run_in};
-use crate::steps::{LOOK, script, seen_behind, steps_run, text};
+use crate::steps::{FILES, LOOK, script, seen_behind, steps_run, text};
 use failures::Failures;
+use memory_devices::{Part, Ran, Shelf, run};
 use sqlr::{Ended, FetchFault, Fetched, Library, RunFault, Session};
 use std::alloc::{AllocError, Global};
 use std::marker::Brand;
@@ -19,10 +19,10 @@ struct Faulty<'a, L: Ledger> {
 }
 
 impl<L: Ledger> Library for Faulty<'_, L> {
-    ghost use Rattle.std.specs.Prelude.{◌≡◌, map};
-    ghost use Rattle.sqlr_tests.specs.Files.{file_named};
+    ghost use Rattle.std.specs.Prelude.{◌≡◌};
+    ghost use Rattle.memory_devices.specs.Files.{bytes_of_file};
 
-    ghost answers = { λ old name answer new. (new ≡ old) × (answer ≡ file_named (map (λ f. (f.0.now, f.1.now)) old.shelf.files.now) name) };
+    ghost answers = { λ old name answer new. (new ≡ old) × (answer ≡ bytes_of_file old.shelf.files.now name) };
 
     ghost failures = { λ s. s.failures };
 
@@ -67,8 +67,8 @@ fn run_faulty_job<L: Ledger>(alloc: Global, job: Job, fetches: Blank) -> (Ran, R
         failures: Failures::new(book, share),
     };
     let mut session = Session::new(alloc, library);
-    let first = run_in(&mut session, Vec::new(alloc), Part::whole(job.first));
-    let second = run_in(&mut session, Vec::new(alloc), Part::whole(job.second));
+    let first = run(&mut session, Vec::new(alloc), Part::whole(job.first));
+    let second = run(&mut session, Vec::new(alloc), Part::whole(job.second));
     (first, second)
 }
 
@@ -128,14 +128,14 @@ fn sinks_fail_at_each_byte(rt: HostRuntime) -> Result<(), AllocError> {
             script: &script,
             room,
         };
-        let cut = run_in(&mut session, Vec::new(alloc), part);
+        let cut = run(&mut session, Vec::new(alloc), part);
         assert_eq!(rt; cut.end, Err(RunFault::Sink), "with room for {room}");
         assert_eq!(rt;
             cut.printed.as_slice(),
             &text.as_bytes()[..room],
             "with room for {room}"
         );
-        let look = run_in(&mut session, Vec::new(alloc), Part::whole(LOOK));
+        let look = run(&mut session, Vec::new(alloc), Part::whole(LOOK));
         let seen = seen_behind(steps_run(room));
         assert_eq!(rt;
             look.printed.as_slice(),
@@ -156,83 +156,8 @@ fn sink_with_room_for_all_takes_all(rt: HostRuntime) -> Result<(), AllocError> {
         script: &script,
         room: text.len(),
     };
-    let ran = run_in(&mut session, Vec::new(alloc), part);
+    let ran = run(&mut session, Vec::new(alloc), part);
     assert_eq!(rt; ran.end, Ok(Ended::Faulted));
     assert_eq!(rt; ran.printed.as_slice(), text.as_bytes());
     Ok(())
-}
-
-/// A script that is refused over a table T of two rows, and its line.
-type Refusal = (&'static str, &'static str);
-
-static REFUSALS: [Refusal; 23] = [
-    ("CREATE TABLE T (X INTEGER);", "error E07 42000\n"),
-    ("CREATE TABLE U (X INTEGER, X CHAR);", "error E07 42000\n"),
-    ("LOAD U FROM 'two.csv';", "error E08 42000\n"),
-    ("SELECT X FROM U;", "error E08 42000\n"),
-    ("CREATE TABLE U (X CHAR(255));", "error E09 42000\n"),
-    ("LOAD T FROM 'short.csv';", "error E10 42000 record 2\n"),
-    ("LOAD T FROM 'wide.csv';", "error E10 42000 record 2\n"),
-    ("LOAD T FROM 'no_number.csv';", "error E11 42000 record 2\n"),
-    ("LOAD T FROM 'too_great.csv';", "error E11 22003 record 2\n"),
-    ("LOAD T FROM 'too_long.csv';", "error E11 22001 record 2\n"),
-    (
-        "SELECT A FROM T WHERE A = -0.0000000000000000001;",
-        "error E13 42000\n",
-    ),
-    ("SELECT A, X FROM T;", "error E14 42000\n"),
-    ("SELECT A FROM T WHERE X = 1;", "error E14 42000\n"),
-    ("SELECT A FROM T WHERE A = '1';", "error E15 42000\n"),
-    ("SELECT B FROM T WHERE B = 1;", "error E15 42000\n"),
-    (
-        "SELECT A,A,A,A,A,A,A,A,A,A,A,A,A,A,A,A,A,A,A,A,A,A,A,A,A,A,A,A,A,A,A,A,A,A,A,A,A,A,A,A,A,A,A,A,A,A,A,A,A,A,A,A,A,A,A,A,A,A,A,A,A,A,A,A,A FROM T;",
-        "error E21 42000\n",
-    ),
-    ("LOAD T FROM 'none.csv';", "error E22 42000\n"),
-    ("LOAD T FROM 'two.csv'; ?", "error E01 42000 at 23\n"),
-    (
-        "LOAD T FROM 'two.csv'; LOAD T FROM 'two.csv;",
-        "error E02 42000 at 35\n",
-    ),
-    (
-        "LOAD T FROM 'two.csv'; SELECT A FROM T WHERE A = 100000000000000000000000000000000000000;",
-        "error E03 42000 at 49\n",
-    ),
-    (
-        "CREATE TABLE A234567890123456789 (X CHAR);",
-        "error E04 42000 at 13\n",
-    ),
-    (
-        "CREATE TABLE U (X CHAR); SELECT X FROM",
-        "error E05 42000 at 38\n",
-    ),
-    (
-        "CREATE TABLE U (X CHAR); SELECT X Y FROM U;",
-        "error E05 42000 at 34\n",
-    ),
-];
-
-#[test]
-fn refused_scripts_change_nothing(rt: HostRuntime) {
-    let alloc = rt.alloc();
-    let files = &FILES;
-    let mut session = Session::new(alloc, Shelf { alloc, files });
-    let before = "CREATE TABLE T (A INTEGER, B CHAR(3)); LOAD T FROM 'two.csv';";
-    let begun = run_in(&mut session, Vec::new(alloc), Part::whole(before));
-    assert_eq!(rt; begun.end, Ok(Ended::Well));
-    for (script, line) in &REFUSALS {
-        let refused = run_in(&mut session, Vec::new(alloc), Part::whole(script));
-        assert_eq!(rt; refused.end, Ok(Ended::Faulted), "of {script}");
-        assert_eq!(rt; refused.printed.as_slice(), line.as_bytes(), "of {script}");
-        let look = run_in(
-            &mut session,
-            Vec::new(alloc),
-            Part::whole("SELECT A, B FROM T; SELECT X FROM U;"),
-        );
-        assert_eq!(rt;
-            look.printed.as_slice(),
-            b"A|B\n1|'a  '\n2|'b  '\n2 rows\nerror E08 42000\n".as_slice(),
-            "behind {script}"
-        );
-    }
 }

@@ -1,19 +1,12 @@
-//! Tests that cross the crates, over a library and a sink in memory.
+//! Tests that no case can say: devices that fail, want of memory, and a message that no file of a
+//! fitting size calls for. They run over a library and a sink in memory.
 #![tactic(auto)]
 
 #[cfg(test)]
-mod device;
-#[cfg(test)]
 mod faults;
-#[cfg(test)]
-mod guide;
-#[cfg(test)]
-mod limits;
 #[cfg(test)]
 mod memory;
 #[cfg(test)]
 mod messages;
-#[cfg(test)]
-mod scripts;
 #[cfg(test)]
 mod steps;

@@ -1,8 +1,8 @@
 //! Want of memory. `rt try --test --fail-alloc N` refuses the Nth allocation of each test: this one
 //! holds whichever that is, and says what it has cut short. `tools/fail_alloc.py` tries each.
 
-use crate::device::{FILES, Part, Ran, Shelf, run_in};
-use crate::steps::{LOOK, STEPS, script, seen_behind, steps_printed};
+use crate::steps::{FILES, LOOK, STEPS, script, seen_behind, steps_printed};
+use memory_devices::{Part, Ran, Shelf, run};
 use sqlr::{Ended, RunFault, Session};
 use std::test::Fail;
 
@@ -22,10 +22,10 @@ fn refused_allocation_leaves_whole_statements(rt: HostRuntime) -> Result<(), Fai
     };
     let files = &FILES;
     let mut session = Session::new(alloc, Shelf { alloc, files });
-    let Ran { end, printed } = run_in(&mut session, tape, Part::whole(&script));
+    let Ran { end, printed } = run(&mut session, tape, Part::whole(&script));
     let done = steps_printed(&printed).ok_or("no whole texts")?;
     assert_eq!(rt; end, end_behind(done), "behind {done} statements");
-    let look = run_in(&mut session, second_tape, Part::whole(LOOK));
+    let look = run(&mut session, second_tape, Part::whole(LOOK));
     if done < STEPS.len() {
         println!(rt; "refused behind {done} statements")?;
     } else if look.end.is_err() {

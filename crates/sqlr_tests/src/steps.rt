@@ -1,6 +1,19 @@
 //! A script in steps: what each prints, and what it leaves.
 
+use memory_devices::File;
 use std::alloc::{AllocError, Global};
+
+/// The files that the script loads.
+pub(crate) static FILES: [File; 2] = [
+    File {
+        name: "t.csv",
+        bytes: b"5,ab\n\\N,cd\n7,x\n",
+    },
+    File {
+        name: "two.csv",
+        bytes: b"1,a\n2,b\n",
+    },
+];
 
 /// A statement of the script.
 pub(crate) struct Step {

@@ -10,6 +10,3 @@ pub use comparison::{compare, rank};
 pub use number::Num;
 pub use sql_type::{DeclaredType, SqlType};
 pub use value::Value;
-
-#[cfg(test)]
-mod tests;

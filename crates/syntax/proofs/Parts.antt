@@ -9,7 +9,7 @@ use Rattle.definitions.specs.Grammar as g
 use Rattle.syntax.specs.Reading.{Agree, Stops, StringAt}
 use Rattle.syntax.specs.Reading as reading
 use Rattle.syntax.proofs.Locality.{same_name, same_count, same_columns, same_items, same_source}
-use Rattle.syntax.proofs.Stopping.{Through, ThroughToken}
+use Rattle.syntax.proofs.Stopping.{Through, ThroughToken, same_place}
 
 -- ---- parameters of NUMERIC
 
@@ -177,3 +177,35 @@ pub statement_block : (ts : List TokenKind) (at : ℕ) → g.NotAt ts at (Reserv
 statement_block ts at create load us n l a to x (g.creation i j s (g.create p m e q nm cs c t h o li cl f)) = absurd (create (sym (a at l) ∙ c))
 statement_block ts at create load us n l a to x (g.loading i j s (g.load p m q nm f lo h fr st e)) = absurd (load (sym (a at l) ∙ lo))
 statement_block ts at create load us n l a to x (g.query i j b k) = (j, b, k)
+
+pub statement_create : (ts : List TokenKind) (at : ℕ) → g.At ts at (Reserved w.Create) → Through g.StatementAt g.CreateTableAt ts at at
+statement_create ts at h us n l a to x (g.creation i j s k) = (j, s, k)
+statement_create ts at h us n l a to x (g.loading i j s k) = let e = same_kind _ _ _ _ h (a at l) (load_word us at us at (same_place at) (λ k l. refl) _ _ k) in absurd cc
+statement_create ts at h us n l a to x (g.query i j b k) = let e = same_kind _ _ _ _ h (a at l) (block_word us at us at (same_place at) (λ k l. refl) _ _ k) in absurd cc
+
+pub statement_load : (ts : List TokenKind) (at : ℕ) → g.At ts at (Reserved w.Load) → Through g.StatementAt g.LoadAt ts at at
+statement_load ts at h us n l a to x (g.creation i j s k) = let e = same_kind _ _ _ _ h (a at l) (create_word us at us at (same_place at) (λ k l. refl) _ _ k) in absurd cc
+statement_load ts at h us n l a to x (g.loading i j s k) = (j, s, k)
+statement_load ts at h us n l a to x (g.query i j b k) = let e = same_kind _ _ _ _ h (a at l) (block_word us at us at (same_place at) (λ k l. refl) _ _ k) in absurd cc
+
+pub literal_signed : (ts : List TokenKind) (at p : ℕ) (s : token.Symbol) (m : Bool) → g.At ts at (Mark s) → g.sign_of s ≡ Some m → p ≡ at + 1 → Through g.LiteralAt g.UnsignedAt ts at p
+literal_signed ts at p s m h e q us n l a to x (g.string i j c k f) = let z = same_kind _ _ _ _ h (a at (omega (arith, q, l))) k in absurd cc
+literal_signed ts at p s m h e q us n l a to x (g.unsigned i j u (g.number b d v w f k r)) = let z = same_kind _ _ _ _ h (a at (omega (arith, q, l))) k in absurd cc
+literal_signed ts at p s m h e q us n l a to x (g.signed i j t b u k f r) = (j, u, rw q r)
+
+-- ---- types
+
+same_word : (x y : w.Word) (o p : Option TokenKind) → o ≡ Some (Reserved x) → p ≡ o → p ≡ Some (Reserved y) → x ≡ y
+same_word x y o p g h k = cc
+
+pub type_parameters : (ts : List TokenKind) (at p : ℕ) → g.TypeWordAt ts at g.NumericWord → p ≡ at + 1 → Through g.TypeAt g.ParametersAt ts at p
+type_parameters ts at p (x, h, f) q us n l a to t (g.smallint i j (y, k, e) m) = let z = same_word x y _ _ h (a at (omega (arith, q, l))) k in absurd cc
+type_parameters ts at p (x, h, f) q us n l a to t (g.integer i j (y, k, e) m) = let z = same_word x y _ _ h (a at (omega (arith, q, l))) k in absurd cc
+type_parameters ts at p (x, h, f) q us n l a to t (g.numeric i j u (y, k, e) m) = (j, u, rw q m)
+type_parameters ts at p (x, h, f) q us n l a to t (g.char i j u (y, k, e) m) = let z = same_word x y _ _ h (a at (omega (arith, q, l))) k in absurd cc
+
+pub type_length : (ts : List TokenKind) (at p : ℕ) → g.TypeWordAt ts at g.CharWord → p ≡ at + 1 → Through g.TypeAt g.LengthAt ts at p
+type_length ts at p (x, h, f) q us n l a to t (g.smallint i j (y, k, e) m) = let z = same_word x y _ _ h (a at (omega (arith, q, l))) k in absurd cc
+type_length ts at p (x, h, f) q us n l a to t (g.integer i j (y, k, e) m) = let z = same_word x y _ _ h (a at (omega (arith, q, l))) k in absurd cc
+type_length ts at p (x, h, f) q us n l a to t (g.numeric i j u (y, k, e) m) = let z = same_word x y _ _ h (a at (omega (arith, q, l))) k in absurd cc
+type_length ts at p (x, h, f) q us n l a to t (g.char i j u (y, k, e) m) = (j, u, rw q m)

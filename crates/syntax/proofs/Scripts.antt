@@ -68,6 +68,10 @@ semicolon_stops ts at end x (s.Token n) i b so d h =
     (omega arith, λ us a xs f. let q = so us n (omega (arith, e, b)) a xs f in h.1 (sym (a end (omega (arith, e))) ∙ semicolon ts us n a at end x q.0 i (omega (arith, e)) b d q.1))
 semicolon_stops ts at end x s.Memory i b so d h = tt
 
+pub script_without_memory : (ts : List TokenKind) (at : ℕ) (stop : Stop) → stop ≡ s.Memory → StopsScript ts at stop
+script_without_memory ts at (s.Token n) e = absurd cc
+script_without_memory ts at s.Memory e = tt
+
 -- ---- the fault of a script
 
 agrees : (xs more : List TokenKind) (n k : ℕ) (y : TokenKind) → k ≤ n → slice_get xs n ≡ Some y → slice_get (take (suc n) xs ++ more) k ≡ slice_get xs k

@@ -1,11 +1,12 @@
 -- Where a part of a rule stops, the rule stops.
-use Rattle.std.proofs.Common.{◌≡◌, ◌∙◌, refl, sym, ap, ℕ, ◌+◌, ◌≤◌, List, [], ◌∷◌, ◌++◌, arith, append_assoc, map}
+use Rattle.std.proofs.Common.{◌≡◌, ◌∙◌, refl, sym, ap, subst, ℕ, ◌+◌, ◌<◌, ◌≤◌, List, [], ◌∷◌, ◌++◌, arith, append_assoc, map}
+use Rattle.std.specs.Prelude.{Result, Ok, Err, IfOk, IfErr, IsErr, IsErrAnd}
 use Rattle.definitions.specs.Token.{TokenKind, Mark, Comma}
 use Rattle.definitions.specs.Grammar as g
 use Rattle.syntax.specs.declared.fault.Stop.{Stop}
 use Rattle.syntax.specs.declared.fault.Stop.TheVariants as s
 use Rattle.syntax.specs.Reading.{Agree, Stops}
-use Rattle.syntax.proofs.Locality.{Same, at_stays}
+use Rattle.syntax.proofs.Locality.{Same}
 
 -- whatever the rule derives, a part of it stands at a place
 abbrev pub Through : {X Y : Type 0} → (List TokenKind → ℕ → ℕ → X → Type 0) → (List TokenKind → ℕ → ℕ → Y → Type 0) → List TokenKind → (at p : ℕ) → Type 0
@@ -28,68 +29,88 @@ at_token whole ts at p k s.Memory h through e gone = tt
 pub stops_at : {X : Type 0} (whole : List TokenKind → ℕ → ℕ → X → Type 0) (ts : List TokenKind) (at p : ℕ) (k : TokenKind) (stop : Stop) → at ≤ p → ThroughToken whole ts at p k → (stop ≡ s.Token p) × g.NotAt ts p k → Stops whole ts at stop
 stops_at whole ts at p k stop h through gone = at_token whole ts at p k stop h through gone.0 gone.1
 
--- ---- lists
+pub without_memory : {X : Type 0} (whole : List TokenKind → ℕ → ℕ → X → Type 0) (ts : List TokenKind) (at : ℕ) (stop : Stop) → stop ≡ s.Memory → Stops whole ts at stop
+without_memory whole ts at (s.Token n) e = absurd cc
+without_memory whole ts at s.Memory e = tt
 
-pub data RestAt {X : Type 0} (rule : ℕ → ℕ → X → Type 0) (tokens : List TokenKind) : ℕ → ℕ → List X → Type 0 where
-  over : (at to : ℕ) → g.NotAt tokens at (Mark Comma) → to ≡ at → RestAt rule tokens at to []
-  on : (at to : ℕ) (xs : List X) → g.At tokens at (Mark Comma) → g.ListAt rule tokens (at + 1) to xs → RestAt rule tokens at to xs
+-- ---- places behind one another
+
+pub same_place : (a : ℕ) → a ≤ a
+same_place a = omega arith
+
+pub one_on : (a b c : ℕ) → a ≤ b → c ≡ b + 1 → a ≤ c
+one_on a b c h e = omega (arith, h, e)
+
+pub further : (a b c : ℕ) → a ≤ b → b < c → a ≤ c
+further a b c h l = omega (arith, h, l)
+
+pub behind_one : (a b c : ℕ) → a ≤ b → c ≡ b + 1 → a < c
+behind_one a b c h e = omega (arith, h, e)
+
+pub behind_more : (a b c : ℕ) → a ≤ b → b < c → a < c
+behind_more a b c h l = omega (arith, h, l)
+
+pub two_on : (a b c : ℕ) → b ≡ a + 1 → c ≡ b + 1 → c ≡ a + 2
+two_on a b c e f = omega (arith, e, f)
+
+pub no_further : (a b c : ℕ) → a < b → b ≤ c → a < c
+no_further a b c h l = omega (arith, h, l)
+
+pub from_next : (a b : ℕ) → a + 1 ≤ b → a < b
+from_next a b h = omega (arith, h)
+
+-- ---- what a `?` hands on
+
+-- its fault, of which a clause speaks
+pub raised : {T : Type 0} (r : Result T Stop) (stop : Stop) (P : Stop → Type 0) → IsErr r × IsErrAnd r (λ e. e ≡ stop) → P stop → IfErr r P
+raised (Ok x) stop P h p = tt
+raised (Err e) stop P h p = subst P (sym h.1) p
+
+-- and no value
+pub no_value : {T : Type 0} (r : Result T Stop) (stop : Stop) (P : T → Type 0) → IsErr r × IsErrAnd r (λ e. e ≡ stop) → IfOk r P
+no_value (Ok x) stop P h = absurd h.1
+no_value (Err e) stop P h = tt
+
+-- ---- lists, of which a further element begins at a place
 
 module _ {X : Type 0} (rule : List TokenKind → ℕ → ℕ → X → Type 0) where
-  -- the list so far, with any rest, is the whole
-  abbrev pub Extends : List TokenKind → (at end : ℕ) → List X → Type 0
-  Extends ts at end xs = (to : ℕ) (ys : List X) → RestAt (rule ts) ts end to ys → g.ListAt (rule ts) ts at to (xs ++ ys)
+  -- the elements so far, with any list that begins there, are the whole
+  abbrev pub Extends : List TokenKind → (at next : ℕ) → List X → Type 0
+  Extends ts at next xs = (to : ℕ) (ys : List X) → g.ListAt (rule ts) ts next to ys → g.ListAt (rule ts) ts at to (xs ++ ys)
 
-  -- every list that begins so has a rest there
-  abbrev pub Reaches : List TokenKind → (at end : ℕ) → Type 0
-  Reaches ts at end = (us : List TokenKind) (n : ℕ) → end ≤ n → Agree ts us n → (to : ℕ) (xs : List X) → g.ListAt (rule us) us at to xs → (ys : List X) × RestAt (rule us) us end to ys
+  -- every list that begins so goes on there
+  abbrev pub Reaches : List TokenKind → (at next : ℕ) → Type 0
+  Reaches ts at next = (us : List TokenKind) (n : ℕ) → next ≤ n → Agree ts us n → (to : ℕ) (xs : List X) → g.ListAt (rule us) us at to xs → (ys : List X) × g.ListAt (rule us) us next to ys
 
-  pub join : (ts : List TokenKind) (at end to : ℕ) (x : X) (ys : List X) → rule ts at end x → RestAt (rule ts) ts end to ys → g.ListAt (rule ts) ts at to (x ∷ ys)
-  join ts at end to x ys h (over i j gone e) = g.last _ _ x (rw e h) (rw e gone)
-  join ts at end to x ys h (on i j zs c l) = g.more _ _ _ x zs h c l
+  pub none_extends : (ts : List TokenKind) (at : ℕ) (xs : List X) → xs ≡ [] → Extends ts at at xs
+  none_extends ts at xs e to ys d = rw e d
 
-  pub split : Same rule → (ts us : List TokenKind) (n : ℕ) → Agree ts us n → (at end to : ℕ) (x : X) (xs : List X) → end ≤ n → rule ts at end x → g.ListAt (rule us) us at to xs → (ys : List X) × RestAt (rule us) us end to ys
-  split same ts us n a at end to x xs h d (g.last i j z k gone) =
-      let e = (same ts us n a _ _ _ _ _ h d k).0 in ([], over _ _ (rw e gone) (sym e))
-  split same ts us n a at end to x xs h d (g.more i m j z zs k c l) =
-      let e = (same ts us n a _ _ _ _ _ h d k).0 in (zs, on _ _ zs (rw e c) (rw e l))
+  pub none_reaches : (ts : List TokenKind) (at : ℕ) → Reaches ts at at
+  none_reaches ts at us n l a to xs d = (xs, d)
 
-  pub first_extends : (ts : List TokenKind) (at end : ℕ) (x : X) → rule ts at end x → Extends ts at end (x ∷ [])
-  first_extends ts at end x h to ys d = join ts at end to x ys h d
+  pub next_extends : (ts : List TokenKind) (at next end : ℕ) (xs : List X) (x : X) → Extends ts at next xs → rule ts next end x → g.At ts end (Mark Comma) → Extends ts at (end + 1) (xs ++ x ∷ [])
+  next_extends ts at next end xs x so h c to ys d = rw append_assoc (so to (x ∷ ys) (g.more next end to x ys h c d))
 
-  pub first_reaches : Same rule → (ts : List TokenKind) (at end : ℕ) (x : X) → rule ts at end x → Reaches ts at end
-  first_reaches same ts at end x h us n l a to xs d = split same ts us n a at end to x xs l h d
+  behind : Same rule → (ts us : List TokenKind) (n : ℕ) → Agree ts us n → (next end to : ℕ) (x : X) (ys : List X) → end + 1 ≤ n → rule ts next end x → g.At ts end (Mark Comma) → g.ListAt (rule us) us next to ys → (zs : List X) × g.ListAt (rule us) us (end + 1) to zs
+  behind same ts us n a next end to x ys l h c (g.last i j z k gone) =
+      let e = (same ts us n a _ _ _ _ _ (omega (arith, l)) h k).0 in absurd (gone (rw e at (a end (omega (arith, l)) ∙ c)))
+  behind same ts us n a next end to x ys l h c (g.more i m j z zs k d m') =
+      let e = (same ts us n a _ _ _ _ _ (omega (arith, l)) h k).0 in (zs, rw e m')
 
-  pub next_extends : (ts : List TokenKind) (at end after : ℕ) (xs : List X) (x : X) → Extends ts at end xs → g.At ts end (Mark Comma) → rule ts (end + 1) after x → Extends ts at after (xs ++ x ∷ [])
-  next_extends ts at end after xs x so c h to ys d = rw append_assoc (so to (x ∷ ys) (on end to (x ∷ ys) c (join ts (end + 1) after to x ys h d)))
+  pub next_reaches : Same rule → (ts : List TokenKind) (at next end : ℕ) (x : X) → next < end → Reaches ts at next → rule ts next end x → g.At ts end (Mark Comma) → Reaches ts at (end + 1)
+  next_reaches same ts at next end x b so h c us n l a to xs d =
+      let q = so us n (omega (arith, b, l)) a to xs d in behind same ts us n a next end to x q.0 l h c q.1
 
-  onward : Same rule → (ts us : List TokenKind) (n : ℕ) → Agree ts us n → (end after to : ℕ) (x : X) (ys : List X) → after ≤ n → end ≤ n → g.At ts end (Mark Comma) → rule ts (end + 1) after x → RestAt (rule us) us end to ys → (zs : List X) × RestAt (rule us) us after to zs
-  onward same ts us n a end after to x ys l k c h (over i j gone e) = absurd (gone (at_stays ts us n a i _ k c))
-  onward same ts us n a end after to x ys l k c h (on i j zs d m) = split same ts us n a (i + 1) after j x zs l h m
-
-  pub next_reaches : Same rule → (ts : List TokenKind) (at end after : ℕ) (x : X) → end ≤ after → Reaches ts at end → g.At ts end (Mark Comma) → rule ts (end + 1) after x → Reaches ts at after
-  next_reaches same ts at end after x e so c h us n l a to xs d =
-      let q = so us n (omega (arith, e, l)) a to xs d in onward same ts us n a end after to x q.0 l (omega (arith, e, l)) c h q.1
-
-  pub all_extends : (ts : List TokenKind) (at end : ℕ) (xs : List X) → Extends ts at end xs → g.NotAt ts end (Mark Comma) → g.ListAt (rule ts) ts at end (xs ++ [])
-  all_extends ts at end xs so gone = so end [] (over end end gone refl)
+  pub all_extends : (ts : List TokenKind) (at next end : ℕ) (xs : List X) (x : X) → Extends ts at next xs → rule ts next end x → g.NotAt ts end (Mark Comma) → g.ListAt (rule ts) ts at end (xs ++ x ∷ [])
+  all_extends ts at next end xs x so h gone = so end (x ∷ []) (g.last next end x h gone)
 
   first_of : (us : List TokenKind) (at to : ℕ) (xs : List X) → g.ListAt (rule us) us at to xs → (to' : ℕ) × (y : X) × rule us at to' y
   first_of us at to xs (g.last i j z k gone) = (j, z, k)
   first_of us at to xs (g.more i m j z zs k c l) = (m, z, k)
 
-  -- the first element stands where the list does
-  pub through_first : (ts : List TokenKind) (at : ℕ) → Through (λ ts. g.ListAt (rule ts) ts) rule ts at at
-  through_first ts at us n l a to xs d = first_of us at to xs d
-
-  rest_first : (ts us : List TokenKind) (n : ℕ) → Agree ts us n → (end to : ℕ) (ys : List X) → end ≤ n → g.At ts end (Mark Comma) → RestAt (rule us) us end to ys → (to' : ℕ) × (y : X) × rule us (end + 1) to' y
-  rest_first ts us n a end to ys l c (over i j gone e) = absurd (gone (at_stays ts us n a i _ l c))
-  rest_first ts us n a end to ys l c (on i j zs d m) = first_of us (i + 1) j zs m
-
-  -- and a further one behind the comma
-  pub through_next : (ts : List TokenKind) (at end p : ℕ) → p ≡ end + 1 → Reaches ts at end → g.At ts end (Mark Comma) → Through (λ ts. g.ListAt (rule ts) ts) rule ts at p
-  through_next ts at end p e so c us n l a to xs d =
-      let q = so us n (omega (arith, e, l)) a to xs d in
-      rw e (rest_first ts us n a end to q.0 (omega (arith, e, l)) c q.1)
+  -- and an element stands there
+  pub through_next : (ts : List TokenKind) (at next : ℕ) → Reaches ts at next → Through (λ ts. g.ListAt (rule ts) ts) rule ts at next
+  through_next ts at next so us n l a to xs d = let q = so us n l a to xs d in first_of us next to q.0 q.1
 
 -- ---- lists that grow by one element
 

@@ -1,5 +1,5 @@
 -- The kinds of tokens, place by place.
-use Rattle.std.proofs.Common.{◌≡◌, ◌≢◌, ◌∙◌, refl, sym, ap, ℕ, zero, suc, List, [], ◌∷◌, Option, Some, None, Bool, true, false, length, arith}
+use Rattle.std.proofs.Common.{◌≡◌, ◌≢◌, ◌∙◌, refl, sym, ap, ℕ, zero, suc, ◌+◌, ◌<◌, ◌≤◌, List, [], ◌∷◌, Option, Some, None, Bool, true, false, length, arith}
 use Rattle.std.specs.Prelude.{slice_get, option_map, ◌↔◌, IsTrue, is_some}
 use Rattle.definitions.specs.Token as token
 use Rattle.definitions.specs.Word as word
@@ -14,7 +14,7 @@ use Rattle.lexer.specs.declared.token.Token.{Token}
 use Rattle.lexer.specs.declared.token.TokenKind.{TokenKind}
 use Rattle.lexer.specs.declared.token.TokenKind.TheVariants as k
 use Rattle.lexer.specs.Meaning.{kind_of, word_of, symbol_of, quoted_text}
-use Rattle.std.specs.Prelude.{IfSome, IfNone}
+use Rattle.std.specs.Prelude.{IfSome, IfNone, OnSome}
 use Rattle.definitions.specs.Statement as tree
 use Rattle.definitions.specs.Value.{SqlType}
 use Rattle.syntax.specs.declared.create.TypeWord.{TypeWord}
@@ -22,6 +22,7 @@ use Rattle.syntax.specs.declared.tree.Op.{Op}
 use Rattle.syntax.specs.Trees.{kinds_of, op_of}
 use Rattle.syntax.specs.Reading.{Agree, StringAt, mark_in, reserved_in, numeral_in, is_name_kind, is_string_kind, type_word_of}
 use Rattle.syntax.specs.Reading as r
+use Rattle.syntax.specs.declared.fault.Stop.TheVariants as stop
 
 abbrev pub kind_there : Token → token.TokenKind
 kind_there t = kind_of t.text.now t.kind
@@ -293,6 +294,9 @@ is_at ts at k h e = h.0 e
 pub not_at : (ts : List token.TokenKind) (at : ℕ) (k : token.TokenKind) {b : Bool} → (IsTrue b ↔ g.At ts at k) → b ≡ false → g.NotAt ts at k
 not_at ts at k h e = λ a. let t = h.1 a in absurd cc
 
+pub never : {b : Bool} {P : Type 0} → (IsTrue b ↔ P) → b ≡ false → ¬ P
+never h e = λ p. let t = h.1 p in absurd cc
+
 pub no_reserved : (text : List ℕ) (kind : TokenKind) (x : word.Word) → None ≡ reserved_in kind → kind_of text kind ≢ token.Reserved x
 no_reserved text (k.Reserved y) x e h = cc
 no_reserved text k.Name x e h = cc
@@ -309,6 +313,16 @@ no_mark text (k.Mark y) x e h = cc
 
 same_kind : (a b : token.TokenKind) (o : Option token.TokenKind) → o ≡ Some a → o ≡ Some b → a ≡ b
 same_kind a b o g h = cc
+
+pub same_there : (a b : token.TokenKind) → Some a ≡ Some b → a ≡ b
+same_there a b e = cc
+
+-- what the test of a token says behind the last
+pub not_there : (ts : List token.TokenKind) (at : ℕ) (k : token.TokenKind) → slice_get ts at ≡ None → (IsTrue false ↔ g.At ts at k)
+not_there ts at k e = (λ t. absurd cc, λ h. let z = sym e ∙ h in absurd cc)
+
+pub no_string_there : (ts : List token.TokenKind) (at : ℕ) → slice_get ts at ≡ None → (IsTrue false ↔ ((t : List ℕ) × g.At ts at (token.String t)))
+no_string_there ts at e = (λ t. absurd cc, λ (x, h). let z = sym e ∙ h in absurd cc)
 
 -- ---- the word of a type
 
@@ -363,3 +377,48 @@ is_string_there ts at text kind h (t, i) = is_string_by (is_string_kind kind) te
 pub length-kinds : (ts : List Token) → length (kinds_of ts) ≡ length ts
 length-kinds [] = refl
 length-kinds (t ∷ ts) = ap suc (length-kinds ts)
+
+pub within_kinds : (ts : List Token) (at : ℕ) → at < length ts → at < length (kinds_of ts)
+within_kinds ts at h = omega (arith, length-kinds ts, h)
+
+pub end_of_kinds : (ts : List Token) (at : ℕ) → length ts ≤ at → at ≤ length ts → at ≡ length (kinds_of ts)
+end_of_kinds ts at h l = omega (arith, length-kinds ts, h, l)
+
+-- a token that stands is within
+pub within : (ts : List Token) (at : ℕ) (k : token.TokenKind) → g.At (kinds_of ts) at k → at + 1 ≤ length ts
+within [] at k h = absurd cc
+within (t ∷ ts) zero k h = omega arith
+within (t ∷ ts) (suc at) k h = omega (arith, within ts at k h)
+
+pub next_within : (at n : ℕ) → at < n → at + 1 ≤ n
+next_within at n h = omega (arith, h)
+
+pub no_end : (at n : ℕ) → at < n → (at < at + 1) × (at + 1 ≤ n)
+no_end at n h = (omega arith, omega (arith, h))
+
+-- ---- behind the last token no rule of one token begins
+
+pub ends_here : {X : Type 0} (rule : List token.TokenKind → ℕ → ℕ → X → Type 0) (ts : List token.TokenKind) (at : ℕ) → ((us : List token.TokenKind) (to : ℕ) (x : X) → rule us at to x → (k : token.TokenKind) × g.At us at k) → slice_get ts at ≡ None → r.Stops rule ts at (stop.Token at)
+ends_here rule ts at needs e = (omega arith, λ us agree to x d. let k = needs us to x d in let z = sym e ∙ sym (agree at (omega arith)) ∙ k.1 in absurd cc)
+
+pub name_needs : (at : ℕ) (us : List token.TokenKind) (to : ℕ) (n : List ℕ) → g.NameAt us at to n → (k : token.TokenKind) × g.At us at k
+name_needs at us to n (g.name a b m i j) = (_, i)
+
+pub string_needs : (at : ℕ) (us : List token.TokenKind) (to : ℕ) (n : List ℕ) → StringAt us at to n → (k : token.TokenKind) × g.At us at k
+string_needs at us to n (r.string a b m i j) = (_, i)
+
+pub count_needs : (at : ℕ) (us : List token.TokenKind) (to n : ℕ) → g.CountAt us at to n → (k : token.TokenKind) × g.At us at k
+count_needs at us to n (g.count a b m d i j) = (_, i)
+
+pub op_needs : (at : ℕ) (us : List token.TokenKind) (to : ℕ) (o : tree.Op) → r.OpAt us at to o → (k : token.TokenKind) × g.At us at k
+op_needs at us to o (r.op a b x y i j k) = (_, i)
+
+pub unsigned_needs : (at : ℕ) (us : List token.TokenKind) (to : ℕ) (e : tree.Expr) → g.UnsignedAt us at to e → (k : token.TokenKind) × g.At us at k
+unsigned_needs at us to e (g.number a b u d f i j) = (_, i)
+
+pub no_word_at_end : (ts : List token.TokenKind) (at : ℕ) (k' : g.TypeWord) → slice_get ts at ≡ None → ¬ (g.TypeWordAt ts at k')
+no_word_at_end ts at k' h (x, i, j) = let z = sym h ∙ i in absurd cc
+
+pub on_some : {X : Type 0} (o : Option X) {P : Type 0} → P → OnSome o P
+on_some None p = tt
+on_some (Some x) p = p

@@ -41,14 +41,15 @@ fn columns(
     ensures none { IfErr result (Stops (λ ts. ListAt (ColumnAt ts) ts) (kinds_of tokens.now) at) }
 {
     let mut columns = Vec::new(alloc);
-    let (first, mut end) = column(alloc, tokens, at)?;
-    push(&mut columns, first)?;
-    'more: while is_symbol(tokens, end, Symbol::Comma) {
-        let (next, after) = column(alloc, tokens, end + 1)?;
-        push(&mut columns, next)?;
-        end = after;
+    let mut next = at;
+    'more: loop {
+        let (column, end) = column(alloc, tokens, next)?;
+        push(&mut columns, column)?;
+        if !is_symbol(tokens, end, Symbol::Comma) {
+            return Ok((columns, end));
+        }
+        next = end + 1;
     }
-    Ok((columns, end))
 }
 
 /// `name type` (ISO/IEC 9075:1992, 11.4).

@@ -13,7 +13,7 @@ pub enum SyntaxFault {
 }
 
 /// The same fault while the tokens are read: the place of the token in their list.
-#[derive(Clone, Copy, Debug, PartialEq, Eq)]
+#[derive(Clone, Copy)]
 pub enum Stop {
     Token(usize),
     Memory,

@@ -7,8 +7,6 @@ mod memory;
 mod parser;
 mod query;
 mod read;
-#[cfg(test)]
-mod tests;
 mod tree;
 
 pub use fault::SyntaxFault;

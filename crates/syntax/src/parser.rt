@@ -57,8 +57,8 @@ fn script(alloc: Global, tokens: &[Token]) -> Result<Vec<Statement>, Stop>
     let mut at = 0;
     'statements: while at < tokens.len() {
         let (statement, end) = statement(alloc, tokens, at)?;
-        at = symbol(tokens, end, Symbol::Semicolon)?;
         push(&mut statements, statement)?;
+        at = symbol(tokens, end, Symbol::Semicolon)?;
     }
     Ok(statements)
 }

@@ -25,9 +25,9 @@ pub fn block(alloc: Global, tokens: &[Token], at: usize) -> Result<(Block, usize
     let (items, at) = items(alloc, tokens, at)?;
     let at = word(tokens, at, Word::From)?;
     let (source, at) = source(alloc, tokens, at)?;
-    let (condition, at) = condition(alloc, tokens, at)?;
     let mut sources = Vec::new(alloc);
     push(&mut sources, source)?;
+    let (condition, at) = condition(alloc, tokens, at)?;
     Ok((
         Block {
             items,
@@ -44,14 +44,15 @@ fn items(alloc: Global, tokens: &[Token], at: usize) -> Result<(Vec<Item>, usize
     ensures none { IfErr result (Stops (λ ts. ListAt (ItemAt ts) ts) (kinds_of tokens.now) at) }
 {
     let mut items = Vec::new(alloc);
-    let (first, mut end) = item(alloc, tokens, at)?;
-    push(&mut items, first)?;
-    'more: while is_symbol(tokens, end, Symbol::Comma) {
-        let (next, after) = item(alloc, tokens, end + 1)?;
-        push(&mut items, next)?;
-        end = after;
+    let mut next = at;
+    'more: loop {
+        let (item, end) = item(alloc, tokens, next)?;
+        push(&mut items, item)?;
+        if !is_symbol(tokens, end, Symbol::Comma) {
+            return Ok((items, end));
+        }
+        next = end + 1;
     }
-    Ok((items, end))
 }
 
 fn item(alloc: Global, tokens: &[Token], at: usize) -> Result<(Item, usize), Stop>
@@ -94,9 +95,9 @@ fn comparison(alloc: Global, tokens: &[Token], at: usize) -> Result<(Expr, usize
     ensures none { IfErr result (Stops ComparisonAt (kinds_of tokens.now) at) }
 {
     let (column, at) = name(alloc, tokens, at)?;
+    let left = boxed(alloc, Expr::Column(column))?;
     let (op, at) = op(tokens, at)?;
     let (literal, at) = literal(alloc, tokens, at)?;
-    let left = boxed(alloc, Expr::Column(column))?;
     let right = boxed(alloc, literal)?;
     Ok((Expr::Compare { op, left, right }, at))
 }

@@ -5,7 +5,7 @@ ghost use Rattle.std.specs.Prelude.{◌^◌, ◌<◌};
 use sqlvalue::DeclaredType;
 
 /// A name in upper case, and the offset of its first byte in the script.
-#[derive(Debug, Drop)]
+#[derive(Drop)]
 pub struct Name {
     pub text: String,
     pub start: usize,
@@ -24,7 +24,7 @@ pub enum Op {
 
 /// An unsigned number: its units, how many digits it is written with, its scale, and the offset
 /// of its first byte (ISO/IEC 9075:1992, 5.3).
-#[derive(Clone, Copy, Debug, PartialEq, Eq)]
+#[derive(Clone, Copy)]
 pub struct Numeral {
     pub units: u128,
     pub digits: u8,
@@ -34,14 +34,14 @@ pub struct Numeral {
 }
 
 /// A character string literal without its quotes, and the offset of the opening one.
-#[derive(Debug, Drop)]
+#[derive(Drop)]
 pub struct StringLiteral {
     pub text: String,
     pub start: usize,
 }
 
 /// A value or a condition; the binder tells them apart (ISO/IEC 9075:1992, 6.11 and 8.2).
-#[derive(Debug, Drop)]
+#[derive(Drop)]
 pub enum Expr {
     Column(Name),
     Numeral(Numeral),
@@ -59,19 +59,19 @@ pub enum Expr {
 }
 
 /// A result column.
-#[derive(Debug, Drop)]
+#[derive(Drop)]
 pub struct Item {
     pub value: Expr,
 }
 
 /// A table of FROM.
-#[derive(Debug, Drop)]
+#[derive(Drop)]
 pub struct Source {
     pub table: Name,
 }
 
 /// A query block (ISO/IEC 9075:1992, 7.9).
-#[derive(Debug, Drop)]
+#[derive(Drop)]
 pub struct Block {
     pub items: Vec<Item>,
     pub sources: Vec<Source>,
@@ -79,20 +79,20 @@ pub struct Block {
 }
 
 /// A query.
-#[derive(Debug, Drop)]
+#[derive(Drop)]
 pub struct Select {
     pub block: Block,
 }
 
 /// A column of CREATE TABLE (ISO/IEC 9075:1992, 11.4).
-#[derive(Debug, Drop)]
+#[derive(Drop)]
 pub struct ColumnDefinition {
     pub name: Name,
     pub declared: DeclaredType,
 }
 
 /// A statement.
-#[derive(Debug, Drop)]
+#[derive(Drop)]
 pub enum Statement {
     CreateTable {
         name: Name,

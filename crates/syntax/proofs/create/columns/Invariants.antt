@@ -1,4 +1,4 @@
-use Rattle.std.proofs.Common.{◌-◌, ◌<◌, ◌≤◌, length, map}
+use Rattle.std.proofs.Common.{◌-◌, ◌≤◌, length, map}
 use Rattle.definitions.specs.Grammar.{ColumnAt}
 use Rattle.syntax.specs.Trees.{kinds_of, definition_of}
 use Rattle.syntax.proofs.Stopping.{Extends, Reaches}
@@ -6,10 +6,10 @@ use Rattle.syntax.proofs.create.columns.Given as goal
 
 abbrev pub invariant-more : goal.invariant-more
 invariant-more l = record {
-  place : (l.fn.at < l.end) × (l.end ≤ length l.tokens);
-  extends : Extends ColumnAt (kinds_of l.tokens) l.fn.at l.end (map definition_of l.columns.items);
-  reaches : Reaches ColumnAt (kinds_of l.tokens) l.fn.at l.end;
+  place : l.fn.at ≤ l.next;
+  extends : Extends ColumnAt (kinds_of l.tokens) l.fn.at l.next (map definition_of l.columns.items);
+  reaches : Reaches ColumnAt (kinds_of l.tokens) l.fn.at l.next;
 }
 
 abbrev pub decreases-more : goal.decreases-more
-decreases-more l = length l.tokens - l.end
+decreases-more l = length l.tokens - l.next

@@ -1,47 +1,57 @@
-use Rattle.std.proofs.Common.{arith, rules, refl, sym, subst, ◌+◌, List}
+use Rattle.std.proofs.Common.{refl, sym, ap, subst, ◌+◌, List, map}
 use Rattle.definitions.specs.Token as token
 use Rattle.definitions.specs.Grammar as g
 use Rattle.definitions.specs.Statement as tree
-use Rattle.syntax.specs.Reading.{Stops}
-use Rattle.syntax.specs.Trees.{kinds_of}
-use Rattle.syntax.proofs.Stopping.{stops_with}
+use Rattle.syntax.specs.Trees.{kinds_of, item_of}
 use Rattle.syntax.proofs.Locality.{same_item}
-use Rattle.syntax.specs.Trees.{item_of}
 use Rattle.syntax.proofs.Tokens.{is_at, not_at}
-use Rattle.std.proofs.Common.{append-nil, map}
-use Rattle.syntax.proofs.Stopping.{Extends, first_extends, first_reaches, next_extends, next_reaches, all_extends, through_next, pushed, pushed_first}
+use Rattle.syntax.proofs.Stopping.{Extends, none_extends, none_reaches, next_extends, next_reaches, all_extends, through_next, pushed, stops_with, without_memory, raised, no_value, same_place, one_on, further, behind_more}
 use Rattle.syntax.proofs.query.items.Goals as goal
 
 pub more-init : goal.more-init
 more-init c =
     let ts = kinds_of c.args.tokens.now in
-    let E : List tree.Item → Type 0 = λ xs. Extends g.ItemAt ts c.args.at c.in_ok-first.end xs in
     record {
-      place = (omega (arith, c.in_ok-first.ensures.next.0), c.in_ok-first.ensures.next.1);
-      extends = subst E (sym (pushed_first item_of _ _ _ c.in_ok-push.ensures.ok c.new-items.ensures.items)) (first_extends g.ItemAt ts c.args.at c.in_ok-first.end _ c.in_ok-first.ensures.derived);
-      reaches = first_reaches g.ItemAt same_item ts c.args.at c.in_ok-first.end _ c.in_ok-first.ensures.derived;
+      place = same_place c.args.at;
+      extends = none_extends g.ItemAt ts c.args.at _ (ap (λ xs. map item_of xs) c.new-items.ensures.items);
+      reaches = none_reaches g.ItemAt ts c.args.at;
     }
 
-pub returns-in_err-next-clause-none : goal.returns-in_err-next-clause-none
-returns-in_err-next-clause-none c =
+pub returns-in_err-item : goal.returns-in_err-item
+returns-in_err-item c =
     let ts = kinds_of c.args.tokens.now in
-    let stop : Stops (λ ts. g.ListAt (g.ItemAt ts) ts) ts c.args.at c.in_err-next.field-0.0 =
-    stops_with (λ ts. g.ListAt (g.ItemAt ts) ts) g.ItemAt ts c.args.at (c.more.end + 1) c.in_err-next.field-0.0 (omega (arith, c.more.invariant.place.0)) (through_next g.ItemAt ts c.args.at c.more.end _ refl c.more.invariant.reaches (is_at ts c.more.end (token.Mark token.Comma) c.is_symbol.ensures c.more-test.true)) c.in_err-next.ensures.none in
-    search rules
+    record {
+      next = no_value _ _ _ c.from_residual.ensures;
+      derived = no_value _ _ _ c.from_residual.ensures;
+      none = raised _ _ _ c.from_residual.ensures (stops_with (λ ts. g.ListAt (g.ItemAt ts) ts) g.ItemAt ts c.args.at c.more.next _ c.more.invariant.place (through_next g.ItemAt ts c.args.at c.more.next c.more.invariant.reaches) c.in_err-item.ensures.none);
+    }
+
+pub returns-in_err-push : goal.returns-in_err-push
+returns-in_err-push c =
+    let ts = kinds_of c.args.tokens.now in
+    record {
+      next = no_value _ _ _ c.from_residual-in_err-push.ensures;
+      derived = no_value _ _ _ c.from_residual-in_err-push.ensures;
+      none = raised _ _ _ c.from_residual-in_err-push.ensures (without_memory (λ ts. g.ListAt (g.ItemAt ts) ts) ts c.args.at _ c.in_err-push.ensures.memory);
+    }
 
 pub more-preserved : goal.more-preserved
 more-preserved c =
     let ts = kinds_of c.args.tokens.now in
-    let comma = is_at ts c.more.end (token.Mark token.Comma) c.is_symbol.ensures c.more-test.true in
-    let E : List tree.Item → Type 0 = λ xs. Extends g.ItemAt ts c.args.at c.in_ok-next.after xs in
+    let comma = is_at ts c.in_ok-item.end (token.Mark token.Comma) c.is_symbol.ensures c.if-not-is_symbol.false in
+    let E : List tree.Item → Type 0 = λ xs. Extends g.ItemAt ts c.args.at (c.in_ok-item.end + 1) xs in
     record {
-      place = (omega (arith, c.in_ok-next.ensures.next.0, c.more.invariant.place.0), c.in_ok-next.ensures.next.1);
-      extends = subst E (sym (pushed item_of _ _ _ c.in_ok-push-2.ensures.ok)) (next_extends g.ItemAt ts c.args.at c.more.end c.in_ok-next.after _ _ c.more.invariant.extends comma c.in_ok-next.ensures.derived);
-      reaches = next_reaches g.ItemAt same_item ts c.args.at c.more.end c.in_ok-next.after _ (omega (arith, c.in_ok-next.ensures.next.0)) c.more.invariant.reaches comma c.in_ok-next.ensures.derived;
+      place = one_on _ _ _ (further _ _ _ c.more.invariant.place c.in_ok-item.ensures.next.0) refl;
+      extends = subst E (sym (pushed item_of _ _ _ c.in_ok-push.ensures.ok)) (next_extends g.ItemAt ts c.args.at c.more.next c.in_ok-item.end _ _ c.more.invariant.extends c.in_ok-item.ensures.derived comma);
+      reaches = next_reaches g.ItemAt same_item ts c.args.at c.more.next c.in_ok-item.end _ c.in_ok-item.ensures.next.0 c.more.invariant.reaches c.in_ok-item.ensures.derived comma;
     }
 
-pub returns-clause-derived : goal.returns-clause-derived
-returns-clause-derived c =
+pub returns-then-not-is_symbol : goal.returns-then-not-is_symbol
+returns-then-not-is_symbol c =
     let ts = kinds_of c.args.tokens.now in
-    let L : List tree.Item → Type 0 = λ xs. g.ListAt (g.ItemAt ts) ts c.args.at c.more.end xs in
-    subst L (append-nil (map item_of c.more.items.items)) (all_extends g.ItemAt ts c.args.at c.more.end _ c.more.invariant.extends (not_at ts c.more.end (token.Mark token.Comma) c.is_symbol.ensures c.more-test.false))
+    let L : List tree.Item → Type 0 = λ xs. g.ListAt (g.ItemAt ts) ts c.args.at c.in_ok-item.end xs in
+    record {
+      next = (behind_more _ _ _ c.more.invariant.place c.in_ok-item.ensures.next.0, c.in_ok-item.ensures.next.1);
+      derived = subst L (sym (pushed item_of _ _ _ c.in_ok-push.ensures.ok)) (all_extends g.ItemAt ts c.args.at c.more.next c.in_ok-item.end _ _ c.more.invariant.extends c.in_ok-item.ensures.derived (not_at ts c.in_ok-item.end (token.Mark token.Comma) c.is_symbol.ensures c.if-not-is_symbol.true));
+      none = tt;
+    }

@@ -1,5 +1,4 @@
 use Rattle.std.proofs.Common.{sym, subst, ◌<◌, length}
-use Rattle.definitions.specs.Value.{IsType}
 use Rattle.definitions.specs.Table.{Table}
 use Rattle.catalog.proofs.Typing.{type_at}
 use Rattle.catalog.proofs.table.Table.sql_type.Goals as goal

@@ -1,0 +1,3 @@
+pub mod CommandLine
+pub mod Request
+pub use Rattle.clap.specs.Words

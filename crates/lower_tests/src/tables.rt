@@ -1,0 +1,37 @@
+//! Tables and files that no script can give.
+
+use catalog::{Database, LoadFault, NewColumn, RecordFault};
+use sqlvalue::{DeclaredType, Num, Value};
+use std::test::Fail;
+
+#[test]
+fn a_million_commas_are_refused(rt: HostRuntime) -> Result<(), Fail> {
+    let mut database = Database::new(rt.alloc());
+    let column = NewColumn {
+        name: "A",
+        declared: DeclaredType::Integer,
+    };
+    assert_eq!(rt; database.create_table("T", &[column]), Ok(()));
+    let commas = vec![in rt.alloc(); b','; 1_000_000]?;
+    let fault = RecordFault::FieldCount;
+    assert_eq!(rt;
+        database.load("T", &commas),
+        Err(LoadFault::Record { fault, number: 1 })
+    );
+    Ok(())
+}
+
+#[test]
+fn empty_names_are_taken(rt: HostRuntime) -> Result<(), Fail> {
+    let mut database = Database::new(rt.alloc());
+    let column = NewColumn {
+        name: "",
+        declared: DeclaredType::Smallint,
+    };
+    assert_eq!(rt; database.create_table("", &[column]), Ok(()));
+    assert_eq!(rt; database.load("", b"7\n"), Ok(1));
+    let table = database.table("").expect(&rt, "the table");
+    assert_eq!(rt; (table.len(), table.column("")), (1, Some(0)));
+    assert_eq!(rt; table.cell(0, 0), Value::Num(Num { units: 7, scale: 0 }));
+    Ok(())
+}

@@ -1,0 +1,3 @@
+pub mod Files
+pub mod Runs
+pub use Rattle.sqlr.specs.Sessions

@@ -1,0 +1,10 @@
+-- A run whose printed text is kept.
+use Rattle.std.specs.Prelude.{ℕ, List, Some, MatchResult}
+use Rattle.definitions.specs.Step.{Answering, State}
+use Rattle.sqlr.specs.Sessions.{Runs, BreaksOff}
+use Rattle.memory_devices.specs.declared.runs.Ran.{Ran}
+
+-- the printed bytes are those before, and what the run prints behind them, or a beginning of it
+abbrev pub IsRun : {L : Type 0} → Answering L → State L → List ℕ → State L → List ℕ → Ran → Type 0
+IsRun answers old script new before ran =
+    MatchResult ran.end (Runs answers old script new (Some before) (Some ran.printed.items)) (BreaksOff answers old script new (Some before) (Some ran.printed.items))

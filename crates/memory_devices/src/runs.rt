@@ -1,0 +1,70 @@
+//! A run of a script whose printed text is kept.
+
+ghost use Rattle.std.specs.Prelude.{◌≡◌, ◌<◌};
+ghost use Rattle.memory_devices.specs.Runs.{IsRun};
+
+use crate::tape::Tape;
+use failures::Failures;
+use sqlr::{Ended, Library, RunFault, Session};
+use std::marker::Brand;
+use std::sync::ledger::{Blank, Ledger};
+
+/// A script, and how many bytes of what it prints its sink takes.
+#[derive(Clone, Copy, Debug)]
+pub struct Part<'a> {
+    pub script: &'a str,
+    pub room: usize,
+}
+
+impl<'a> Part<'a> {
+    /// A script all of whose text is taken.
+    pub fn whole(script: &'a str) -> Part<'a>
+        ensures script { result.script.now ≡ script.now }
+        ensures room { result.room ≡ usize.MAX }
+    {
+        Part {
+            script,
+            room: usize::MAX,
+        }
+    }
+}
+
+/// How a run ended, and the bytes that its sink held then.
+#[derive(Drop)]
+pub struct Ran {
+    pub end: Result<Ended, RunFault>,
+    pub printed: Vec<u8>,
+}
+
+/// Runs a script in a session. What it prints goes behind the bytes of a tape, which fails where it
+/// has no room left or no memory.
+pub fn run<B: Library>(session: &mut Session<B>, tape: Vec<u8>, part: Part) -> Ran
+    ensures { IsRun B.answers session.old part.entry.script.now session.new tape.items result }
+{
+    on_tape::<Brand, B>(session, tape, part, Blank::new(1))
+}
+
+fn on_tape<L: Ledger, B: Library>(
+    session: &mut Session<B>,
+    tape: Vec<u8>,
+    part: Part,
+    puts: Blank,
+) -> Ran
+    requires name { puts.name ≡ L.name }
+    requires parts { puts.parts ≡ L.parts }
+    requires some { 0 < puts.parts }
+    ensures run { IsRun B.answers session.old part.entry.script.now session.new tape.items result }
+{
+    let (book, share) = puts.open::<L>();
+    let mut tape = Tape {
+        bytes: tape,
+        room: part.room,
+        failures: Failures::new(book, share),
+    };
+    let end = session.run(part.script, &mut tape);
+    let Tape { bytes, .. } = tape;
+    Ran {
+        end,
+        printed: bytes,
+    }
+}

@@ -1,8 +1,0 @@
--- What a request stands for.
-use Rattle.std.specs.Prelude.{List, ℕ, string_bytes}
-use Rattle.sqlr.specs.declared.command_line.Request.{Request}
-use Rattle.sqlr.specs.declared.command_line.Request.TheVariants as r
-
--- the name of the script that is to be run
-abbrev pub script_text : Request → List ℕ
-script_text (r.Run script) = string_bytes script

@@ -1,0 +1,178 @@
+//! Cases: what a case's text says.
+
+use crate::section::{Heading, Section, sections};
+use std::alloc::{AllocError, AllocFailed, Global};
+use thiserror::Error;
+
+/// Scripts that run one behind another in a session, over files.
+#[derive(Debug, Drop)]
+pub struct Case {
+    pub files: Vec<CaseFile>,
+    pub runs: Vec<Run>,
+}
+
+/// What LOAD finds under a name.
+#[derive(Debug, Drop)]
+pub struct CaseFile {
+    pub name: String,
+    pub bytes: Vec<u8>,
+}
+
+/// A script, and what is expected of it.
+#[derive(Debug, Drop)]
+pub struct Run {
+    pub script: String,
+    pub output: Vec<u8>,
+    pub messages: Vec<u8>,
+    pub status: u8,
+}
+
+/// Why a text is no case.
+#[derive(Debug, Drop, Error)]
+pub enum CaseFault {
+    #[error("the last line has no end")]
+    OpenLine,
+    #[error("it begins with no comment: a line with '#' that says where what is expected comes from")]
+    NoComment,
+    #[error("'{title}' is no heading: file NAME, script, output, messages or status N")]
+    UnknownHeading { title: String },
+    #[error("'{title}' is out of place: files come first, then each script with its output, its messages if there are any, and its status")]
+    OutOfPlace { title: String },
+    #[error("a script is no UTF-8")]
+    NotText,
+    #[error("it ends before the status of a script")]
+    Unfinished,
+    #[error("out of memory")]
+    Memory,
+}
+
+impl From<AllocError> for CaseFault {
+    fn from(_error: AllocError) -> CaseFault {
+        CaseFault::Memory
+    }
+}
+
+impl<T: Drop> From<AllocFailed<T>> for CaseFault {
+    fn from(_error: AllocFailed<T>) -> CaseFault {
+        CaseFault::Memory
+    }
+}
+
+impl CaseFault {
+    pub fn heading(alloc: Global, title: &str) -> CaseFault {
+        match String::from_str(alloc, title) {
+            Ok(title) => CaseFault::UnknownHeading { title },
+            Err(_) => CaseFault::Memory,
+        }
+    }
+
+    fn out_of_place(alloc: Global, title: &str) -> CaseFault {
+        match String::from_str(alloc, title) {
+            Ok(title) => CaseFault::OutOfPlace { title },
+            Err(_) => CaseFault::Memory,
+        }
+    }
+}
+
+impl Case {
+    /// The case of a text.
+    pub fn parse(alloc: Global, text: &str) -> Result<Case, CaseFault> {
+        let mut draft = Draft {
+            case: Case {
+                files: Vec::new(alloc),
+                runs: Vec::new(alloc),
+            },
+            begun: None,
+        };
+        for section in sections(alloc, text)? {
+            draft.add(alloc, section)?;
+        }
+        if draft.begun.is_some() || draft.case.runs.is_empty() {
+            return Err(CaseFault::Unfinished);
+        }
+        Ok(draft.case)
+    }
+}
+
+/// A case whose sections are read one by one.
+#[derive(Drop)]
+struct Draft {
+    case: Case,
+    /// The script whose status is still to come.
+    begun: Option<Begun>,
+}
+
+/// A script, and as much as is known of what is expected of it.
+#[derive(Drop)]
+struct Begun {
+    script: String,
+    output: Option<Vec<u8>>,
+    messages: Option<Vec<u8>>,
+}
+
+impl Draft {
+    fn add(&mut self, alloc: Global, section: Section) -> Result<(), CaseFault> {
+        match self.begun.take() {
+            Some(begun) => self.go_on(alloc, begun, section),
+            None => self.begin(alloc, section),
+        }
+    }
+
+    /// A file, or the script of the next run.
+    fn begin(&mut self, alloc: Global, section: Section) -> Result<(), CaseFault> {
+        match section.heading {
+            Heading::File(name) if self.case.runs.is_empty() => {
+                let name = String::from_str(alloc, name)?;
+                let bytes = section.bytes;
+                self.case.files.push(CaseFile { name, bytes })?;
+            }
+            Heading::Script => {
+                let Ok(script) = String::from_utf8(section.bytes) else {
+                    return Err(CaseFault::NotText);
+                };
+                self.begun = Some(Begun {
+                    script,
+                    output: None,
+                    messages: None,
+                });
+            }
+            _ => return Err(CaseFault::out_of_place(alloc, section.title)),
+        }
+        Ok(())
+    }
+
+    /// What is expected of the script that has begun.
+    fn go_on(&mut self, alloc: Global, begun: Begun, section: Section) -> Result<(), CaseFault> {
+        let Begun {
+            script,
+            output,
+            messages,
+        } = begun;
+        match (section.heading, output, messages) {
+            (Heading::Output, None, messages) => {
+                self.begun = Some(Begun {
+                    script,
+                    output: Some(section.bytes),
+                    messages,
+                });
+            }
+            (Heading::Messages, Some(output), None) => {
+                self.begun = Some(Begun {
+                    script,
+                    output: Some(output),
+                    messages: Some(section.bytes),
+                });
+            }
+            (Heading::Status(status), Some(output), messages) => {
+                self.case.runs.push(Run {
+                    script,
+                    output,
+                    messages: messages.unwrap_or(Vec::new(alloc)),
+                    status,
+                })?;
+            }
+            _ => return Err(CaseFault::out_of_place(alloc, section.title)),
+        }
+        Ok(())
+    }
+}
