@@ -11,7 +11,7 @@ import sys
 import tempfile
 import time
 
-PROGRAM = pathlib.Path(__file__).resolve().parent.parent / "build/sqlr_cli/sqlr_cli"
+PROGRAM = pathlib.Path(__file__).resolve().parent.parent / "crates/sqlr_cli/out/sqlr_cli"
 TABLE = "CREATE TABLE T (I INTEGER, N NUMERIC(9,2), C CHAR(10), S SMALLINT);\n"
 
 

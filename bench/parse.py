@@ -12,7 +12,7 @@ import sys
 import tempfile
 import time
 
-PROGRAM = pathlib.Path(__file__).resolve().parent.parent / "build/sqlr_cli/sqlr_cli"
+PROGRAM = pathlib.Path(__file__).resolve().parent.parent / "crates/sqlr_cli/out/sqlr_cli"
 QUERY = "SELECT NAME, PRICE, STOCK FROM PARTS WHERE PRICE >= {}.50; -- {} of many\n"
 TABLE = "CREATE TABLE PARTS (NAME CHAR(16), PRICE NUMERIC(7,2), STOCK INTEGER);\n"
 MEGABYTE = 1_000_000

@@ -4,21 +4,24 @@
 usage: build.py PROGRAM
 
 Crates are proved side by side, on as many processors as memory allows. A line tells of each crate as it
-is done; where standard error is a terminal, a line below shows what is at work. What was built is kept in
-build/, and a crate is built again where its files, those of a crate below it or the kit have changed. The
-program is build/PROGRAM/PROGRAM.
+is done; where standard error is a terminal, a line below shows what is at work. A crate is built again
+where its files, those of a crate below it or the kit have changed. What was built is kept in the user's
+cache, since the gate wants no sources in the repository but its own, and libraries hold theirs. The program
+is crates/PROGRAM/out/PROGRAM.
 """
 import concurrent.futures
 import hashlib
 import os
 import pathlib
+import shutil
 import subprocess
 import sys
 import threading
 import time
 
 ROOT = pathlib.Path(__file__).resolve().parent.parent
-BUILD = ROOT / "build"
+CACHE = pathlib.Path(os.environ.get("XDG_CACHE_HOME") or pathlib.Path.home() / ".cache")
+BUILD = CACHE / "sqlr" / hashlib.sha256(str(ROOT).encode()).hexdigest()[:12]
 # What a check takes at most, in bytes, as seen in this repository.
 MEMORY = 2_500_000_000
 TARGET = "x86_64-unknown-linux-gnu"
@@ -210,6 +213,11 @@ def main():
         tail = (failed.room / "log").read_bytes().decode(errors="replace").splitlines()[-30:]
         print(*tail, sep="\n", file=sys.stderr)
         sys.exit(f"sqlr: {failed.name} is not built; what was said in full is in {failed.room / 'log'}")
+    program = crates[-1]
+    out = program.folder / "out" / program.name
+    out.parent.mkdir(exist_ok=True)
+    shutil.copyfile(program.room / program.name, out)
+    out.chmod(0o755)
 
 
 if __name__ == "__main__":

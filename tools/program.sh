@@ -3,7 +3,7 @@
 root=$(cd "$(dirname "${BASH_SOURCE[0]}")/.." && pwd)
 
 program() {
-  local built=$root/build/$1/$1 newer
+  local built=$root/crates/$1/out/$1 newer
   newer=$(find "$root/crates" "$root/crates.txt" -name out -prune -o -type f \
     \( -path '*/src/*' -o -path '*/specs/*' -o -path '*/proofs/*' -o -name crates.txt \) \
     -newer "$built" -print -quit 2>/dev/null || true)
