@@ -28,7 +28,7 @@ A
 1 rows
 error E14 42000
 ---- messages
-script.sql:4:8: error E14: table T has no column C
+script.sql:4:8: error E14 42000: table T has no column C
 SELECT C FROM T;
        ^
 ---- status 1
@@ -54,6 +54,8 @@ BREAKS = [
     ("no output", lambda text: text[: text.index("---- output")] + "---- status 1\n", "'status 1' is out of place"),
     ("a file behind a script", lambda text: text + "---- file u.csv\n1\n", "'file u.csv' is out of place"),
     ("two outputs", lambda text: text.replace("---- messages", "---- output"), "'output' is out of place"),
+    ("a file that is there twice", lambda text: text.replace("---- script", "---- file t.csv\n7,cd\n---- script"), "file 't.csv' is there twice"),
+    ("text behind a status", lambda text: text + "stray\n", "text stands behind a status"),
     ("a script that is no UTF-8", lambda text: text.replace("---- script\n", "---- script percent-encoded\n%FF\n"), "a script is no UTF-8"),
 ]
 

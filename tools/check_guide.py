@@ -1,11 +1,14 @@
 #!/usr/bin/env python3
 """Compares docs/FIRST_STEPS.md with the cases of cases/first_steps, byte for byte.
 
+usage: check_guide.py
+
 On the page a csv block is a file, whose name stands in the line before it, as "the file `NAME`:". A sql
-block is a script, and the text block that comes next is what it prints; sh blocks don't count. Each script
-of the page with what it prints has to be a run of a case, with the page's files; and each case that isn't of
-forms named in words has to be on the page. What stands in one and not in the other is told, and then the
-exit status is 1.
+block is a script, and the text block that comes next is the screen of its run. An sh block with
+"run NAME.sql" names the scripts of the screens behind it. Each script of the page has to be that of a case,
+with the page's files and this screen, which is the case's output with each message directly before its error
+line; and each case that isn't of forms named in words has to be on the page. A line tells of each
+difference, and then the exit status is 1.
 """
 import pathlib
 import re
@@ -14,6 +17,11 @@ import sys
 ROOT = pathlib.Path(__file__).resolve().parent.parent
 PAGE = ROOT / "docs/FIRST_STEPS.md"
 CASES = ROOT / "cases/first_steps"
+
+# Where a message begins, as "script.sql:3:15: error E14 42000: ..", and where a line of output does that
+# says that something is refused; both with the label, which is the same in both.
+MESSAGE = re.compile(r"^(?=.+?:\d+: (error E\d\d \d{5}): )", re.MULTILINE)
+REFUSED = re.compile(r"^(?=(error E\d\d \d{5})\b)", re.MULTILINE)
 
 
 def blocks(text, faults):
@@ -34,10 +42,12 @@ def blocks(text, faults):
 
 
 def page(text, faults):
-    """The files of the page, and its scripts with what they print, each with its line."""
-    files, scripts, open_script = {}, {}, None
+    """The files of the page with their lines, and its scripts: name, line of the screen, screen."""
+    files, scripts, open_script, script_name = {}, {}, None, "script.sql"
     for line, language, body, before in blocks(text, faults):
         if language == "sh":
+            run = re.search(r"\brun (\S+\.sql)", body)
+            script_name = run[1] if run else script_name
             continue
         if open_script and language != "text":
             faults.append(f"line {open_script[0]}: no text block follows the script")
@@ -53,10 +63,12 @@ def page(text, faults):
         elif language == "sql":
             open_script = (line, body)
         elif language == "text":
-            if open_script:
-                scripts[(open_script[1], body)] = open_script[0]
+            if not open_script:
+                faults.append(f"line {line}: no script stands before the screen")
+            elif open_script[1] in scripts:
+                faults.append(f"line {open_script[0]}: the script stands twice")
             else:
-                faults.append(f"line {line}: no script stands before what is printed")
+                scripts[open_script[1]] = (script_name, line, body)
             open_script = None
         else:
             faults.append(f"line {line}: a block is csv, sql, text or sh, and this one is '{language}'")
@@ -72,42 +84,70 @@ def sections(text):
         yield heading, body + "\n" if "\n" in part else ""
 
 
+def screen(case, output, messages, faults):
+    """What the run of a case shows: its output, with each message directly before its error line."""
+    before, *told = MESSAGE.split(messages)
+    shown, *refused = REFUSED.split(output)
+    if before:
+        faults.append(f"{case}: {before!r} stands before its messages")
+    if told[::2] != refused[::2]:
+        faults.append(f"{case}: its messages are on {told[::2]}, and its output has {refused[::2]}")
+    for message, text in zip(told[1::2], refused[1::2]):
+        shown += message + text
+    return shown
+
+
 def tested(faults):
-    """The files of the cases, and their scripts with what they print, each with its case."""
+    """The files of the cases, and their scripts, each with its case and its screen."""
     files, scripts = {}, {}
     for path in sorted(CASES.glob("*.case")):
-        script = None
+        run = {}
         for heading, body in sections(path.read_text(encoding="utf-8")):
             if heading.startswith("file "):
                 name = heading.removeprefix("file ")
                 if files.setdefault(name, body) != body:
                     faults.append(f"{path.name}: another case has another file {name}")
-            elif heading == "script":
-                script = body
-            elif heading == "output":
-                scripts[(script, body)] = path.name
+            elif heading.startswith("status "):
+                shown = screen(path.name, run["output"], run.get("messages", ""), faults)
+                scripts[run["script"]] = (path.name, shown)
+                run = {}
+            else:
+                run[heading] = body
     return files, scripts
 
 
+def difference(line, shown, case, expected):
+    """The first line that differs of a screen, whose block begins at a line of the page."""
+    pairs = zip(f"{shown}```".split("\n"), f"{expected}```".split("\n"))
+    number, (found, wanted) = next(it for it in enumerate(pairs, line + 1) if it[1][0] != it[1][1])
+    return f"line {number}: the page has {found!r}, and {case} {wanted!r}"
+
+
 def main():
+    if len(sys.argv) > 1:
+        sys.exit(__doc__)
     faults = []
     files, scripts = page(PAGE.read_text(encoding="utf-8"), faults)
     tested_files, tested_scripts = tested(faults)
     for name, (line, body) in files.items():
         if tested_files.get(name) != body:
             faults.append(f"line {line}: the file {name} is none of the cases'")
-    for pair, line in scripts.items():
-        if pair not in tested_scripts:
-            faults.append(f"line {line}: the script and what it prints are no run of the cases")
+    for script, (name, line, shown) in scripts.items():
+        case, expected = tested_scripts.get(script, (None, ""))
+        expected = re.sub(r"^script\.sql:", f"{name}:", expected, flags=re.MULTILINE)
+        if case is None:
+            faults.append(f"line {line}: the script before this screen is that of no case")
+        elif shown != expected:
+            faults.append(difference(line, shown, case, expected))
     for name in tested_files:
         if name not in files:
             faults.append(f"the cases' file {name} is not on the page")
-    for pair, case in tested_scripts.items():
-        if pair not in scripts and not case.endswith("_in_words.case"):
-            faults.append(f"{case}: a script with what it prints is not on the page")
+    for script, (case, _) in tested_scripts.items():
+        if script not in scripts and not case.endswith("_in_words.case"):
+            faults.append(f"{case}: a script of it is not on the page")
     for fault in faults:
         print(fault)
-    print(f"{len(files)} files and {len(scripts)} scripts on the page, {len(faults)} faults")
+    print(f"{len(files)} files and {len(scripts)} scripts with their screens on the page, {len(faults)} faults")
     sys.exit(1 if faults else 0)
 
 

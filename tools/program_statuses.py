@@ -5,10 +5,11 @@ usage: program_statuses.py [PROGRAM]
 
 The program is ./sqlr, which builds it where it has to, or the one that is named.
 A line for each case; the status is 1 where one differs. What is expected is worked out by hand from the
-scripts, and the words of a wrong command line are those of clap. Of standard error the beginning is
-compared, since what follows may be the system's words; where nothing is expected there, it is empty.
+scripts, the words of a wrong command line are those of clap, and those of devices the system's. Of standard
+error the beginning is compared; where nothing is expected there, it is empty.
 """
 import collections
+import os
 import pathlib
 import subprocess
 import sys
@@ -16,18 +17,26 @@ import tempfile
 
 ROOT = pathlib.Path(__file__).resolve().parent.parent
 
-Case = collections.namedtuple("Case", "name words status printed complaint output", defaults=(b"", b"", subprocess.PIPE))
+# Where the program's standard output and standard error go is what subprocess takes for them.
+Case = collections.namedtuple(
+    "Case", "name words status printed complaint output typed errors", defaults=(b"", b"", subprocess.PIPE, b"", subprocess.PIPE)
+)
 
 HELP = b"""An engine for Entry SQL over tables in memory
 
 Usage: sqlr <COMMAND>
 
 Commands:
-  run   Runs a script file and prints to standard output
+  run   Runs a script and prints its answers to standard output
   help  Print this message or the help of the given subcommand(s)
 
 Options:
-  -h, --help  Print help
+  -h, --help     Print help
+  -V, --version  Print version
+
+Examples:
+  sqlr run first.sql
+  sqlr run - < first.sql
 """
 
 PARTS = b"""OK
@@ -76,48 +85,67 @@ A|B
 # The fault of each script of examples/faulty: its line, and what is told of it, at the column behind
 # the byte of the line.
 FAULTY = {
-    "character": (b"error E01 42000 at 28\n", b"1:29: error E01: no token begins with this character\n"),
-    "name": (b"error E04 42000 at 7\n", b"1:8: error E04: a name has at most 18 characters\n"),
-    "number": (b"error E03 42000 at 26\n", b"1:27: error E03: a string has at most 254 characters, and a number 38 digits\n"),
-    "string": (b"error E02 42000 at 12\n", b"1:13: error E02: this string has no closing quote\n"),
-    "syntax": (b"error E05 42000 at 7\n", b"1:8: error E05: expected a name, found FROM\n"),
+    "character": (b"error E01 42000 at 28\n", b"1:29: error E01 42000: no token begins with this character\n"),
+    "name": (b"error E04 42000 at 7\n", b"1:8: error E04 42000: a name has at most 18 characters, and this one has 20\n"),
+    "number": (b"error E03 42000 at 26\n", b"1:27: error E03 42000: a number has at most 38 digits, and this one has 40\n"),
+    "string": (b"error E02 42000 at 12\n", b"1:13: error E02 42000: this string has no closing quote\n"),
+    "syntax": (b"error E05 42000 at 7\n", b"1:8: error E05 42000: expected a name, found FROM\n"),
 }
 
+# A script on standard input, and the message on its second statement.
+TYPED = b"CREATE TABLE T (A INTEGER);\nSELECT B FROM T;\n"
+MESSAGE = b"""<stdin>:2:8: error E14 42000: table T has no column B
+SELECT B FROM T;
+       ^
+"""
 
-def cases(folder, full):
+
+def cases(folder, full, closed):
     not_text = folder / "not_text.sql"
     not_text.write_bytes(b"SELECT A FROM \xff;\n")
     device = folder / "device.sql"
-    device.write_text("CREATE TABLE T (A INTEGER); LOAD T FROM 'examples'; SELECT A FROM T;\n")
+    device.write_text("CREATE TABLE T (A INTEGER);\nLOAD T FROM 'examples';\nSELECT A FROM T;\n")
     parts, missing = "examples/parts.sql", "examples/missing.sql"
     yield Case("parts", ["run", parts], 0, PARTS)
-    first_told = b"examples/faults.sql:4:14: error E07: there is a table T\n"
+    first_told = b"examples/faults.sql:4:14: error E07 42000: there is a table T already\n"
     yield Case("faults", ["run", "examples/faults.sql"], 1, FAULTS, first_told)
     for name, (line, told) in FAULTY.items():
         script = f"examples/faulty/{name}.sql"
         yield Case(f"faulty {name}", ["run", script], 1, line, f"{script}:".encode() + told)
+    yield Case("script on standard input", ["run", "-"], 1, b"OK\nerror E14 42000\n", MESSAGE, typed=TYPED)
+    screen = b"OK\n" + MESSAGE + b"error E14 42000\n"
+    yield Case("message before its line", ["run", "-"], 1, screen, typed=TYPED, errors=subprocess.STDOUT)
     yield Case("help", ["--help"], 0, HELP)
+    yield Case("version", ["--version"], 0, b"sqlr 0.1.0\n")
     yield Case("no words", [], 2, complaint=b"error: 'sqlr' requires a subcommand but one was not provided\n")
     yield Case("wrong subcommand", ["walk", parts], 2, complaint=b"error: unrecognized subcommand 'walk'\n")
+    tip = b"error: unrecognized subcommand 'first.sql'\n\n  tip: to run this script, use 'sqlr run first.sql'\n"
+    yield Case("script without a subcommand", ["first.sql"], 2, complaint=tip)
     yield Case("no script", ["run"], 2, complaint=b"error: the following required arguments were not provided:\n  <SCRIPT>\n")
     yield Case("two scripts", ["run", parts, parts], 2, complaint=b"error: unexpected argument 'examples/parts.sql' found\n")
-    yield Case("missing script", ["run", missing], 2, complaint=b"sqlr: examples/missing.sql: ")
-    yield Case("script that is no text", ["run", str(not_text)], 2, complaint=f"sqlr: {not_text}: ".encode())
-    yield Case("file that is a folder", ["run", str(device)], 2, b"OK\n", f"sqlr: {device}: the library's device failed\n".encode())
-    yield Case("full output", ["run", parts], 2, complaint=b"sqlr: examples/parts.sql: the sink's device failed\n", output=full)
-    yield Case("full output for help", ["--help"], 2, output=full)
+    yield Case("missing script", ["run", missing], 2, complaint=b"sqlr: examples/missing.sql: No such file or directory\n")
+    yield Case("script that is a folder", ["run", "examples"], 2, complaint=b"sqlr: examples: Is a directory\n")
+    no_text = f"sqlr: {not_text}: stream did not contain valid UTF-8\n".encode()
+    yield Case("script that is no text", ["run", str(not_text)], 2, complaint=no_text)
+    no_file = f"sqlr: {device}:2:13: examples: Is a directory\n".encode()
+    yield Case("file that is a folder", ["run", str(device)], 2, b"OK\n", no_file)
+    no_room = b"sqlr: standard output: No space left on device\n"
+    yield Case("full output", ["run", parts], 2, complaint=no_room, output=full)
+    yield Case("full output for help", ["--help"], 2, complaint=no_room, output=full)
+    yield Case("output that no one reads", ["run", parts], 2, output=closed)
 
 
 def differences(program, case):
     # Help names the program as it is called.
-    run = subprocess.run(["sqlr", *case.words], executable=program, cwd=ROOT, stdin=subprocess.DEVNULL, stdout=case.output, stderr=subprocess.PIPE)
+    run = subprocess.run(["sqlr", *case.words], executable=program, cwd=ROOT, input=case.typed, stdout=case.output, stderr=case.errors)
+    printed, complained = run.stdout or b"", run.stderr or b""
     if run.returncode != case.status:
         yield f"status {run.returncode}, not {case.status}"
-    if (run.stdout or b"") != case.printed:
-        yield f"printed {run.stdout}"
-    as_expected = run.stderr.startswith(case.complaint) if case.complaint else not run.stderr
+    if printed != case.printed:
+        yield f"printed {printed}"
+    as_expected = complained.startswith(case.complaint) if case.complaint else not complained
     if not as_expected:
-        yield f"complained {run.stderr}"
+        yield f"complained {complained}"
 
 
 def main():
@@ -128,8 +156,10 @@ def main():
     # The first call of ./sqlr builds the program where it has to be, and says so.
     subprocess.run([program, "--help"], stdout=subprocess.DEVNULL)
     failed = 0
-    with tempfile.TemporaryDirectory() as folder, open("/dev/full", "wb") as full:
-        for case in cases(pathlib.Path(folder), full):
+    reader, writer = os.pipe()
+    os.close(reader)
+    with tempfile.TemporaryDirectory() as folder, open("/dev/full", "wb") as full, open(writer, "wb") as closed:
+        for case in cases(pathlib.Path(folder), full, closed):
             found = list(differences(program, case))
             failed += bool(found)
             print(f"{case.name}: {'; '.join(found) if found else f'as expected, status {case.status}'}", flush=True)

@@ -4,6 +4,7 @@ use Rattle.std.specs.Bool.{OnTrue, OnFalse}
 use Rattle.std.specs.List.{AllByRecursion}
 use Rattle.std.proofs.lemmas.List.{append-nil, append_assoc, length-map, length_push, get_or_append_left, get_or_push}
 use Rattle.csv.specs.declared.reader.Reader.{Reader}
+use Rattle.definitions.specs.Limits.{most_rows}
 use Rattle.definitions.specs.Value.{Null}
 use Rattle.definitions.specs.Table as table
 use Rattle.definitions.specs.Table.{Column, Row, Table}
@@ -11,13 +12,14 @@ use Rattle.definitions.specs.Refusal.{Refusal}
 use Rattle.definitions.specs.Loading as load
 use Rattle.definitions.specs.Loading.{Record, FieldsLoad, RecordLoads, AllLoad, FirstFaulty}
 use Rattle.catalog.specs.Meaning.{record_refusal}
-use Rattle.catalog.specs.Cells.{Refuses}
-use Rattle.catalog.specs.Loads.{LoadAs, AreRefused, LoadsRows, RefusesRows}
+use Rattle.catalog.specs.Cells.{IfRefused}
+use Rattle.catalog.specs.Loads.{Loads, RefusesLoad, LoadsTable, RefusesTable}
 use Rattle.catalog.specs.Files.{HasRead}
 use Rattle.catalog.specs.Stored.{StoredColumn, AreFilled, headers, row_at, rows_of, table_of, with_row, with_rows, cut_to, Extends}
 use Rattle.catalog.specs.declared.fault.RecordFault.{RecordFault}
 use Rattle.catalog.specs.declared.fault.PushFault.{PushFault}
 use Rattle.catalog.specs.declared.fault.PushFault.TheVariants as push
+use Rattle.catalog.specs.declared.fault.RefusedRecord.{RefusedRecord}
 use Rattle.catalog.specs.declared.fault.LoadFault.{LoadFault}
 use Rattle.catalog.specs.declared.fault.LoadFault.TheVariants as l
 use Rattle.catalog.proofs.Pushing.{extends_same, extends_row, extends_then, cut_back}
@@ -158,9 +160,9 @@ one_record old now new bytes reader reader' number one p next row r e =
 
 pub no_record : (old now : List StoredColumn) (bytes : List ℕ) (reader reader' : Reader (Bor (List ℕ))) (number room : ℕ) (one : Record) (fault : RecordFault) → HavePushedRecords old now bytes reader number
     → ((records : List Record) → HasRead bytes reader records → HasRead bytes reader' (records ++ one ∷ [])) → RecordLoads (headers now) one (Err (record_refusal fault))
-    → AreRefused (headers old) bytes room (l.Record fault (number + 1))
-no_record old now bytes reader reader' number room one fault p next r =
-    let r' = rw (same_columns old now bytes reader number p) at r in
+    → ((r : RefusedRecord) → r.fault ≡ fault → r.number ≡ number + 1 → RefusesLoad (headers old) bytes room (l.Record r))
+no_record old now bytes reader reader' number room one fault p next r refused same_fault same_number =
+    let r' : RecordLoads (headers old) one (Err (record_refusal refused.fault)) = rw same_fault (let own = rw (same_columns old now bytes reader number p) at r in own) in
     let (after, all) = read_first bytes reader' (p.records ++ one ∷ []) (next p.records p.read) in (
       p.records ++ one ∷ [] ++ after,
       all,
@@ -172,13 +174,13 @@ no_record old now bytes reader reader' number room one fault p next r =
         is = append_assoc p.records (one ∷ []) after;
         loads = p.loads;
         fails = r';
-        number = ap (λ m. m + 1) p.count;
+        number = same_number ∙ ap (λ m. m + 1) p.count;
       },
     )
 
 pub all_records : (old now : List StoredColumn) (bytes : List ℕ) (reader : Reader (Bor (List ℕ))) (number : ℕ) → HavePushedRecords old now bytes reader number
     → ((records : List Record) → HasRead bytes reader records → load.AreFileRecords bytes records)
-    → (rows : List Row) × LoadAs (headers old) bytes rows × (number ≡ length rows) × (now ≡ with_rows old rows)
+    → (rows : List Row) × Loads (headers old) bytes rows × (number ≡ length rows) × (now ≡ with_rows old rows)
 all_records old now bytes reader number p end =
     (p.rows, (p.records, end p.records p.read, p.loads), p.count ∙ sym (length-all (headers old) p.records p.rows p.loads), p.pushed)
 
@@ -199,7 +201,7 @@ nothing_read columns bytes reader h = record { records = []; rows = []; read = h
 pub partly_pushed : (old now new : List StoredColumn) (bytes : List ℕ) (reader : Reader (Bor (List ℕ))) (number : ℕ) → HavePushedRecords old now bytes reader number → Extends now new → Extends old new
 partly_pushed old now new bytes reader number p e = extends_then old now new (pushed_extends old now bytes reader number p) e
 
-pub refused_is : (x : PushFault) (fault : RecordFault) (P : Refusal → Type 0) → x ≡ push.Refused fault → Refuses P x → P (record_refusal fault)
+pub refused_is : {F : Type 0} (x : PushFault F) (fault : F) (P : F → Type 0) → x ≡ push.Refused fault → IfRefused P x → P fault
 refused_is x fault P e h = let k = rw e at h in k
 
 -- ---- the table of columns that have grown
@@ -207,8 +209,8 @@ refused_is x fault P e h = let k = rw e at h in k
 -- a table with its new rows
 pub record LoadedTable (name bytes : List ℕ) (n : ℕ) (t : Table) (items : List StoredColumn) (count : ℕ) : Type 0 where
   pub filled : AreFilled (n + count) items
-  pub few : n + count ≤ 100000000
-  pub loads : LoadsRows bytes t count (table_of name items (n + count))
+  pub few : n + count ≤ most_rows
+  pub loads : LoadsTable t bytes count (λ rows. table_of name items (n + count) ≡ table.with_rows t rows)
 
 columns_of : (name : List ℕ) (cs before : List StoredColumn) (n : ℕ) (t : Table) → table_of name cs n ≡ t → before ≡ cs → headers before ≡ t.columns
 columns_of name cs before n t e h = ap headers h ∙ ap (λ (u : Table). u.columns) e
@@ -216,8 +218,8 @@ columns_of name cs before n t e h = ap headers h ∙ ap (λ (u : Table). u.colum
 length-rows : (name : List ℕ) (cs : List StoredColumn) (n : ℕ) (t : Table) → table_of name cs n ≡ t → length t.rows ≡ n
 length-rows name cs n t e = ap (λ (u : Table). length u.rows) (sym e) ∙ length-rows_of n cs
 
-pub loads_table : (name bytes : List ℕ) (cs before after items : List StoredColumn) (n room count : ℕ) (t : Table) → table_of name cs n ≡ t → AreFilled n cs → n ≤ 100000000 → before ≡ cs → room ≡ 100000000 - n → items ≡ after
-    → ((rows : List Row) × LoadAs (headers before) bytes rows × (count ≡ length rows) × (after ≡ with_rows before rows) × (count ≤ room)) → LoadedTable name bytes n t items count
+pub loads_table : (name bytes : List ℕ) (cs before after items : List StoredColumn) (n room count : ℕ) (t : Table) → table_of name cs n ≡ t → AreFilled n cs → n ≤ most_rows → before ≡ cs → room ≡ most_rows - n → items ≡ after
+    → ((rows : List Row) × Loads (headers before) bytes rows × (count ≡ length rows) × (after ≡ with_rows before rows) × (count ≤ room)) → LoadedTable name bytes n t items count
 loads_table name bytes cs before after items n room count t e f few h r i ok =
     let (rows, loads, number, pushed, within) = ok in
     let same : headers before ≡ t.columns = columns_of name cs before n t e h in
@@ -239,11 +241,11 @@ loads_table name bytes cs before after items n room count t e f few h r i ok =
       );
     }
 
-pub refuses_table : (name bytes : List ℕ) (cs before : List StoredColumn) (n room : ℕ) (t : Table) (fault : LoadFault) → table_of name cs n ≡ t → n ≤ 100000000 → before ≡ cs → room ≡ 100000000 - n
-    → AreRefused (headers before) bytes room fault → RefusesRows bytes t fault
+pub refuses_table : (name bytes : List ℕ) (cs before : List StoredColumn) (n room : ℕ) (t : Table) (fault : LoadFault) → table_of name cs n ≡ t → n ≤ most_rows → before ≡ cs → room ≡ most_rows - n
+    → RefusesLoad (headers before) bytes room fault → RefusesTable t bytes fault
 refuses_table name bytes cs before n room t l.NoTable e few h r refused = refused
-refuses_table name bytes cs before n room t (l.Record fault number) e few h r refused = let same : headers before ≡ t.columns = columns_of name cs before n t e h in let own = rw same at refused in own
-refuses_table name bytes cs before n room t l.TooManyRows e few h r refused =
+refuses_table name bytes cs before n room t (l.Record r') e few h r refused = let same : headers before ≡ t.columns = columns_of name cs before n t e h in let own = rw same at refused in own
+refuses_table name bytes cs before n room t l.ManyRows e few h r refused =
     let (rows, loads, more) = refused in
     let same : headers before ≡ t.columns = columns_of name cs before n t e h in
     (rows, rw same at loads, omega (arith, few, r, more, length-rows name cs n t e))

@@ -4,15 +4,17 @@ use Rattle.std.specs.Prelude.{◌||◌, ◌⊎◌, IsFalse, bytes_eq, IfSome, is
 use Rattle.std.specs.Option.{option_copied}
 use Rattle.std.specs.List.{list_any, AllByRecursion, position_from}
 use Rattle.std.proofs.lemmas.List.{drop_more, take_rest, length-map}
+use Rattle.definitions.specs.Limits.{most_tables, most_columns}
 use Rattle.definitions.specs.Value.{IsType}
 use Rattle.definitions.specs.Statement.{Name, ColumnDefinition, CreateTable}
 use Rattle.definitions.specs.Table as table
 use Rattle.definitions.specs.Table.{Table, Database, AreDistinct, table_named, changed}
-use Rattle.definitions.specs.Refusal.{Refusal, NameTaken, OverLimit, Faulty, IsAccepted, AnyOf, definition_names}
-use Rattle.definitions.specs.Refusal as r
+use Rattle.definitions.specs.Refusal.{Refusal, NameTaken, OverLimit}
+use Rattle.definitions.specs.Faults.{Faulty, IsAccepted, AnyOf, definition_names}
+use Rattle.definitions.specs.Faults as faults
 use Rattle.catalog.specs.Meaning.{definition_of, definitions_of, create_refusal}
 use Rattle.catalog.specs.Creates.{AreTypes, RefusesTypes}
-use Rattle.catalog.specs.Loads.{LoadsRows, RefusesRows, Loads, RefusesLoad}
+use Rattle.catalog.specs.Loads.{LoadsTable, RefusesTable, LoadsNamed, RefusesNamed}
 use Rattle.catalog.specs.declared.fault.LoadFault.{LoadFault}
 use Rattle.catalog.specs.declared.fault.LoadFault.TheVariants as l
 use Rattle.catalog.specs.declared.table.NewColumn.{NewColumn}
@@ -106,9 +108,12 @@ named_some db name k h = let same : k - 0 ≡ k = omega arith in rw same at (pla
 
 -- a fault of the columns' types
 pub untyped_fault : (db : Database) (name : Name) (ds : List ColumnDefinition) (f : CreateFault) → RefusesTypes ds f → IfSome (create_refusal f) (Faulty db (CreateTable name ds))
-untyped_fault db name ds c.NameTaken h = absurd h
-untyped_fault db name ds c.OverLimit h = r.no_type name ds h
+untyped_fault db name ds (c.Type column fault) h = faults.no_type name ds h
 untyped_fault db name ds c.Memory h = tt
+untyped_fault db name ds c.TableTaken h = absurd h
+untyped_fault db name ds (c.ColumnTwice column) h = absurd h
+untyped_fault db name ds c.ManyTables h = absurd h
+untyped_fault db name ds c.ManyColumns h = absurd h
 
 typed_apart : (ds : List ColumnDefinition) → AreTypes ds → AnyOf (λ (d : ColumnDefinition). ¬ (IsType d.type)) ds → ⊥
 typed_apart [] h a = a
@@ -116,27 +121,29 @@ typed_apart (d ∷ ds) h (inl a) = a h.0
 typed_apart (d ∷ ds) h (inr a) = typed_apart ds h.1 a
 
 -- no cause of refusal stands
-pub accepted : (db : Database) (name : Name) (ds : List ColumnDefinition) → table_named db name ≡ None → AreDistinct (definition_names ds) → length db < 256 → length ds ≤ 64 → AreTypes ds
+pub accepted : (db : Database) (name : Name) (ds : List ColumnDefinition) → table_named db name ≡ None → AreDistinct (definition_names ds) → length db < most_tables → length ds ≤ most_columns → AreTypes ds
     → IsAccepted db (CreateTable name ds)
-accepted db name ds none distinct few narrow typed refusal (r.table_taken n ds' t h) = let clash : Some t ≡ None = sym h ∙ none in cc
-accepted db name ds none distinct few narrow typed refusal (r.column_twice n ds' h) = h distinct
-accepted db name ds none distinct few narrow typed refusal (r.many_tables n ds' h) = omega (arith, h, few)
-accepted db name ds none distinct few narrow typed refusal (r.many_columns n ds' h) = omega (arith, h, narrow)
-accepted db name ds none distinct few narrow typed refusal (r.no_type n ds' h) = typed_apart ds typed h
+accepted db name ds none distinct few narrow typed refusal (faults.table_taken n ds' t h) = let clash : Some t ≡ None = sym h ∙ none in cc
+accepted db name ds none distinct few narrow typed refusal (faults.column_twice n ds' h) = h distinct
+accepted db name ds none distinct few narrow typed refusal (faults.many_tables n ds' h) = omega (arith, h, few)
+accepted db name ds none distinct few narrow typed refusal (faults.many_columns n ds' h) = omega (arith, h, narrow)
+accepted db name ds none distinct few narrow typed refusal (faults.no_type n ds' h) = typed_apart ds typed h
 
 -- the test of names
 pub taken : (db : Database) (name : Name) (ds : List ColumnDefinition) (o : Option (Bor Table)) → option_copied o ≡ table_named db name → is_some o ≡ true → Faulty db (CreateTable name ds) NameTaken
 taken db name ds None e h = absurd cc
-taken db name ds (Some t) e h = r.table_taken name ds t.now (sym e)
+taken db name ds (Some t) e h = faults.table_taken name ds t.now (sym e)
 
 pub not_taken : (db : Database) (name : Name) (o : Option (Bor Table)) → option_copied o ≡ table_named db name → is_some o ≡ false → table_named db name ≡ None
 not_taken db name None e h = sym e
 not_taken db name (Some t) e h = absurd cc
 
--- the test of the limits
-pub over_limit : (db items : Database) (name : Name) (ns : List NewColumn) (n : ℕ) → items ≡ db → n ≡ length items → (256 ≤ n) ⊎ ((n < 256) × (64 < length ns)) → Faulty db (CreateTable name (definitions_of ns)) OverLimit
-over_limit db items name ns n e h (inl many) = r.many_tables name (definitions_of ns) (omega (arith, many, h, ap length e))
-over_limit db items name ns n e h (inr wide) = r.many_columns name (definitions_of ns) (omega (arith, wide.1, length-map ns definition_of))
+-- the tests of the limits
+pub many_tables : (db items : Database) (name : Name) (ns : List NewColumn) (n : ℕ) → items ≡ db → n ≡ length items → most_tables ≤ n → Faulty db (CreateTable name (definitions_of ns)) OverLimit
+many_tables db items name ns n e h many = faults.many_tables name (definitions_of ns) (omega (arith, many, h, ap length e))
+
+pub many_columns : (db : Database) (name : Name) (ns : List NewColumn) → most_columns < length ns → Faulty db (CreateTable name (definitions_of ns)) OverLimit
+many_columns db name ns wide = faults.many_columns name (definitions_of ns) (omega (arith, wide, length-map ns definition_of))
 
 pub on_ok : {T E : Type 0} (result : Result T E) (P : Type 0) → P → OnOk result P
 on_ok (Ok x) P p = p
@@ -144,13 +151,13 @@ on_ok (Err e) P p = tt
 
 -- ---- LOAD
 
-pub loads_database : (db : Database) (name : Name) (bytes : List ℕ) (k n : ℕ) (t new : Table) → IsPlace db name k → t ≡ get_or db k t → LoadsRows bytes t n new → Loads name bytes db n (set db k new)
+pub loads_database : (db : Database) (name : Name) (bytes : List ℕ) (k n : ℕ) (t new : Table) → IsPlace db name k → t ≡ get_or db k t → LoadsTable t bytes n (λ rows. new ≡ table.with_rows t rows) → LoadsNamed name bytes db n (set db k new)
 loads_database db name bytes k n t new p e l =
     let (rows, loads, few, count, is) = l in
-    (t, rows, p.is t ∙ ap Some (sym e), loads, few, count, sym (p.change (λ u. table.with_rows u rows) new t (is ∙ ap (λ (u : Table). table.with_rows u rows) e)))
+    (t, p.is t ∙ ap Some (sym e), (rows, loads, few, count, sym (p.change (λ u. table.with_rows u rows) new t (is ∙ ap (λ (u : Table). table.with_rows u rows) e))))
 
-pub refuses_database : (db : Database) (name : Name) (bytes : List ℕ) (k : ℕ) (t : Table) (fault : LoadFault) → IsPlace db name k → t ≡ get_or db k t → RefusesRows bytes t fault → RefusesLoad name bytes db fault
+pub refuses_database : (db : Database) (name : Name) (bytes : List ℕ) (k : ℕ) (t : Table) (fault : LoadFault) → IsPlace db name k → t ≡ get_or db k t → RefusesTable t bytes fault → RefusesNamed name bytes db fault
 refuses_database db name bytes k t l.NoTable p e r = absurd r
-refuses_database db name bytes k t (l.Record fault number) p e r = (t, p.is t ∙ ap Some (sym e), r)
-refuses_database db name bytes k t l.TooManyRows p e r = (t, p.is t ∙ ap Some (sym e), r)
-refuses_database db name bytes k t l.Memory p e r = tt
+refuses_database db name bytes k t (l.Record refused) p e r = (t, p.is t ∙ ap Some (sym e), r)
+refuses_database db name bytes k t l.ManyRows p e r = (t, p.is t ∙ ap Some (sym e), r)
+refuses_database db name bytes k t l.Memory p e r = (t, p.is t ∙ ap Some (sym e), tt)

@@ -9,7 +9,11 @@ use Rattle.definitions.specs.Table.{Column, Row}
 use Rattle.definitions.specs.Refusal.{Refusal, FieldError, Field}
 use Rattle.definitions.specs.Loading as load
 use Rattle.definitions.specs.Loading.{Record, FieldLoads, FieldsLoad}
-use Rattle.catalog.specs.Cells.{Refuses}
+use Rattle.refusals.specs.Meaning.{field_error_of}
+use Rattle.refusals.specs.declared.field.FieldFault.{FieldFault}
+use Rattle.catalog.specs.Meaning.{record_refusal}
+use Rattle.catalog.specs.Cells.{IfRefused}
+use Rattle.catalog.specs.Pushes.{in_column}
 use Rattle.catalog.specs.declared.fault.PushFault.{PushFault}
 use Rattle.catalog.specs.declared.fault.PushFault.TheVariants as p
 use Rattle.catalog.specs.Stored.{StoredColumn, headers, with_value, with_row, Extends, cut_to, AreFilled}
@@ -166,10 +170,10 @@ field_is o fs i s h l e =
 
 -- ---- faults of a push
 
-pub field_refused : (old now : List StoredColumn) (fields : Record) (i : ℕ) (c d : StoredColumn) (field : List ℕ) (fault : PushFault) → HavePushed old now fields i → i < length old → i < length fields
-    → c ≡ get_or now i d → field ≡ get_or fields i [] → Refuses (λ r. (e : FieldError) × (r ≡ Field e) × FieldLoads c.header.type field (Err e)) fault
-    → Refuses (λ r. FieldsLoad (headers old) fields (Err r)) fault
-field_refused old now fields i c d field (p.Refused fault) pushed h k g f r = let own = pushed_refused old now fields i c d field r.0 pushed h k g f r.2 in rw r.1 own
+pub field_refused : (old now : List StoredColumn) (fields : Record) (i : ℕ) (c d : StoredColumn) (field : List ℕ) (fault : PushFault FieldFault) → HavePushed old now fields i → i < length old → i < length fields
+    → c ≡ get_or now i d → field ≡ get_or fields i [] → IfRefused (λ f. FieldLoads c.header.type field (Err (field_error_of f))) fault
+    → IfRefused (λ f. FieldsLoad (headers old) fields (Err (record_refusal f))) (in_column fault i)
+field_refused old now fields i c d field (p.Refused fault) pushed h k g f r = pushed_refused old now fields i c d field (field_error_of fault) pushed h k g f r
 field_refused old now fields i c d field p.Memory pushed h k g f r = tt
 
 -- ---- columns that are cut, one after another

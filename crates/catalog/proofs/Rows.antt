@@ -7,7 +7,7 @@ use Rattle.std.proofs.lemmas.List.{length_push, length-map, get_or-map, get_or_a
 use Rattle.definitions.specs.Value.{Null, IsType}
 use Rattle.definitions.specs.Table.{Column, Table, column_of, new_table}
 use Rattle.definitions.specs.Statement.{ColumnDefinition}
-use Rattle.definitions.specs.Refusal.{AnyOf}
+use Rattle.definitions.specs.Faults.{AnyOf}
 use Rattle.catalog.specs.Meaning.{cell_at, definitions_of}
 use Rattle.sqlvalue.specs.Meaning.{declared_of}
 use Rattle.catalog.specs.declared.table.NewColumn.{NewColumn}

@@ -5,17 +5,14 @@ use Rattle.std.proofs.lemmas.Slice.Eq.{bytes_eq-Decides}
 use Rattle.definitions.specs.Value.{Value, Null, SqlType, Numbers, kind_of}
 use Rattle.definitions.specs.Loading as load
 use Rattle.definitions.specs.Loading.{FieldLoads, not_stored, null_field}
-use Rattle.definitions.specs.Refusal.{FieldError}
-use Rattle.catalog.specs.Meaning.{field_error}
+use Rattle.definitions.specs.Refusal.{FieldError, BadText, OutOfRange, TooLong}
 use Rattle.catalog.specs.Fields.{number_of, IsEqualOf, WritesShort, Stores, StoresNone, Unfit}
 use Rattle.catalog.specs.declared.field.number.WrittenNumber.{WrittenNumber}
-use Rattle.catalog.specs.declared.fault.FieldFault.{FieldFault}
-use Rattle.catalog.specs.declared.fault.FieldFault.TheVariants as f
 
 pub stored_number : (type : SqlType) (field : List ℕ) (w : WrittenNumber) (v : Value) → kind_of type ≡ Numbers → WritesShort field w → IsEqualOf type (number_of w) v → Stores type field v
 stored_number type field w v k s e = (number_of w, s.0, rw k s.1, (e.0, e.1, s.2))
 
-pub unfit_number : (type : SqlType) (field : List ℕ) (w : WrittenNumber) → kind_of type ≡ Numbers → WritesShort field w → ((v : Value) → IsEqualOf type (number_of w) v → ⊥) → StoresNone type field f.OutOfRange
+pub unfit_number : (type : SqlType) (field : List ℕ) (w : WrittenNumber) → kind_of type ≡ Numbers → WritesShort field w → ((v : Value) → IsEqualOf type (number_of w) v → ⊥) → StoresNone type field OutOfRange
 unfit_number type field w k s none = ((number_of w, s.0, rw k s.1, λ v h. none v (h.0, h.1)), rw k refl)
 
 -- what a field loads as
@@ -31,7 +28,7 @@ stored_loads type field v h s = load.stored s.0 v s.1 (not_null field h) s.2 s.3
 unfit_loads : (type : SqlType) (field : List ℕ) (e : FieldError) → bytes_eq field null_field ≡ false → Unfit type field → e ≡ not_stored (kind_of type) → FieldLoads type field (Err e)
 unfit_loads type field e h u k = rw k (load.unfit u.0 u.1 (not_null field h) u.2 u.3)
 
-pub refused_loads : (type : SqlType) (field : List ℕ) (fault : FieldFault) → bytes_eq field null_field ≡ false → StoresNone type field fault → FieldLoads type field (Err (field_error fault))
-refused_loads type field f.BadText h none = load.unwritten (not_null field h) none
-refused_loads type field f.OutOfRange h u = unfit_loads type field _ h u.0 u.1
-refused_loads type field f.TooLong h u = unfit_loads type field _ h u.0 u.1
+pub refused_loads : (type : SqlType) (field : List ℕ) (error : FieldError) → bytes_eq field null_field ≡ false → StoresNone type field error → FieldLoads type field (Err error)
+refused_loads type field BadText h none = load.unwritten (not_null field h) none
+refused_loads type field OutOfRange h u = unfit_loads type field _ h u.0 u.1
+refused_loads type field TooLong h u = unfit_loads type field _ h u.0 u.1

@@ -13,8 +13,8 @@ use Rattle.std.proofs.lemmas.Str.Ascii.{IsAscii-nil, IsAscii-cons}
 use Rattle.definitions.specs.Characters.{is_printable}
 use Rattle.definitions.specs.Value.{Value, Null, Number, Text, Char, text_cmp, compare, HasType}
 use Rattle.catalog.specs.Stored.{padded}
+use Rattle.definitions.specs.Refusal.{BadText, TooLong}
 use Rattle.catalog.specs.Fields.{Stores, StoresNone}
-use Rattle.catalog.specs.declared.fault.FieldFault.TheVariants as f
 use Rattle.catalog.proofs.TextLists.{length-padded}
 use Rattle.catalog.proofs.Numerals.{both_true}
 
@@ -117,7 +117,7 @@ stored_text n m field kept rest e p k r b =
     )
 
 pub unfit_text : (n m : ℕ) (field rest : List ℕ) → m ≡ min (length field) n → list_all is_printable field ≡ true → rest ≡ drop m field → list_all (λ c. c == 32) rest ≡ false
-    → StoresNone (Char n) field f.TooLong
+    → StoresNone (Char n) field TooLong
 unfit_text n m field rest e p r b =
     let m' : m ≡ min n (length field) = omega (arith, e) in
     let rest' : rest ≡ drop n field = r ∙ ap (λ x. drop x field) m' ∙ drop_min n field in
@@ -125,7 +125,7 @@ unfit_text n m field rest e p r b =
     let blank = rw rest' at b in
     ((Text field, 0, (refl, refl, own), λ w s. none_fits n field w blank s.0 s.1), refl)
 
-pub unwritten_text : (n : ℕ) (field : List ℕ) → list_all is_printable field ≡ false → StoresNone (Char n) field f.BadText
+pub unwritten_text : (n : ℕ) (field : List ℕ) → list_all is_printable field ≡ false → StoresNone (Char n) field BadText
 unwritten_text n field h = λ v digits w. let clash : false ≡ true = sym h ∙ test_from_printable field w.2 in cc
 
 pub kept_utf8 : (m : ℕ) (field kept : List ℕ) → list_all is_printable field ≡ true → kept ≡ take m field → IsUtf8 kept

@@ -3,17 +3,19 @@ use Rattle.std.proofs.Common.{◌≡◌, ◌∙◌, refl, sym, ap, subst, ◌+�
 use Rattle.std.specs.Prelude.{IsFalse, IfOk, OnErr, bytes_eq}
 use Rattle.std.specs.List.{AllByRecursion}
 use Rattle.std.proofs.lemmas.List.{length-append, length-map, length_push, length-set, set-get_or, map-append}
+use Rattle.definitions.specs.Limits.{most_tables, most_columns, most_rows}
 use Rattle.definitions.specs.Value.{Value, Null, SqlType, HasType, IsType}
 use Rattle.definitions.specs.Statement.{Name, ColumnDefinition}
-use Rattle.definitions.specs.Refusal.{Refusal, FieldError, definition_names}
+use Rattle.definitions.specs.Refusal.{Refusal, FieldError}
+use Rattle.definitions.specs.Faults.{definition_names}
 use Rattle.definitions.specs.Refusal as refusal
 use Rattle.definitions.specs.Loading as load
 use Rattle.definitions.specs.Loading.{Record, FieldLoads, FieldsLoad, RecordLoads, AllLoad}
 use Rattle.definitions.specs.Table as table
-use Rattle.definitions.specs.Table.{Column, Row, Table, Database, table_named, IsRow, IsTable, IsDatabase, AreDistinct, column_names, column_of, new_table}
+use Rattle.definitions.specs.Table.{Column, Row, Table, Database, table_named, IsRow, IsTable, IsDatabase, AreDistinct, column_names, column_of, new_table, with_rows}
 use Rattle.catalog.specs.Creates.{AreTypes}
 use Rattle.catalog.specs.Stored.{StoredColumn, headers}
-use Rattle.catalog.specs.Loads.{LoadsRows}
+use Rattle.catalog.specs.Loads.{LoadsTable}
 use Rattle.catalog.specs.declared.fault.LoadFault.{LoadFault}
 
 null_typed : (type : SqlType) → HasType type Null
@@ -46,7 +48,7 @@ all_append P [] ys h k = k
 all_append P (x ∷ xs) ys h k = (h.0, all_append P xs ys h.1 k)
 
 -- what holds of a table holds of it with rows that load
-pub table_with_rows : (t : Table) (records : List Record) (rows : List Row) → IsTable t → AllLoad t.columns records rows → length t.rows + length rows ≤ 100000000 → IsTable (table.with_rows t rows)
+pub table_with_rows : (t : Table) (records : List Record) (rows : List Row) → IsTable t → AllLoad t.columns records rows → length t.rows + length rows ≤ most_rows → IsTable (table.with_rows t rows)
 table_with_rows t records rows s a few = record {
   columns = s.columns;
   rows = omega (arith, few, length-append t.rows rows);
@@ -64,7 +66,7 @@ types_of : (ds : List ColumnDefinition) → AreTypes ds → AllByRecursion (λ (
 types_of [] h = tt
 types_of (d ∷ ds) h = (h.0, types_of ds h.1)
 
-pub new_is_table : (name : List ℕ) (ds : List ColumnDefinition) → length ds ≤ 64 → AreDistinct (definition_names ds) → AreTypes ds → IsTable (new_table name ds)
+pub new_is_table : (name : List ℕ) (ds : List ColumnDefinition) → length ds ≤ most_columns → AreDistinct (definition_names ds) → AreTypes ds → IsTable (new_table name ds)
 new_is_table name ds narrow distinct types = record {
   columns = omega (arith, narrow, length-map ds column_of);
   rows = omega arith;
@@ -93,7 +95,7 @@ distinct_push (u ∷ db) t h n =
     let (other, rest) = not_first (bytes_eq u.name t.name) u (table_named db t.name) n in
     (rw (map-append (λ (t : Table). t.name) db (t ∷ [])) (apart_push u.name t.name (names db) h.0 other), distinct_push db t h.1 rest)
 
-pub database_push : (db : Database) (t : Table) → IsDatabase db → IsTable t → length db < 256 → table_named db t.name ≡ None → IsDatabase (db ++ t ∷ [])
+pub database_push : (db : Database) (t : Table) → IsDatabase db → IsTable t → length db < most_tables → table_named db t.name ≡ None → IsDatabase (db ++ t ∷ [])
 database_push db t s h few n = record {
   tables = omega (arith, few, length_push db t);
   distinct = distinct_push db t s.distinct n;
@@ -124,20 +126,20 @@ database_set db k old new s l e h n = record {
 }
 
 -- what LOAD leaves of a database
-pub database_loaded : (db : Database) (k n : ℕ) (bytes : List ℕ) (old new : Table) → IsDatabase db → k < length db → old ≡ get_or db k old → LoadsRows bytes old n new → IsDatabase (set db k new)
+pub database_loaded : (db : Database) (k n : ℕ) (bytes : List ℕ) (old new : Table) → IsDatabase db → k < length db → old ≡ get_or db k old → LoadsTable old bytes n (λ rows. new ≡ with_rows old rows) → IsDatabase (set db k new)
 database_loaded db k n bytes old new s l e (rows, loads, few, count, is) =
     let was : IsTable old = rw e (each_at db k old s.each l) in
     database_set db k old new s l e (rw is (table_with_rows old loads.0 rows was loads.2 few)) (ap (λ (t : Table). t.name) is)
 
 pub database_after : (result : Result ℕ LoadFault) (db : Database) (k : ℕ) (bytes : List ℕ) (old new : Table) → IsDatabase db → k < length db → old ≡ get_or db k old
-    → IfOk result (λ n. LoadsRows bytes old n new) → OnErr result (new ≡ old) → IsDatabase (set db k new)
+    → IfOk result (λ n. LoadsTable old bytes n (λ rows. new ≡ with_rows old rows)) → OnErr result (new ≡ old) → IsDatabase (set db k new)
 database_after (Ok n) db k bytes old new s l e loads same = database_loaded db k n bytes old new s l e loads
 database_after (Err f) db k bytes old new s l e loads same =
     let unchanged : set db k new ≡ db = ap (set db k) (same ∙ e) ∙ set-get_or db k old in
     rw unchanged s
 
 -- what a push leaves of one
-pub database_pushed : (pushed : Bool) (db new : Database) (t : Table) (name : Name) (ds : List ColumnDefinition) → new ≡ cond pushed (db ++ t ∷ []) db → t ≡ new_table name ds → IsDatabase db → IsTable t → length db < 256
+pub database_pushed : (pushed : Bool) (db new : Database) (t : Table) (name : Name) (ds : List ColumnDefinition) → new ≡ cond pushed (db ++ t ∷ []) db → t ≡ new_table name ds → IsDatabase db → IsTable t → length db < most_tables
     → table_named db name ≡ None → IsDatabase new
 database_pushed true db new t name ds e h s i few n = rw e (database_push db t s i few (ap (λ (u : Table). table_named db u.name) h ∙ n))
 database_pushed false db new t name ds e h s i few n = rw e s
@@ -147,9 +149,3 @@ pub type_at : (cs : List StoredColumn) (i : ℕ) (x : StoredColumn) → AllByRec
 type_at [] i x h l e = absurd (omega (arith, l))
 type_at (c ∷ cs) zero x h l e = subst (λ (y : StoredColumn). IsType y.header.type) (sym e) h.0
 type_at (c ∷ cs) (suc i) x h l e = type_at cs i x h.1 (omega (arith, l)) e
-
--- a field's refusal is its fault
-pub field_fault_is : (type : SqlType) (field : List ℕ) (f : FieldError) → ((e : FieldError) × (refusal.Field f ≡ refusal.Field e) × FieldLoads type field (Err e)) → FieldLoads type field (Err f)
-field_fault_is type field f (e, same, loads) =
-    let back : e ≡ f = cc in
-    subst (λ x. FieldLoads type field (Err x)) back loads

@@ -1,9 +1,9 @@
 -- What cells of either kind keep, and what a push of a field does to them.
 use Rattle.std.specs.Prelude.{ℕ, ◌≡◌, List, [], ◌∷◌, ◌++◌, Ok, Err, ⊤}
 use Rattle.definitions.specs.Value.{Value}
-use Rattle.definitions.specs.Refusal as refusal
 use Rattle.definitions.specs.Loading.{FieldLoads}
-use Rattle.catalog.specs.Meaning.{record_refusal}
+use Rattle.refusals.specs.Meaning.{field_error_of}
+use Rattle.refusals.specs.declared.field.FieldFault.{FieldFault}
 use Rattle.catalog.specs.Stored.{CellList}
 use Rattle.catalog.specs.declared.cells.Cells.{Cells}
 use Rattle.catalog.specs.declared.cells.Cells.TheVariants as k
@@ -18,11 +18,11 @@ cell_list (k.Texts cells) = cells
 abbrev pub PushesField : List ℕ → CellList → CellList → Type 0
 PushesField field old new = (v : Value) × FieldLoads old.type field (Ok v) × (new ≡ record old { values = old.values ++ v ∷ [] })
 
--- the refusal that a fault of a push is, if it is not want of memory
-abbrev pub Refuses : (refusal.Refusal → Type 0) → PushFault → Type 0
-Refuses P (p.Refused fault) = P (record_refusal fault)
-Refuses P p.Memory = ⊤
+-- the fault of a push has a property, if it is not want of memory
+abbrev pub IfRefused : {F : Type 0} → (F → Type 0) → PushFault F → Type 0
+IfRefused P (p.Refused fault) = P fault
+IfRefused P p.Memory = ⊤
 
 -- the field is refused
-abbrev pub RefusesField : List ℕ → CellList → PushFault → Type 0
-RefusesField field old = Refuses (λ r. (e : refusal.FieldError) × (r ≡ refusal.Field e) × FieldLoads old.type field (Err e))
+abbrev pub RefusesField : List ℕ → CellList → PushFault FieldFault → Type 0
+RefusesField field old = IfRefused (λ f. FieldLoads old.type field (Err (field_error_of f)))

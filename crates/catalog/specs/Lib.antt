@@ -8,10 +8,10 @@ pub mod NumberTypes
 pub mod Texts
 pub mod Fields
 pub mod Cells
+pub mod Pushes
 pub mod Columns
 pub mod Tables
 pub mod Places
 pub mod Creates
 pub mod Loads
 pub mod Files
-pub mod Judging

@@ -1,45 +1,43 @@
--- What LOAD does to columns, tables and databases.
-use Rattle.std.specs.Prelude.{ℕ, ◌+◌, ◌<◌, ◌≤◌, ◌≡◌, List, Some, None, length, ⊤}
-use Rattle.definitions.specs.Table as table
-use Rattle.definitions.specs.Table.{Table, Database, Row, table_named, changed}
+-- What LOAD does: of the rows that bytes are for columns, of a table that gets them, and of a database that has the table.
+use Rattle.std.specs.Prelude.{ℕ, ◌+◌, ◌-◌, ◌<◌, ◌≤◌, ◌≡◌, List, Some, None, length, ⊤}
+use Rattle.definitions.specs.Limits.{most_rows}
+use Rattle.definitions.specs.Table.{Column, Table, Database, Row, table_named, with_rows, changed}
 use Rattle.definitions.specs.Statement.{Name}
 use Rattle.definitions.specs.Loading.{Record, AreFileRecords, AllLoad, FirstFaulty}
 use Rattle.catalog.specs.Meaning.{record_refusal}
 use Rattle.catalog.specs.declared.fault.LoadFault.{LoadFault}
 use Rattle.catalog.specs.declared.fault.LoadFault.TheVariants as l
 
--- the bytes of a file load as these rows
-abbrev pub LoadAs : List table.Column → List ℕ → List Row → Type 0
-LoadAs columns bytes rows = (records : List Record) × AreFileRecords bytes records × AllLoad columns records rows
+-- the bytes of a file are these rows of columns
+abbrev pub Loads : List Column → List ℕ → List Row → Type 0
+Loads columns bytes rows = (records : List Record) × AreFileRecords bytes records × AllLoad columns records rows
 
--- why they do not come where there is room for so many
-abbrev pub AreRefused : List table.Column → List ℕ → ℕ → LoadFault → Type 0
-AreRefused columns bytes room l.NoTable = ⊥
-AreRefused columns bytes room (l.Record fault number) = (records : List Record) × AreFileRecords bytes records × FirstFaulty columns records (record_refusal fault) number
-AreRefused columns bytes room l.TooManyRows = (rows : List Row) × LoadAs columns bytes rows × (room < length rows)
-AreRefused columns bytes room l.Memory = ⊤
+-- why they are no rows, or too many, where there is room for so many
+abbrev pub RefusesLoad : List Column → List ℕ → (room : ℕ) → LoadFault → Type 0
+RefusesLoad columns bytes room l.NoTable = ⊥
+RefusesLoad columns bytes room (l.Record r) = (records : List Record) × AreFileRecords bytes records × FirstFaulty columns records (record_refusal r.fault) r.number
+RefusesLoad columns bytes room l.ManyRows = (rows : List Row) × Loads columns bytes rows × (room < length rows)
+RefusesLoad columns bytes room l.Memory = ⊤
 
--- a table with the rows of a file, of which there are n
-abbrev pub LoadsRows : List ℕ → Table → ℕ → Table → Type 0
-LoadsRows bytes old n new =
-    (rows : List Row) × LoadAs old.columns bytes rows × (length old.rows + length rows ≤ 100000000) × (n ≡ length rows) × (new ≡ table.with_rows old rows)
+-- how many rows a table has room for
+abbrev pub room_of : Table → ℕ
+room_of t = most_rows - length t.rows
 
--- why a table does not get them
-abbrev pub RefusesRows : List ℕ → Table → LoadFault → Type 0
-RefusesRows bytes t l.NoTable = ⊥
-RefusesRows bytes t (l.Record fault number) = (records : List Record) × AreFileRecords bytes records × FirstFaulty t.columns records (record_refusal fault) number
-RefusesRows bytes t l.TooManyRows = (rows : List Row) × LoadAs t.columns bytes rows × (100000000 < length t.rows + length rows)
-RefusesRows bytes t l.Memory = ⊤
+-- n rows are loaded, which become those of a table in this way
+abbrev pub LoadsTable : Table → List ℕ → ℕ → (List Row → Type 0) → Type 0
+LoadsTable t bytes n becomes = (rows : List Row) × Loads t.columns bytes rows × (length t.rows + length rows ≤ most_rows) × (n ≡ length rows) × becomes rows
 
--- a database with the rows of a file in the table of a name
-abbrev pub Loads : Name → List ℕ → Database → ℕ → Database → Type 0
-Loads name bytes old n new =
-    (t : Table) × (rows : List Row) × (table_named old name ≡ Some t) × LoadAs t.columns bytes rows × (length t.rows + length rows ≤ 100000000) × (n ≡ length rows)
-    × (new ≡ changed (λ u. table.with_rows u rows) old name)
+abbrev pub RefusesTable : Table → List ℕ → LoadFault → Type 0
+RefusesTable t bytes = RefusesLoad t.columns bytes (room_of t)
 
--- why it does not get them
-abbrev pub RefusesLoad : Name → List ℕ → Database → LoadFault → Type 0
-RefusesLoad name bytes db l.NoTable = table_named db name ≡ None
-RefusesLoad name bytes db (l.Record fault number) = (t : Table) × (table_named db name ≡ Some t) × RefusesRows bytes t (l.Record fault number)
-RefusesLoad name bytes db l.TooManyRows = (t : Table) × (table_named db name ≡ Some t) × RefusesRows bytes t l.TooManyRows
-RefusesLoad name bytes db l.Memory = ⊤
+-- the table of a name has a property
+abbrev pub OfTable : Database → Name → (Table → Type 0) → Type 0
+OfTable db name P = (t : Table) × (table_named db name ≡ Some t) × P t
+
+-- they come into the table of a name, and the database is else as it was
+abbrev pub LoadsNamed : Name → List ℕ → Database → ℕ → Database → Type 0
+LoadsNamed name bytes old n new = OfTable old name (λ t. LoadsTable t bytes n (λ rows. new ≡ changed (λ u. with_rows u rows) old name))
+
+abbrev pub RefusesNamed : Name → List ℕ → Database → LoadFault → Type 0
+RefusesNamed name bytes db l.NoTable = table_named db name ≡ None
+RefusesNamed name bytes db fault = OfTable db name (λ t. RefusesTable t bytes fault)

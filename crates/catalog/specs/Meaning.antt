@@ -4,12 +4,11 @@ use Rattle.definitions.specs.Value as value
 use Rattle.definitions.specs.Statement.{ColumnDefinition}
 use Rattle.definitions.specs.Refusal as refusal
 use Rattle.definitions.specs.Table as table
+use Rattle.refusals.specs.Meaning.{field_error_of}
 use Rattle.sqlvalue.specs.Meaning.{declared_of}
 use Rattle.catalog.specs.declared.table.NewColumn.{NewColumn}
 use Rattle.catalog.specs.declared.fault.CreateFault.{CreateFault}
 use Rattle.catalog.specs.declared.fault.CreateFault.TheVariants as c
-use Rattle.catalog.specs.declared.fault.FieldFault.{FieldFault}
-use Rattle.catalog.specs.declared.fault.FieldFault.TheVariants as f
 use Rattle.catalog.specs.declared.fault.RecordFault.{RecordFault}
 use Rattle.catalog.specs.declared.fault.RecordFault.TheVariants as r
 
@@ -22,19 +21,17 @@ definitions_of = map definition_of
 
 -- the refusal that a fault of CREATE TABLE is; none where memory was wanting
 abbrev pub create_refusal : CreateFault → Option refusal.Refusal
-create_refusal c.NameTaken = Some refusal.NameTaken
-create_refusal c.OverLimit = Some refusal.OverLimit
+create_refusal c.TableTaken = Some refusal.NameTaken
+create_refusal (c.ColumnTwice column) = Some refusal.NameTaken
+create_refusal c.ManyTables = Some refusal.OverLimit
+create_refusal c.ManyColumns = Some refusal.OverLimit
+create_refusal (c.Type column fault) = Some refusal.OverLimit
 create_refusal c.Memory = None
-
-abbrev pub field_error : FieldFault → refusal.FieldError
-field_error f.BadText = refusal.BadText
-field_error f.OutOfRange = refusal.OutOfRange
-field_error f.TooLong = refusal.TooLong
 
 -- the refusal of a record
 abbrev pub record_refusal : RecordFault → refusal.Refusal
-record_refusal r.FieldCount = refusal.FieldCount
-record_refusal (r.Field fault) = refusal.Field (field_error fault)
+record_refusal (r.FieldCount fields) = refusal.FieldCount
+record_refusal (r.Field fault column) = refusal.Field (field_error_of fault)
 
 -- the value in a row and a column of a table
 abbrev pub cell_at : table.Table → (row column : ℕ) → value.Value

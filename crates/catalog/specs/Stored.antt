@@ -2,6 +2,7 @@
 use Rattle.std.specs.Prelude.{ℕ, zero, suc, ℤ, ◌-◌, ◌≤◌, List, [], ◌∷◌, ◌++◌, Option, Some, None, length, map, take, replicate, slice_index_or, ◌≡◌, ⊤}
 use Rattle.std.specs.List.{AllByRecursion}
 use Rattle.std.specs.Str.{IsAscii}
+use Rattle.definitions.specs.Characters.{space}
 use Rattle.definitions.specs.Value.{Value, Null, Number, Text, SqlType, Char, scale_of}
 use Rattle.definitions.specs.Statement.{Name, ColumnDefinition}
 use Rattle.definitions.specs.Table.{Column, Row, Table}
@@ -23,7 +24,7 @@ number_or_null type (Some units) = Number units (scale_of type)
 
 -- a text with spaces behind it, as many as make it n characters long
 abbrev pub padded : ℕ → List ℕ → List ℕ
-padded n codes = codes ++ replicate (n - length codes) 32
+padded n codes = codes ++ replicate (n - length codes) space
 
 -- how long the texts of a type are
 abbrev pub length_of : SqlType → ℕ

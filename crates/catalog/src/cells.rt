@@ -8,9 +8,10 @@ ghost use Rattle.catalog.specs.Cells.{cell_list, PushesField, RefusesField};
 mod number;
 mod text;
 
-use crate::fault::{PushFault, RecordFault};
+use crate::fault::PushFault;
 use crate::field::{number_cell, text_cell};
 use number::NumberCells;
+use refusals::FieldFault;
 use sqlvalue::{SqlType, Value};
 use std::alloc::Global;
 use text::TextCells;
@@ -58,7 +59,7 @@ impl Cells {
     }
 
     /// Adds the value that a field is stored as. An `Err` leaves the cells as they were.
-    pub(crate) fn push_field(&mut self, field: &[u8]) -> Result<(), PushFault>
+    pub(crate) fn push_field(&mut self, field: &[u8]) -> Result<(), PushFault<FieldFault>>
         ensures ok { OnOk result (PushesField field.now (cell_list self.old) (cell_list self.new)) }
         ensures refused { IfErr result (RefusesField field.now (cell_list self.old)) }
         ensures err { OnErr result (cell_list self.new ≡ cell_list self.old) }
@@ -81,24 +82,24 @@ impl Cells {
     }
 }
 
-fn push_number(cells: &mut NumberCells, field: &[u8]) -> Result<(), PushFault>
+fn push_number(cells: &mut NumberCells, field: &[u8]) -> Result<(), PushFault<FieldFault>>
     ensures ok { OnOk result (PushesField field.now cells.old cells.new) }
     ensures refused { IfErr result (RefusesField field.now cells.old) }
     ensures err { OnErr result (cells.new ≡ cells.old) }
 {
     match number_cell(field, cells.sql_type()) {
         Ok(units) => cells.push(units).map_err(|_| PushFault::Memory),
-        Err(fault) => Err(PushFault::Refused(RecordFault::Field(fault))),
+        Err(fault) => Err(PushFault::Refused(fault)),
     }
 }
 
-fn push_text(cells: &mut TextCells, field: &[u8]) -> Result<(), PushFault>
+fn push_text(cells: &mut TextCells, field: &[u8]) -> Result<(), PushFault<FieldFault>>
     ensures ok { OnOk result (PushesField field.now cells.old cells.new) }
     ensures refused { IfErr result (RefusesField field.now cells.old) }
     ensures err { OnErr result (cells.new ≡ cells.old) }
 {
     match text_cell(field, usize::from(cells.length())) {
         Ok(text) => cells.push(text).map_err(|_| PushFault::Memory),
-        Err(fault) => Err(PushFault::Refused(RecordFault::Field(fault))),
+        Err(fault) => Err(PushFault::Refused(fault)),
     }
 }

@@ -2,13 +2,14 @@
 
 ghost use Rattle.std.specs.Prelude.{◌≡◌, ◌<◌, ◌≤◌, [], Ok, Err, IfOk, IfErr, OnOk, OnErr, length, bytes_eq, slice_index_or};
 ghost use Rattle.definitions.specs.Value as spec;
-ghost use Rattle.definitions.specs.Refusal as refusal;
 ghost use Rattle.definitions.specs.Loading.{FieldLoads};
+ghost use Rattle.refusals.specs.Meaning.{field_error_of};
 ghost use Rattle.sqlvalue.specs.Meaning.{type_of, value_of};
 ghost use Rattle.catalog.specs.Stored.{named, with_value, cut_to};
 
 use crate::cells::Cells;
 use crate::fault::PushFault;
+use refusals::FieldFault;
 use sqlvalue::{SqlType, Value};
 use std::alloc::{AllocError, Global};
 use std::marker::Model;
@@ -31,7 +32,7 @@ impl Model for Column {
 }
 
 impl Column {
-    ghost use Rattle.catalog.specs.Cells.{Refuses};
+    ghost use Rattle.catalog.specs.Cells.{IfRefused};
 
     /// A column without cells.
     pub(crate) fn new(alloc: Global, name: &str, sql_type: SqlType) -> Result<Column, AllocError>
@@ -70,9 +71,9 @@ impl Column {
     }
 
     /// Adds the value that a field is stored as. An `Err` leaves the column as it was.
-    pub(crate) fn push_field(&mut self, field: &[u8]) -> Result<(), PushFault>
+    pub(crate) fn push_field(&mut self, field: &[u8]) -> Result<(), PushFault<FieldFault>>
         ensures ok { OnOk result ((v : spec.Value) × FieldLoads self.old.header.type field.now (Ok v) × (self.new ≡ with_value self.old v)) }
-        ensures refused { IfErr result (Refuses (λ r. (e : refusal.FieldError) × (r ≡ refusal.Field e) × FieldLoads self.old.header.type field.now (Err e))) }
+        ensures refused { IfErr result (IfRefused (λ f. FieldLoads self.old.header.type field.now (Err (field_error_of f)))) }
         ensures err { OnErr result (self.new ≡ self.old) }
     {
         self.cells.push_field(field)

@@ -1,26 +1,25 @@
 //! Databases.
 
-ghost use Rattle.std.specs.Prelude.{◌≡◌, ◌<◌, ◌∷◌, [], ◌++◌, ◌||◌, true, Some, IfSome, IfOk, IfErr, OnOk, OnErr, length, bytes_eq};
-ghost use Rattle.std.specs.Bool.{OnTrue, OnFalse};
+ghost use Rattle.std.specs.Prelude.{◌≡◌, ◌<◌, ◌∷◌, [], ◌++◌, ◌||◌, true, Some, IfSome, IfOk, IfErr, OnOk, OnErr, OnSome, IsNone, length, bytes_eq};
 ghost use Rattle.std.specs.Option.{option_copied};
 ghost use Rattle.std.specs.List.{list_any, position_from};
 ghost use Rattle.definitions.specs.Statement.{CreateTable};
 ghost use Rattle.definitions.specs.Table as spec;
 ghost use Rattle.definitions.specs.Table.{AreDistinct, new_table, table_named};
-ghost use Rattle.definitions.specs.Refusal.{Faulty, IsAccepted, definition_names};
+ghost use Rattle.definitions.specs.Faults.{Faulty, IsAccepted, definition_names};
 ghost use Rattle.catalog.specs.Meaning.{create_refusal, definitions_of};
-ghost use Rattle.catalog.specs.Loads.{Loads, RefusesLoad};
+ghost use Rattle.catalog.specs.Loads.{LoadsNamed, RefusesNamed};
 
 use crate::fault::{CreateFault, LoadFault};
 use crate::table::{NewColumn, Table};
 use std::alloc::Global;
 use std::marker::Model;
 
-/// How many tables a database may have.
-const MAX_TABLES: usize = 256;
+/// How many tables a database may have (own).
+pub const MAX_TABLES: usize = 256;
 
-/// How many columns a table may have.
-const MAX_COLUMNS: usize = 64;
+/// How many columns a table may have (own).
+pub const MAX_COLUMNS: usize = 64;
 
 /// A database: its tables in the order in which they were made.
 #[derive(Drop)]
@@ -58,24 +57,27 @@ impl Database {
         ensures refused { IfErr result (λ f. IfSome (create_refusal f) (Faulty self.old (CreateTable name.now (definitions_of columns.now)))) }
         ensures err { OnErr result (self.new ≡ self.old) }
     {
-        if self.tables.len() >= MAX_TABLES || columns.len() > MAX_COLUMNS {
-            return Err(CreateFault::OverLimit);
+        if self.tables.len() >= MAX_TABLES {
+            return Err(CreateFault::ManyTables);
         }
-        if self.table(name).is_some() || has_twins(columns) {
-            return Err(CreateFault::NameTaken);
+        if columns.len() > MAX_COLUMNS {
+            return Err(CreateFault::ManyColumns);
         }
-        let table = match Table::new(self.alloc, name, columns) {
-            Ok(table) => table,
-            Err(fault) => return Err(fault),
-        };
+        if self.table(name).is_some() {
+            return Err(CreateFault::TableTaken);
+        }
+        if let Some(column) = second_twin(columns) {
+            return Err(CreateFault::ColumnTwice { column });
+        }
+        let table = Table::new(self.alloc, name, columns)?;
         self.tables.push(table).map_err(|_| CreateFault::Memory)
     }
 
     /// LOAD of the bytes of a file (own): a row for each record, or else the first record that is no
     /// row. Tells how many rows came; an `Err` leaves the database as it was.
     pub fn load(&mut self, table: &str, bytes: &[u8]) -> Result<u64, LoadFault>
-        ensures ok { IfOk result (λ n. Loads table.now bytes.now self.old n self.new) }
-        ensures refused { IfErr result (RefusesLoad table.now bytes.now self.old) }
+        ensures ok { IfOk result (λ n. LoadsNamed table.now bytes.now self.old n self.new) }
+        ensures refused { IfErr result (RefusesNamed table.now bytes.now self.old) }
         ensures err { OnErr result (self.new ≡ self.old) }
     {
         let alloc = self.alloc;
@@ -117,17 +119,29 @@ impl Database {
     }
 }
 
-/// Whether two of the columns have one name.
-fn has_twins(columns: &[NewColumn]) -> bool
-    ensures twins { OnTrue result (¬ (AreDistinct (definition_names (definitions_of columns.now)))) }
-    ensures none { OnFalse result (AreDistinct (definition_names (definitions_of columns.now))) }
+/// The place of a column that has the name of one before it.
+fn second_twin(columns: &[NewColumn]) -> Option<usize>
+    ensures twins { OnSome result (¬ (AreDistinct (definition_names (definitions_of columns.now)))) }
+    ensures none { IsNone result → AreDistinct (definition_names (definitions_of columns.now)) }
 {
     for (i, column) in columns.iter().enumerate() {
         if has_name(&columns[i + 1..], column.name) {
-            return true;
+            return Some(place_behind(columns, i));
         }
     }
-    false
+    None
+}
+
+/// The place of the next column of the name of one.
+fn place_behind(columns: &[NewColumn], place: usize) -> usize
+    requires { place < length columns.now }
+{
+    let name = columns[place].name;
+    let others = columns[place + 1..]
+        .iter()
+        .take_while(|column| column.name != name)
+        .count();
+    place.saturating_add(others).saturating_add(1)
 }
 
 fn has_name(columns: &[NewColumn], name: &str) -> bool

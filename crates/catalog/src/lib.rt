@@ -10,6 +10,6 @@ mod file;
 mod number_type;
 mod table;
 
-pub use database::Database;
-pub use fault::{CreateFault, FieldFault, LoadFault, RecordFault};
-pub use table::{NewColumn, Table};
+pub use database::{Database, MAX_COLUMNS, MAX_TABLES};
+pub use fault::{CreateFault, LoadFault, RecordFault, RefusedRecord};
+pub use table::{MAX_ROWS, NewColumn, Table};

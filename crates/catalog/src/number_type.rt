@@ -1,6 +1,7 @@
 //! Which numbers a type has.
 
 ghost use Rattle.std.specs.Prelude.{◌≡◌, ◌≤◌, ◌^◌};
+ghost use Rattle.definitions.specs.Limits.{greatest_precision};
 ghost use Rattle.definitions.specs.Value as spec;
 ghost use Rattle.sqlvalue.specs.Meaning.{type_of};
 ghost use Rattle.catalog.specs.NumberTypes.{size_limit_of};
@@ -11,7 +12,7 @@ use sqlvalue::SqlType;
 pub(crate) fn scale(sql_type: SqlType) -> u8
     requires { spec.IsType (type_of sql_type) }
     ensures value { result ≡ spec.scale_of (type_of sql_type) }
-    ensures bound { result ≤ 18 }
+    ensures bound { result ≤ greatest_precision }
 {
     match sql_type {
         SqlType::Numeric { scale, .. } => scale,
@@ -23,7 +24,7 @@ pub(crate) fn scale(sql_type: SqlType) -> u8
 pub(crate) fn size_limit(sql_type: SqlType, negative: bool) -> u128
     requires { spec.IsType (type_of sql_type) }
     ensures value { result ≡ size_limit_of (type_of sql_type) negative }
-    ensures bound { result ≤ 10 ^ 18 }
+    ensures bound { result ≤ 10 ^ greatest_precision }
 {
     match sql_type {
         SqlType::Smallint => (1 << 15) + u128::from(negative),

@@ -2,20 +2,21 @@
 
 ghost use Rattle.std.specs.Prelude.{◌≡◌, ◌<◌, ◌≤◌, ◌↔◌, Some, None, IsNone, IfOk, IfErr, OnOk, OnErr, IfSome, length, bytes_eq, option_map, slice_get};
 ghost use Rattle.std.specs.List.{AllByRecursion, position_from};
+ghost use Rattle.definitions.specs.Limits.{most_columns, most_rows};
 ghost use Rattle.definitions.specs.Table as spec;
 ghost use Rattle.definitions.specs.Value.{IsType};
 ghost use Rattle.catalog.specs.Places.{IsColumnPlace};
 ghost use Rattle.sqlvalue.specs.Meaning.{type_of, value_of};
 
 use crate::column::Column;
-use crate::fault::{CreateFault, FieldFault, LoadFault, PushFault, RecordFault};
+use crate::fault::{CreateFault, LoadFault};
 use crate::file;
 use sqlvalue::{DeclaredType, SqlType, Value};
-use std::alloc::{AllocError, Global};
+use std::alloc::Global;
 use std::marker::Model;
 
-/// How many rows a table may have.
-const MAX_ROWS: usize = 100_000_000;
+/// How many rows a table may have (own).
+pub const MAX_ROWS: usize = 100_000_000;
 
 /// A column of a table to be made, by its name and its type (ISO/IEC 9075:1992, 11.4).
 #[derive(Clone, Copy, Debug)]
@@ -48,9 +49,8 @@ impl Model for Table {
 impl Table {
     ghost use Rattle.catalog.specs.Meaning.{cell_at, definitions_of};
     ghost use Rattle.catalog.specs.Creates.{AreTypes, RefusesTypes};
-    ghost use Rattle.catalog.specs.Judging.{JudgesField};
-    ghost use Rattle.catalog.specs.Loads.{LoadsRows, RefusesRows};
-    ghost use Rattle.definitions.specs.Refusal.{definition_names};
+    ghost use Rattle.catalog.specs.Loads.{LoadsTable, RefusesTable};
+    ghost use Rattle.definitions.specs.Faults.{definition_names};
 
     /// A table without rows.
     pub(crate) fn new(
@@ -58,7 +58,7 @@ impl Table {
         name: &str,
         columns: &[NewColumn],
     ) -> Result<Table, CreateFault>
-        requires narrow { length columns.now ≤ 64 }
+        requires narrow { length columns.now ≤ most_columns }
         requires distinct { spec.AreDistinct (definition_names (definitions_of columns.now)) }
         ensures ok { IfOk result (λ t. t ≡ spec.new_table name.now (definitions_of columns.now)) }
         ensures types { OnOk result (AreTypes (definitions_of columns.now)) }
@@ -66,9 +66,15 @@ impl Table {
         ensures err { IfErr result (RefusesTypes (definitions_of columns.now)) }
     {
         let mut made = Vec::new(alloc);
-        for column in columns {
-            let Some(sql_type) = column.declared.sql_type() else {
-                return Err(CreateFault::OverLimit);
+        for (place, column) in columns.iter().enumerate() {
+            let sql_type = match column.declared.sql_type() {
+                Ok(sql_type) => sql_type,
+                Err(fault) => {
+                    return Err(CreateFault::Type {
+                        column: place,
+                        fault,
+                    });
+                }
             };
             made.push(Column::new(alloc, column.name, sql_type)?)?;
         }
@@ -111,7 +117,7 @@ impl Table {
     /// How many rows the table has. Each has a value for each column, of its type.
     pub fn len(&self) -> usize
         ensures exact { result ≡ length self.now.rows }
-        ensures bound { result ≤ 100000000 }
+        ensures bound { result ≤ most_rows }
         ensures valid { spec.IsTable self.now }
         ensures whole { AllByRecursion (λ row. length row ≡ length self.now.columns) self.now.rows }
     {
@@ -151,30 +157,11 @@ impl Table {
         self.columns[column].cell(row)
     }
 
-    /// Why a field of a file does not load into a column, if it does not (own).
-    pub fn field_fault(
-        &self,
-        alloc: Global,
-        column: usize,
-        field: &[u8],
-    ) -> Result<Option<FieldFault>, AllocError>
-        requires { column < length self.now.columns }
-        ensures { IfOk result (JudgesField self.now.columns column field.now) }
-    {
-        let mut scratch = Column::new(alloc, "", self.sql_type(column))?;
-        match scratch.push_field(field) {
-            Ok(()) => Ok(None),
-            Err(PushFault::Refused(RecordFault::Field(fault))) => Ok(Some(fault)),
-            Err(PushFault::Refused(RecordFault::FieldCount)) => unreachable!(),
-            Err(PushFault::Memory) => Err(AllocError),
-        }
-    }
-
     /// LOAD of the bytes of a file (own): adds a row for each record, and says how many. An `Err`
     /// leaves the table as it was.
     pub(crate) fn load(&mut self, alloc: Global, bytes: &[u8]) -> Result<u64, LoadFault>
-        ensures ok { IfOk result (λ n. LoadsRows bytes.now self.old n self.new) }
-        ensures refused { IfErr result (RefusesRows bytes.now self.old) }
+        ensures ok { IfOk result (λ n. LoadsTable self.old bytes.now n (λ rows. self.new ≡ spec.with_rows self.old rows)) }
+        ensures refused { IfErr result (RefusesTable self.old bytes.now) }
         ensures err { OnErr result (self.new ≡ self.old) }
     {
         let room = (MAX_ROWS - self.len) as u64;
@@ -184,7 +171,7 @@ impl Table {
                 Ok(count)
             }
             Err(fault) => {
-                file::truncate(&mut self.columns, self.len);
+                file::cut_columns(&mut self.columns, self.len);
                 Err(fault)
             }
         }

@@ -5,6 +5,13 @@ pub use clap::Error as LineFault;
 /// What the command line asks for.
 #[derive(Debug, Drop)]
 pub enum Request {
-    /// To run the script file of this name.
-    Run(String),
+    Run(Script),
+}
+
+/// Where a script stands.
+#[derive(Debug, Drop)]
+pub enum Script {
+    /// In the file of this name.
+    File(String),
+    StandardInput,
 }

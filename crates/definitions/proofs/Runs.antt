@@ -3,13 +3,13 @@ use Rattle.std.proofs.Common.{◌≡◌, ◌∙◌, refl, sym, ap, subst, inl, i
 use Rattle.std.specs.Prelude.{codes, pos}
 use Rattle.std.specs.Fmt.{digits}
 use Rattle.definitions.specs.Value.{Null, Number, Text, Integer, Char}
-use Rattle.definitions.specs.Lexing.{OpenString}
+use Rattle.definitions.specs.Refusal.{OpenString}
 use Rattle.definitions.specs.Statement as s
 use Rattle.definitions.specs.Statement.{Select, Statement, Query}
 use Rattle.definitions.specs.Grammar as g
 use Rattle.definitions.specs.Table.{Table, Database, table_named}
-use Rattle.definitions.specs.Refusal as r
-use Rattle.definitions.specs.Refusal.{IsAccepted, Faulty, Refusal}
+use Rattle.definitions.specs.Faults as faults
+use Rattle.definitions.specs.Faults.{IsAccepted, Faulty}
 use Rattle.definitions.specs.Answer.{answer}
 use Rattle.definitions.specs.Step as step
 use Rattle.definitions.specs.Step.{State, Answering, Step, Run, Ended, Well, Faulted, Loaded}
@@ -24,7 +24,7 @@ empty_script answers s = step.run [] ([], ([], refl, refl), g.end 0 refl) (refl,
 
 pub open_string_line : {L : Type 0} (answers : Answering L) (s : State L) → Run answers s (codes "SELECT 'ab") s (codes "error E02 42000 at 7\n") Faulted
 unfolding digits
-open_string_line answers s = step.fault (step.lexical (record { error = OpenString; at = 7 }) open_string_at_7 refl) refl refl
+open_string_line answers s = step.fault (step.lexical (record { refusal = OpenString; at = 7 }) open_string_at_7 refl) refl refl
 
 pub syntax_line : {L : Type 0} (answers : Answering L) (s : State L) → Run answers s (codes "SELECT FROM T;") s (codes "error E05 42000 at 7\n") Faulted
 unfolding digits
@@ -53,14 +53,14 @@ above_five = record { block = record { items = record { value = s.Column (codes 
 pub one_answer : answer three above_five.block ≡ (Text (codes "x  ") ∷ Number (pos 7) 0 ∷ []) ∷ []
 one_answer = refl
 
-known : r.InBlock (r.NamesUnknown three) above_five.block → ⊥
+known : faults.InBlock (faults.NamesUnknown three) above_five.block → ⊥
 known (inl (inl h)) = cc
 known (inl (inr (inl h))) = cc
 known (inl (inr (inr h))) = h
 known (inr (inl h)) = cc
 known (inr (inr h)) = h
 
-of_one_kind : r.InBlock (r.MixesKinds three) above_five.block → ⊥
+of_one_kind : faults.InBlock (faults.MixesKinds three) above_five.block → ⊥
 of_one_kind (inl (inl h)) = h
 of_one_kind (inl (inr (inl h))) = h
 of_one_kind (inl (inr (inr h))) = h
@@ -75,16 +75,16 @@ only_three so t e n =
     cc
 
 accepted : IsAccepted (three ∷ []) (Query above_five)
-accepted f (r.block q f' (r.no_table (inl h))) = cc
-accepted f (r.block q f' (r.no_table (inr h))) = h
-accepted f (r.block q f' (r.great_scale (inl (inl h)))) = h
-accepted f (r.block q f' (r.great_scale (inl (inr (inl h))))) = h
-accepted f (r.block q f' (r.great_scale (inl (inr (inr h))))) = h
-accepted f (r.block q f' (r.great_scale (inr (inl h)))) = h
-accepted f (r.block q f' (r.great_scale (inr (inr h)))) = omega (arith, h)
-accepted f (r.block q f' (r.unknown_column so t e n h)) = known (subst (λ x. r.InBlock (r.NamesUnknown x) above_five.block) (sym (only_three so t e n)) h)
-accepted f (r.block q f' (r.mixed_kinds so t e n h)) = of_one_kind (subst (λ x. r.InBlock (r.MixesKinds x) above_five.block) (sym (only_three so t e n)) h)
-accepted f (r.block q f' (r.many_items h)) = omega (arith, h)
+accepted f (faults.block q f' (faults.no_table (inl h))) = cc
+accepted f (faults.block q f' (faults.no_table (inr h))) = h
+accepted f (faults.block q f' (faults.great_scale (inl (inl h)))) = h
+accepted f (faults.block q f' (faults.great_scale (inl (inr (inl h))))) = h
+accepted f (faults.block q f' (faults.great_scale (inl (inr (inr h))))) = h
+accepted f (faults.block q f' (faults.great_scale (inr (inl h)))) = h
+accepted f (faults.block q f' (faults.great_scale (inr (inr h)))) = omega (arith, h)
+accepted f (faults.block q f' (faults.unknown_column so t e n h)) = known (subst (λ x. faults.InBlock (faults.NamesUnknown x) above_five.block) (sym (only_three so t e n)) h)
+accepted f (faults.block q f' (faults.mixed_kinds so t e n h)) = of_one_kind (subst (λ x. faults.InBlock (faults.MixesKinds x) above_five.block) (sym (only_three so t e n)) h)
+accepted f (faults.block q f' (faults.many_items h)) = omega (arith, h)
 
 -- so it prints the header, the one row and the count
 pub one_row_printed : {L : Type 0} (answers : Answering L) (lib : L) → Step answers (record { library = lib; database = three ∷ [] }) (Query above_five) (record { library = lib; database = three ∷ [] }) (codes "B|A\n'x  '|7\n1 rows\n") Well

@@ -5,6 +5,7 @@ use Rattle.std.specs.Cmp.{IsTotalOrder}
 use Rattle.std.specs.List.{count_by}
 use Rattle.std.specs.declared.cmp.Ordering.{Ordering}
 use Rattle.std.specs.declared.cmp.Ordering.TheVariants.{Less, Equal}
+use Rattle.definitions.specs.Characters.{quote}
 use Rattle.definitions.specs.Value.{Value, Null, SqlType, compare, rank, AreNotDistinct}
 use Rattle.definitions.specs.Refusal.{FieldError}
 use Rattle.definitions.specs.Loading.{FieldLoads}
@@ -27,7 +28,7 @@ DerivesAtMostOne = (tokens : List TokenKind) (a b : List Statement) → Derives 
 
 -- the spelling of a text literal reads as that text
 abbrev pub QuotedReadsBack : Type 0
-QuotedReadsBack = (text : List ℕ) → quoted false (doubled text ++ 39 ∷ []) ≡ Some (record { closed = true; codes = text })
+QuotedReadsBack = (text : List ℕ) → quoted false (doubled text ++ quote ∷ []) ≡ Some (record { closed = true; codes = text })
 
 -- a field loads as at most one value or error
 abbrev pub FieldLoadsOnce : Type 0

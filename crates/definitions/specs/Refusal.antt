@@ -1,43 +1,64 @@
--- Why a statement is refused.
-use Rattle.std.specs.Prelude.{ℕ, ◌<◌, ◌≤◌, ◌≡◌, ◌≢◌, ◌⊎◌, List, [], ◌∷◌, Option, Some, None, length, map, codes, option_map}
-use Rattle.definitions.specs.Value.{IsType, Kind, Numbers, Texts, kind_of}
-use Rattle.definitions.specs.Statement.{Name, Expr, Column, Numeral, String, Signed, Compare, Item, Source, Block, Select, ColumnDefinition, Statement, CreateTable, Load, Query}
-use Rattle.definitions.specs.Table.{Table, Database, table_named, type_named, AreDistinct}
+-- The refusals, by what is wrong.
+use Rattle.std.specs.Prelude.{ℕ, List, codes}
 
--- what is wrong with a field
+-- what is wrong with a field of a file
 pub data FieldError : Type 0 where
   BadText : FieldError
   OutOfRange : FieldError
   TooLong : FieldError
 
--- the refusals of statements
+-- first those of a script's text, then those of a statement
 pub data Refusal : Type 0 where
+  StrayCharacter : Refusal
+  OpenString : Refusal
+  LongLiteral : Refusal
+  LongName : Refusal
+  Unexpected : Refusal
+  TooDeep : Refusal
   NameTaken : Refusal
   NotFound : Refusal
   OverLimit : Refusal
   FieldCount : Refusal
   Field : FieldError → Refusal
+  NullOrRepeated : Refusal
   ScaleTooGreat : Refusal
   UnknownColumn : Refusal
   MixedKinds : Refusal
+  MisplacedCondition : Refusal
+  MisplacedFunction : Refusal
+  UngroupedColumn : Refusal
+  UnknownKey : Refusal
+  ManyTables : Refusal
   OverQueryLimit : Refusal
   NoFile : Refusal
 
 -- the label that is printed (own)
 abbrev pub label : Refusal → List ℕ
+label StrayCharacter = codes "E01"
+label OpenString = codes "E02"
+label LongLiteral = codes "E03"
+label LongName = codes "E04"
+label Unexpected = codes "E05"
+label TooDeep = codes "E06"
 label NameTaken = codes "E07"
 label NotFound = codes "E08"
 label OverLimit = codes "E09"
 label FieldCount = codes "E10"
 label (Field e) = codes "E11"
+label NullOrRepeated = codes "E12"
 label ScaleTooGreat = codes "E13"
 label UnknownColumn = codes "E14"
 label MixedKinds = codes "E15"
+label MisplacedCondition = codes "E16"
+label MisplacedFunction = codes "E17"
+label UngroupedColumn = codes "E18"
+label UnknownKey = codes "E19"
+label ManyTables = codes "E20"
 label OverQueryLimit = codes "E21"
 label NoFile = codes "E22"
 
--- the SQLSTATE: 42000 syntax error or access rule violation, 22003 numeric value out of range, 22001 string data, right truncation
--- (ISO/IEC 9075:1992, 22.1)
+-- the SQLSTATE: 42000 syntax error or access rule violation, 22003 numeric value out of range, 22001 string data, right truncation,
+-- 23000 integrity constraint violation (ISO/IEC 9075:1992, 22.1)
 abbrev pub field_state : FieldError → List ℕ
 field_state BadText = codes "42000"
 field_state OutOfRange = codes "22003"
@@ -45,71 +66,5 @@ field_state TooLong = codes "22001"
 
 abbrev pub state : Refusal → List ℕ
 state (Field e) = field_state e
+state NullOrRepeated = codes "23000"
 state _ = codes "42000"
-
--- a literal's scale is over 18 somewhere in an expression (own)
-abbrev pub HasGreatScale : Expr → Type 0
-HasGreatScale (Numeral units digits scale) = 18 < scale
-HasGreatScale (Signed minus e) = HasGreatScale e
-HasGreatScale (Compare op a b) = HasGreatScale a ⊎ HasGreatScale b
-HasGreatScale _ = ⊥
-
--- an expression names a column that the table has not (6.4, syntax rule 2)
-abbrev pub NamesUnknown : Table → Expr → Type 0
-NamesUnknown t (Column n) = type_named t.columns n ≡ None
-NamesUnknown t (Signed minus e) = NamesUnknown t e
-NamesUnknown t (Compare op a b) = NamesUnknown t a ⊎ NamesUnknown t b
-NamesUnknown t _ = ⊥
-
--- the kind of an expression's values; none where it names no column, or is a condition
-abbrev pub expr_kind : Table → Expr → Option Kind
-expr_kind t (Column n) = option_map kind_of (type_named t.columns n)
-expr_kind t (Numeral units digits scale) = Some Numbers
-expr_kind t (String codes) = Some Texts
-expr_kind t (Signed minus e) = expr_kind t e
-expr_kind t (Compare op a b) = None
-
--- values of two kinds are compared (8.2, syntax rule 2), or a text stands under a sign (6.12, syntax rule 1)
-abbrev pub MixesKinds : Table → Expr → Type 0
-MixesKinds t (Compare op a b) =
-    MixesKinds t a ⊎ MixesKinds t b ⊎ ((k l : Kind) × (expr_kind t a ≡ Some k) × (expr_kind t b ≡ Some l) × (k ≢ l))
-MixesKinds t (Signed minus e) = MixesKinds t e ⊎ (expr_kind t e ≡ Some Texts)
-MixesKinds t _ = ⊥
-
-abbrev pub IfPresent : (Expr → Type 0) → Option Expr → Type 0
-IfPresent P None = ⊥
-IfPresent P (Some e) = P e
-
--- some element of a list has a property
-abbrev pub AnyOf : {X : Type 0} → (X → Type 0) → List X → Type 0
-AnyOf P [] = ⊥
-AnyOf P (x ∷ xs) = P x ⊎ AnyOf P xs
-
--- an expression of a block has a property
-abbrev pub InBlock : (Expr → Type 0) → Block → Type 0
-InBlock P b = AnyOf (λ (i : Item). P i.value) b.items ⊎ IfPresent P b.condition
-
-abbrev pub definition_names : List ColumnDefinition → List Name
-definition_names = map (λ (d : ColumnDefinition). d.name)
-
--- the faults of a block over one table
-pub data BlockFaulty (db : Database) (b : Block) : Refusal → Type 0 where
-  no_table : AnyOf (λ (s : Source). table_named db s.table ≡ None) b.sources → BlockFaulty db b NotFound
-  great_scale : InBlock HasGreatScale b → BlockFaulty db b ScaleTooGreat
-  unknown_column : (s : Source) (t : Table) → b.sources ≡ s ∷ [] → table_named db s.table ≡ Some t → InBlock (NamesUnknown t) b → BlockFaulty db b UnknownColumn
-  mixed_kinds : (s : Source) (t : Table) → b.sources ≡ s ∷ [] → table_named db s.table ≡ Some t → InBlock (MixesKinds t) b → BlockFaulty db b MixedKinds
-  many_items : 64 < length b.items → BlockFaulty db b OverQueryLimit
-
--- the faults that a statement has over a database, before any file is read; the limits are own
-pub data Faulty (db : Database) : Statement → Refusal → Type 0 where
-  table_taken : (name : Name) (columns : List ColumnDefinition) (t : Table) → table_named db name ≡ Some t → Faulty db (CreateTable name columns) NameTaken
-  column_twice : (name : Name) (columns : List ColumnDefinition) → ¬ (AreDistinct (definition_names columns)) → Faulty db (CreateTable name columns) NameTaken
-  many_tables : (name : Name) (columns : List ColumnDefinition) → 256 ≤ length db → Faulty db (CreateTable name columns) OverLimit
-  many_columns : (name : Name) (columns : List ColumnDefinition) → 64 < length columns → Faulty db (CreateTable name columns) OverLimit
-  no_type : (name : Name) (columns : List ColumnDefinition) → AnyOf (λ (d : ColumnDefinition). ¬ (IsType d.type)) columns → Faulty db (CreateTable name columns) OverLimit
-  no_table : (name : Name) (file : List ℕ) → table_named db name ≡ None → Faulty db (Load name file) NotFound
-  block : (q : Select) (r : Refusal) → BlockFaulty db q.block r → Faulty db (Query q) r
-
--- a statement without a fault
-abbrev pub IsAccepted : Database → Statement → Type 0
-IsAccepted db s = (r : Refusal) → Faulty db s r → ⊥

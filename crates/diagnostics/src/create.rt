@@ -1,61 +1,61 @@
-//! Why CREATE TABLE is refused.
+//! Why a table is not made.
 
-use crate::message::{Message, owned};
-use catalog::Database;
-use std::alloc::{AllocError, Global};
+use catalog::{CreateFault, MAX_COLUMNS, MAX_TABLES};
+use sqlvalue::{MAX_LENGTH, MAX_PRECISION, TypeFault};
+use std::fmt::{self, Formatter};
 use syntax::{ColumnDefinition, Name};
 
-/// How many tables a database may have.
-const MAX_TABLES: usize = 256;
+/// The name that a fault of CREATE TABLE is about.
+pub(crate) fn name_at_fault<'a>(
+    name: &'a Name,
+    columns: &'a [ColumnDefinition],
+    fault: CreateFault,
+) -> &'a Name {
+    match fault {
+        CreateFault::ColumnTwice { column } | CreateFault::Type { column, .. } => {
+            match columns.get(column) {
+                Some(definition) => &definition.name,
+                None => name,
+            }
+        }
+        _ => name,
+    }
+}
 
-/// How many columns a table may have.
-const MAX_COLUMNS: usize = 64;
-
-/// What is wrong with a CREATE TABLE that is refused over a database: a taken name, a column's name
-/// that stands twice, a type out of range, or too many tables or columns; `None` where nothing is.
-pub fn of_create(
-    alloc: Global,
-    database: &Database,
+pub(crate) fn write_create<W: fmt::Write>(
+    f: &mut Formatter<W>,
     name: &Name,
     columns: &[ColumnDefinition],
-) -> Result<Option<Message>, AllocError> {
-    if database.table(name.text.as_str()).is_some() {
-        let problem = format!(in alloc; "error E07: there is a table {}", name.text)?;
-        return Ok(Some(Message::at(name.start, problem)));
+    fault: CreateFault,
+) -> fmt::Result {
+    let at_fault = name_at_fault(name, columns, fault).text.as_str();
+    match fault {
+        CreateFault::TableTaken => write!(f, "there is a table {at_fault} already"),
+        CreateFault::ColumnTwice { .. } => write!(f, "there are two columns {at_fault}"),
+        CreateFault::ManyTables => write!(f, "a database has at most {MAX_TABLES} tables"),
+        CreateFault::ManyColumns => write!(
+            f,
+            "a table has at most {MAX_COLUMNS} columns, and this one has {}",
+            columns.len()
+        ),
+        CreateFault::Type { column, fault } => match columns.get(column) {
+            Some(definition) => write_type(f, definition, fault),
+            None => Ok(()),
+        },
+        CreateFault::Memory => Ok(()),
     }
-    if let Some(message) = of_columns(alloc, columns)? {
-        return Ok(Some(message));
-    }
-    if columns.len() > MAX_COLUMNS {
-        let count = columns.len();
-        let problem = format!(in alloc; "error E09: a table has at most 64 columns, not {count}")?;
-        return Ok(Some(Message::at(name.start, problem)));
-    }
-    if database.tables().len() >= MAX_TABLES {
-        let problem = owned(alloc, "error E09: a database has at most 256 tables")?;
-        return Ok(Some(Message::at(name.start, problem)));
-    }
-    Ok(None)
 }
 
-/// What is wrong with one of the columns.
-fn of_columns(alloc: Global, columns: &[ColumnDefinition]) -> Result<Option<Message>, AllocError> {
-    for (place, column) in columns.iter().enumerate() {
-        let name = column.name.text.as_str();
-        if stands_in(&columns[..place], name) {
-            let problem = format!(in alloc; "error E07: the column {name} stands twice")?;
-            return Ok(Some(Message::at(column.name.start, problem)));
-        }
-        if column.declared.sql_type().is_none() {
-            let problem = format!(in alloc; "error E09: the type of {name} is out of range")?;
-            return Ok(Some(Message::at(column.name.start, problem)));
-        }
+fn write_type<W: fmt::Write>(
+    f: &mut Formatter<W>,
+    definition: &ColumnDefinition,
+    fault: TypeFault,
+) -> fmt::Result {
+    let (name, declared) = (definition.name.text.as_str(), definition.declared);
+    write!(f, "{name} can't be {declared}: ")?;
+    match fault {
+        TypeFault::Precision => write!(f, "a precision is 1 to {MAX_PRECISION}"),
+        TypeFault::Scale => f.write_str("a scale is at most the precision"),
+        TypeFault::Length => write!(f, "a length is 1 to {MAX_LENGTH}"),
     }
-    Ok(None)
-}
-
-fn stands_in(columns: &[ColumnDefinition], name: &str) -> bool {
-    columns
-        .iter()
-        .any(|column| column.name.text.as_str() == name)
 }

@@ -1,19 +1,19 @@
-//! What people are told of a refusal beside its printed line: what is wrong, where, and what may have
-//! been meant. No answer and no printed line depends on it.
+//! What people are told of a refusal beside its printed line: where its cause stands, what it is, and a
+//! hint where one is sure. It judges nothing: the cause comes from the one that refused, and no answer and
+//! no printed line depends on the words.
 #![tactic(auto)]
 
 mod create;
-mod expected;
-mod load;
-mod message;
+mod excerpt;
+mod lines;
 mod near;
+mod places;
 mod query;
+mod record;
 mod report;
-mod script;
+mod text;
+mod visible;
+mod wanted;
 
-pub use create::of_create;
-pub use load::{of_file, of_load, of_record, of_rows};
-pub use message::{Message, Place};
-pub use query::of_query;
-pub use report::Report;
-pub use script::of_script;
+pub use lines::{Lines, Place};
+pub use report::{Report, Reporter};

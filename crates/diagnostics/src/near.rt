@@ -2,25 +2,31 @@
 
 use catalog::{Database, Table};
 use std::alloc::{AllocError, Global};
-use strsim::levenshtein;
+use std::fmt::{self, Formatter};
+use strsim::osa_distance;
 
 /// The name nearest to another, of those that are near.
 #[derive(Drop)]
-struct Nearest<'a> {
+pub(crate) struct Nearest<'a> {
+    alloc: Global,
     wanted: &'a str,
     found: Option<(&'a str, usize)>,
 }
 
 impl<'a> Nearest<'a> {
-    fn of(wanted: &'a str) -> Nearest<'a> {
+    pub(crate) fn new(alloc: Global, wanted: &'a str) -> Nearest<'a> {
         Nearest {
+            alloc,
             wanted,
             found: None,
         }
     }
 
-    fn offer(&mut self, alloc: Global, name: &'a str) -> Result<(), AllocError> {
-        let edits = levenshtein(alloc, self.wanted, name)?;
+    /// Offers a name. Where memory is wanting it is passed over.
+    pub(crate) fn offer(&mut self, name: &'a str) {
+        let Ok(edits) = self.edits(name) else {
+            return;
+        };
         let is_near = edits <= self.wanted.len() / 3 || name.starts_with(self.wanted);
         let is_nearer = match self.found {
             Some((_, least)) => edits < least,
@@ -29,39 +35,45 @@ impl<'a> Nearest<'a> {
         if is_near && is_nearer {
             self.found = Some((name, edits));
         }
-        Ok(())
     }
 
-    fn hint(&self, alloc: Global) -> Result<Option<String>, AllocError> {
+    fn edits(&self, name: &str) -> Result<usize, AllocError> {
+        osa_distance(self.alloc, self.wanted, name)
+    }
+
+    /// The nearest name as a hint, if one was near.
+    pub(crate) fn write_hint<W: fmt::Write>(&self, f: &mut Formatter<W>) -> fmt::Result {
         match self.found {
-            Some((name, _)) => Ok(Some(format!(in alloc; "did you mean {name}?")?)),
-            None => Ok(None),
+            Some((name, _)) => writeln!(f, "hint: did you mean {name}?"),
+            None => Ok(()),
         }
     }
 }
 
 /// The table of a near name, as a hint.
-pub(crate) fn near_table(
+pub(crate) fn write_near_table<W: fmt::Write>(
+    f: &mut Formatter<W>,
     alloc: Global,
     database: &Database,
     wanted: &str,
-) -> Result<Option<String>, AllocError> {
-    let mut nearest = Nearest::of(wanted);
+) -> fmt::Result {
+    let mut nearest = Nearest::new(alloc, wanted);
     for table in database.tables() {
-        nearest.offer(alloc, table.name())?;
+        nearest.offer(table.name());
     }
-    nearest.hint(alloc)
+    nearest.write_hint(f)
 }
 
 /// The column of a near name, as a hint.
-pub(crate) fn near_column(
+pub(crate) fn write_near_column<W: fmt::Write>(
+    f: &mut Formatter<W>,
     alloc: Global,
     table: &Table,
     wanted: &str,
-) -> Result<Option<String>, AllocError> {
-    let mut nearest = Nearest::of(wanted);
+) -> fmt::Result {
+    let mut nearest = Nearest::new(alloc, wanted);
     for column in 0..table.width() {
-        nearest.offer(alloc, table.column_name(column))?;
+        nearest.offer(table.column_name(column));
     }
-    nearest.hint(alloc)
+    nearest.write_hint(f)
 }

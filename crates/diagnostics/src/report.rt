@@ -1,118 +1,162 @@
 //! Messages as they are shown.
 
-use crate::message::{Message, Place};
+use crate::create::write_create;
+use crate::excerpt::write_excerpt;
+use crate::lines::{Lines, Place};
+use crate::near::write_near_table;
+use crate::places::offset_of;
+use crate::query::{write_query, write_query_hint};
+use crate::record::{FileRecord, write_record, write_record_hint};
+use crate::text::{write_lexical, write_lexical_hint};
+use crate::visible::Visible;
+use crate::wanted::{write_unexpected, write_unexpected_hint};
+use catalog::{Database, MAX_ROWS, RefusedRecord};
+use sqlr::{Cause, Refused};
+use std::alloc::Global;
 use std::fmt::{self, Display, Formatter};
+use syntax::{Name, StringLiteral};
 
-/// The longest line of a script that is shown, in bytes.
-const MAX_LINE: usize = 200;
-
-/// A message on a script, as it is shown: `script.sql:3:15: error E14: ..`, the line of the script with
-/// a caret under the place, and the hint; or `orders.csv: record 2, field 2: ..`.
+/// Makes the messages on a script, one after another.
 #[derive(Drop)]
-pub struct Report<'a> {
-    pub script_name: &'a str,
-    pub script: &'a str,
-    pub message: &'a Message,
+pub struct Reporter<'a> {
+    alloc: Global,
+    script_name: &'a str,
+    lines: Lines<'a>,
 }
 
-/// A line of a script, and how far into it a byte stands.
+impl<'a> Reporter<'a> {
+    /// A reporter on a script, and the name that messages call it by.
+    pub fn new(alloc: Global, script_name: &'a str, script: &'a str) -> Reporter<'a> {
+        Reporter {
+            alloc,
+            script_name,
+            lines: Lines::new(script),
+        }
+    }
+
+    /// The line and the column of a byte of the script.
+    pub fn locate(&mut self, offset: usize) -> Place {
+        self.lines.locate(offset)
+    }
+
+    /// The message on a refusal over a database.
+    pub fn report<'r>(&mut self, refused: &'r Refused<'r>, database: &'r Database) -> Report<'r>
+    where
+        'a: 'r,
+    {
+        let offset = offset_of(&refused.cause);
+        Report {
+            alloc: self.alloc,
+            script_name: self.script_name,
+            script: self.lines.script(),
+            offset,
+            place: self.lines.locate(offset),
+            refused,
+            database,
+        }
+    }
+}
+
+/// A message on a refusal, as it is shown: `script.sql:3:15: error E14 42000: ..`, the line of the script
+/// with a caret under the place, and a hint where one is sure. On a record of a file:
+/// `parts.csv:5: error E11 22003: record 2, field 3 (PRICE NUMERIC(5,2)): ..`, and where its LOAD stands.
 #[derive(Drop)]
-struct Line<'a> {
-    number: usize,
-    text: &'a str,
-    before: &'a str,
+pub struct Report<'r> {
+    alloc: Global,
+    script_name: &'r str,
+    script: &'r str,
+    offset: usize,
+    place: Place,
+    refused: &'r Refused<'r>,
+    database: &'r Database,
 }
 
 impl Display for Report<'_> {
     fn fmt<W: fmt::Write>(&self, f: &mut Formatter<W>) -> fmt::Result {
-        match &self.message.place {
-            Place::Script { at } => self.show_at(f, *at)?,
-            Place::File {
-                name,
+        match &self.refused.cause {
+            Cause::Record {
+                table,
+                file,
+                bytes,
                 record,
-                field,
-            } => self.show_record(f, name, *record, *field)?,
-        }
-        match &self.message.hint {
-            Some(hint) => writeln!(f, "{hint}"),
-            None => Ok(()),
+            } => self.write_record(f, table, file, bytes, record),
+            cause => {
+                self.write_place(f)?;
+                self.write_label(f)?;
+                self.write_problem(f, cause)?;
+                f.write_str("\n")?;
+                write_excerpt(f, self.script, self.offset)?;
+                self.write_hint(f, cause)
+            }
         }
     }
 }
 
 impl Report<'_> {
-    /// Shows the problem at a byte of the script, and the line that it stands in.
-    fn show_at<W: fmt::Write>(&self, f: &mut Formatter<W>, at: usize) -> fmt::Result {
-        let line = line_at(self.script, at);
-        let (name, number) = (self.script_name, line.number);
-        let column = characters(line.before).saturating_add(1);
-        let problem = self.message.problem.as_str();
-        writeln!(f, "{name}:{number}:{column}: {problem}")?;
-        show_line(f, &line)
+    /// `script.sql:3:15: `.
+    fn write_place<W: fmt::Write>(&self, f: &mut Formatter<W>) -> fmt::Result {
+        let Place { line, column } = self.place;
+        write!(f, "{}:{line}:{column}: ", self.script_name)
     }
 
-    /// Shows the problem of a record of a file, and of a field of it, if that is known.
-    fn show_record<W: fmt::Write>(
+    /// `error E14 42000: `.
+    fn write_label<W: fmt::Write>(&self, f: &mut Formatter<W>) -> fmt::Result {
+        let refusal = self.refused.refusal;
+        write!(f, "error {} {}: ", refusal.label(), refusal.state())
+    }
+
+    fn write_problem<W: fmt::Write>(&self, f: &mut Formatter<W>, cause: &Cause) -> fmt::Result {
+        match cause {
+            Cause::Lexical(fault) => write_lexical(f, self.script, *fault),
+            Cause::Unexpected(unexpected) => { write_unexpected(f, self.script, unexpected) }
+            Cause::Create {
+                name,
+                columns,
+                fault,
+            } => write_create(f, name, columns, *fault),
+            Cause::NoTable(name) => write!(f, "there is no table {}", name.text),
+            Cause::NoFile(file) => {
+                write!(f, "there is no file '{}'", Visible(file.text.as_str()))
+            }
+            Cause::ManyRows(_) => write!(f, "a table has at most {MAX_ROWS} rows"),
+            Cause::Query(cause) => write_query(f, self.database, *cause),
+            Cause::Record { .. } => Ok(()),
+        }
+    }
+
+    fn write_hint<W: fmt::Write>(&self, f: &mut Formatter<W>, cause: &Cause) -> fmt::Result {
+        match cause {
+            Cause::Lexical(fault) => write_lexical_hint(f, self.script, *fault),
+            Cause::Unexpected(unexpected) => {
+                write_unexpected_hint(f, self.alloc, self.script, unexpected)
+            }
+            Cause::NoTable(name) => {
+                write_near_table(f, self.alloc, self.database, name.text.as_str())
+            }
+            Cause::Query(cause) => write_query_hint(f, self.alloc, self.database, *cause),
+            _ => Ok(()),
+        }
+    }
+
+    fn write_record<W: fmt::Write>(
         &self,
         f: &mut Formatter<W>,
-        name: &str,
-        record: u64,
-        field: Option<usize>,
+        table: &Name,
+        file: &StringLiteral,
+        bytes: &[u8],
+        refused: &RefusedRecord,
     ) -> fmt::Result {
-        let problem = self.message.problem.as_str();
-        match field {
-            Some(field) => writeln!(f, "{name}: record {record}, field {field}: {problem}"),
-            None => writeln!(f, "{name}: record {record}: {problem}"),
+        let record = FileRecord::new(self.alloc, bytes, refused);
+        let line = record.line;
+        write!(f, "{}:{line}: ", Visible(file.text.as_str()))?;
+        self.write_label(f)?;
+        if let Some(table) = self.database.table(table.text.as_str()) {
+            write_record(f, table, refused, &record)?;
         }
+        f.write_str("\n")?;
+        self.write_place(f)?;
+        f.write_str("in this LOAD\n")?;
+        write_excerpt(f, self.script, self.offset)?;
+        write_record_hint(f, self.database, table.text.as_str(), refused, &record)
     }
-}
-
-/// Shows a line with a caret under a place, where it is not too long.
-fn show_line<W: fmt::Write>(f: &mut Formatter<W>, line: &Line) -> fmt::Result {
-    if line.text.len() > MAX_LINE {
-        return Ok(());
-    }
-    writeln!(f, "{}", line.text)?;
-    for character in line.before.chars() {
-        f.write_str(if character == '\t' { "\t" } else { " " })?;
-    }
-    f.write_str("^\n")
-}
-
-/// The line of a script that a byte stands in.
-fn line_at(script: &str, at: usize) -> Line<'_> {
-    let head = part(script, 0, at);
-    let begin = match head.rfind('\n') {
-        Some(place) => place.saturating_add(1),
-        None => 0,
-    };
-    let tail = part(script, at, script.len());
-    let rest = match tail.find('\n') {
-        Some(place) => part(tail, 0, place),
-        None => tail,
-    };
-    let mut number: usize = 1;
-    for byte in head.as_bytes() {
-        if *byte == b'\n' {
-            number = number.saturating_add(1);
-        }
-    }
-    Line {
-        number,
-        text: part(script, begin, at.saturating_add(rest.len())),
-        before: part(script, begin, at),
-    }
-}
-
-/// A part of a text, by its bytes.
-fn part(text: &str, from: usize, to: usize) -> &str {
-    text.get(from..to).unwrap_or("")
-}
-
-fn characters(text: &str) -> usize {
-    let mut count: usize = 0;
-    for _character in text.chars() {
-        count = count.saturating_add(1);
-    }
-    count
 }

@@ -13,7 +13,8 @@ use Rattle.std.proofs.lemmas.List.{drop_more, take_all}
 use Rattle.std.proofs.lemmas.List.Folds.{list_all_at}
 use Rattle.std.proofs.lemmas.List.Quantifiers.{position-Some}
 use Rattle.definitions.specs.Characters.{is_digit, is_printable, character_count}
-use Rattle.definitions.specs.Lexing.{Quoted, quoted, behind_quote, lexeme_of, token_of, digits_of, Lexeme, Gap, Word', Number, Quotation, Sign, RunOn, Stray, LexFault, StrayCharacter}
+use Rattle.definitions.specs.Lexing.{Quoted, quoted, behind_quote, lexeme_of, token_of, digits_of, Lexeme, Gap, Word', Number, Quotation, Sign, RunOn, Stray, LexFault}
+use Rattle.definitions.specs.Refusal.{StrayCharacter}
 use Rattle.definitions.specs.Token.{Token, String}
 use Rattle.lexer.specs.Meaning.{unquoted, behind_first, quoted_text}
 use Rattle.lexer.specs.Lexeme.{quotation_of}
@@ -96,7 +97,7 @@ quoted_behind (c ∷ rest) h = rw h refl
 pub string_fine : (start : ℕ) (text : List ℕ) (closed : Bool) → slice_index text 0 ≡ 39 → closed ≡ true → character_count (unquoted false (behind_first text)) ≤ 254 → position (λ c. not (is_printable c)) text ≡ None → token_of start text (quotation_of text closed) ≡ Ok (Some (record { at = start; text = text; kind = String (quoted_text text) }))
 string_fine start text closed q c l h = rw (c, le-leb _ 254 l, printable_string text q, printable_from text h, quoted_behind text q) refl
 
-pub string_stray : (start : ℕ) (text : List ℕ) (closed : Bool) (i : ℕ) → slice_index text 0 ≡ 39 → closed ≡ true → character_count (unquoted false (behind_first text)) ≤ 254 → position (λ c. not (is_printable c)) text ≡ Some i → token_of start text (quotation_of text closed) ≡ Err (record { error = StrayCharacter; at = start + i })
+pub string_stray : (start : ℕ) (text : List ℕ) (closed : Bool) (i : ℕ) → slice_index text 0 ≡ 39 → closed ≡ true → character_count (unquoted false (behind_first text)) ≤ 254 → position (λ c. not (is_printable c)) text ≡ Some i → token_of start text (quotation_of text closed) ≡ Err (record { refusal = StrayCharacter; at = start + i })
 string_stray start text closed i q c l h = rw (c, le-leb _ 254 l, printable_string text q, unprintable_from text i h, h) refl
 
 -- ---- a token has characters of ASCII alone

@@ -1,6 +1,6 @@
 -- What the lexemes of this crate stand for, and what begins a text.
 use Rattle.std.specs.Prelude.{ℕ, ◌≤◌, ◌≡◌, List, [], ◌∷◌, ◌++◌, Option, Some, Result, Ok, Err, Bool, false, ◌&&◌, ◌||◌, ◌==◌, IsTrue, length, take, drop, option_map, unwrap_or, if◌then◌else◌}
-use Rattle.definitions.specs.Characters.{is_letter, is_digit, is_blank}
+use Rattle.definitions.specs.Characters.{minus_sign, period, underscore, is_letter, is_digit, is_blank}
 use Rattle.definitions.specs.Token as token
 use Rattle.definitions.specs.Lexing as lexing
 use Rattle.lexer.specs.Meaning.{symbol_of, kind_of, fault_of, unquoted, behind_first}
@@ -31,15 +31,15 @@ pub record IsFirst (text : List ℕ) (l : Lexeme) (n : ℕ) : Type 0 where
 abbrev pub begins_numeral : List ℕ → Bool
 begins_numeral [] = false
 begins_numeral (c ∷ []) = is_digit c
-begins_numeral (c ∷ d ∷ rest) = is_digit c || ((c == 46) && is_digit d)
+begins_numeral (c ∷ d ∷ rest) = is_digit c || ((c == period) && is_digit d)
 
 -- a letter or an underscore
 abbrev pub runs_on : List ℕ → Bool
 runs_on [] = false
-runs_on (c ∷ rest) = is_letter c || (c == 95)
+runs_on (c ∷ rest) = is_letter c || (c == underscore)
 
 abbrev pub begins_comment : List ℕ → Bool
-begins_comment (c ∷ d ∷ rest) = (c == 45) && (d == 45)
+begins_comment (c ∷ d ∷ rest) = (c == minus_sign) && (d == minus_sign)
 begins_comment _ = false
 
 -- what a byte is that begins no longer lexeme

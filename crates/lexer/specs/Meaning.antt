@@ -1,9 +1,10 @@
 -- What the tokens and faults of this crate stand for.
 use Rattle.std.specs.Prelude.{ℕ, ◌≤◌, ◌+◌, ◌≡◌, ⊤, List, [], ◌∷◌, Option, Some, None, Bool, true, false, ◌==◌, if◌then◌else◌, length, map, slice_range}
-use Rattle.definitions.specs.Characters.{folded}
+use Rattle.definitions.specs.Characters.{quote, folded}
 use Rattle.definitions.specs.Word as spec
 use Rattle.definitions.specs.Token as token
 use Rattle.definitions.specs.Lexing as lexing
+use Rattle.definitions.specs.Refusal as refusal
 use Rattle.lexer.specs.declared.word.Word.{Word}
 use Rattle.lexer.specs.declared.word.Word.TheVariants as w
 use Rattle.lexer.specs.declared.token.Symbol.{Symbol}
@@ -89,8 +90,8 @@ symbol_of s.GreaterOrEquals = token.GreaterOrEquals
 -- the characters of a string from its text behind the opening quote: of two quotes side by side one stands for both
 abbrev pub unquoted : (after_quote : Bool) → List ℕ → List ℕ
 unquoted after [] = []
-unquoted true (c ∷ rest) = if c == 39 then 39 ∷ unquoted false rest else c ∷ unquoted false rest
-unquoted false (c ∷ rest) = if c == 39 then unquoted true rest else c ∷ unquoted false rest
+unquoted true (c ∷ rest) = if c == quote then quote ∷ unquoted false rest else c ∷ unquoted false rest
+unquoted false (c ∷ rest) = if c == quote then unquoted true rest else c ∷ unquoted false rest
 
 abbrev pub behind_first : List ℕ → List ℕ
 behind_first [] = []
@@ -99,7 +100,7 @@ behind_first (c ∷ rest) = rest
 -- the characters of a string from its text
 abbrev pub quoted_text : List ℕ → List ℕ
 quoted_text [] = []
-quoted_text (c ∷ rest) = if c == 39 then unquoted false rest else []
+quoted_text (c ∷ rest) = if c == quote then unquoted false rest else []
 
 abbrev pub kind_of : (text : List ℕ) → TokenKind → token.TokenKind
 kind_of text (k.Reserved word) = token.Reserved (word_of word)
@@ -122,8 +123,8 @@ AreSlices script from (t ∷ ts) =
 
 -- the lexical fault that an error tells; none where memory was wanting
 abbrev pub fault_of : LexFault → Option lexing.LexFault
-fault_of (f.StrayCharacter at) = Some (record { error = lexing.StrayCharacter; at = at })
-fault_of (f.OpenString at) = Some (record { error = lexing.OpenString; at = at })
-fault_of (f.LongLiteral at) = Some (record { error = lexing.LongLiteral; at = at })
-fault_of (f.LongName at) = Some (record { error = lexing.LongName; at = at })
+fault_of (f.StrayCharacter offset place) = Some (record { refusal = refusal.StrayCharacter; at = offset })
+fault_of (f.OpenString offset) = Some (record { refusal = refusal.OpenString; at = offset })
+fault_of (f.LongLiteral offset literal) = Some (record { refusal = refusal.LongLiteral; at = offset })
+fault_of (f.LongName offset characters) = Some (record { refusal = refusal.LongName; at = offset })
 fault_of f.Memory = None

@@ -5,14 +5,32 @@ use thiserror::Error;
 /// Why a script has no tokens: its leftmost lexical fault, and the byte that it stands at.
 #[derive(Clone, Copy, Debug, PartialEq, Eq, Error)]
 pub enum LexFault {
-    #[error("a character that begins no token, at byte {at}")]
-    StrayCharacter { at: usize },
-    #[error("a string that is not closed, at byte {at}")]
-    OpenString { at: usize },
-    #[error("a number of over 38 digits or a string of over 254 characters, at byte {at}")]
-    LongLiteral { at: usize },
-    #[error("an identifier of over 18 characters, at byte {at}")]
-    LongName { at: usize },
+    #[error("a character that begins no token, at byte {offset}")]
+    StrayCharacter { offset: usize, place: StrayPlace },
+    #[error("a string that is not closed, at byte {offset}")]
+    OpenString { offset: usize },
+    #[error("a number of too many digits or a string of too many characters, at byte {offset}")]
+    LongLiteral { offset: usize, literal: LongLiteral },
+    #[error("an identifier of {characters} characters, at byte {offset}")]
+    LongName { offset: usize, characters: usize },
     #[error("out of memory")]
     Memory,
+}
+
+/// Where a character stands that begins no token.
+#[derive(Clone, Copy, Debug, PartialEq, Eq)]
+pub enum StrayPlace {
+    /// Apart from the tokens before it.
+    Apart,
+    /// Directly behind a number.
+    BehindNumber,
+    /// In a string.
+    InString,
+}
+
+/// A literal that is too long, and how long.
+#[derive(Clone, Copy, Debug, PartialEq, Eq)]
+pub enum LongLiteral {
+    Number { digits: usize },
+    String { characters: usize },
 }

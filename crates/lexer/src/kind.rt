@@ -3,23 +3,27 @@
 ghost use Rattle.std.specs.Prelude.{◌≡◌, ◌+◌, ◌<◌, ◌≤◌, ◌^◌, Some, Err, IfSome, false, not, length, position, slice_index};
 ghost use Rattle.std.specs.Str.Parse.{digits_value as value_of};
 ghost use Rattle.definitions.specs.Characters as characters;
+ghost use Rattle.definitions.specs.Limits.{most_digits};
 ghost use Rattle.definitions.specs.Lexing as lexing;
-ghost use Rattle.lexer.specs.Meaning.{unquoted, behind_first};
+ghost use Rattle.definitions.specs.Refusal as refusal;
+ghost use Rattle.lexer.specs.Meaning.{fault_of, unquoted, behind_first};
 ghost use Rattle.lexer.specs.Lexeme.{lexeme_of, quotation_of, outcome_of};
 
 use crate::byte::{begins_character, is_digit, is_printable};
-use crate::fault::LexFault;
+use crate::fault::{LexFault, LongLiteral, StrayPlace};
 use crate::lexeme::Lexeme;
 use crate::numeral::Numeral;
 use crate::token::TokenKind;
 use crate::word::reserved_word;
 
 /// How many characters an identifier may have (own).
-const MOST_LETTERS: usize = 18;
-/// How many digits a number may have (own).
-const MOST_DIGITS: usize = 38;
+pub const MAX_NAME_CHARACTERS: usize = 18;
+
 /// How many characters a string may have (own).
-const MOST_CHARACTERS: usize = 254;
+pub const MAX_STRING_CHARACTERS: usize = 254;
+
+/// How many digits a number may have (own).
+pub const MAX_DIGITS: usize = 38;
 
 /// What the token is that a lexeme at a place is, or its leftmost fault; a gap is none.
 pub fn token_kind(start: usize, text: &[u8], lexeme: Lexeme) -> Result<Option<TokenKind>, LexFault>
@@ -34,15 +38,21 @@ pub fn token_kind(start: usize, text: &[u8], lexeme: Lexeme) -> Result<Option<To
         Lexeme::Quotation { closed } => string_kind(start, text, closed),
         Lexeme::Sign(symbol) => Ok(Some(TokenKind::Mark(symbol))),
         Lexeme::RunOn => Err(run_on_fault(start, text)),
-        Lexeme::Stray => Err(LexFault::StrayCharacter { at: start }),
+        Lexeme::Stray => Err(LexFault::StrayCharacter {
+            offset: start,
+            place: StrayPlace::Apart,
+        }),
     }
 }
 
 fn word_kind(start: usize, text: &[u8]) -> Result<Option<TokenKind>, LexFault>
     ensures { outcome_of start text.now result ≡ Some (lexing.token_of start text.now lexing.Word') }
 {
-    if text.len() > MOST_LETTERS {
-        return Err(LexFault::LongName { at: start });
+    if text.len() > MAX_NAME_CHARACTERS {
+        return Err(LexFault::LongName {
+            offset: start,
+            characters: text.len(),
+        });
     }
     match reserved_word(text) {
         Some(word) => Ok(Some(TokenKind::Reserved(word))),
@@ -55,8 +65,8 @@ fn number_kind(start: usize, text: &[u8]) -> Result<Option<TokenKind>, LexFault>
     ensures { outcome_of start text.now result ≡ Some (lexing.token_of start text.now lexing.Number) }
 {
     let digits = digit_count(text);
-    if digits > MOST_DIGITS {
-        return Err(LexFault::LongLiteral { at: start });
+    if digits > MAX_DIGITS {
+        return Err(long_number(start, digits));
     }
     Ok(Some(TokenKind::Numeral(Numeral {
         units: digits_value(text),
@@ -70,29 +80,47 @@ fn run_on_fault(start: usize, text: &[u8]) -> LexFault
     requires room { start + length text.now < 2 ^ 64 }
     ensures { outcome_of start text.now (Err result) ≡ Some (lexing.token_of start text.now lexing.RunOn) }
 {
-    if digit_count(text) > MOST_DIGITS {
-        LexFault::LongLiteral { at: start }
+    let digits = digit_count(text);
+    if digits > MAX_DIGITS {
+        long_number(start, digits)
     } else {
         LexFault::StrayCharacter {
-            at: start + (text.len() - 1),
+            offset: start + (text.len() - 1),
+            place: StrayPlace::BehindNumber,
         }
+    }
+}
+
+fn long_number(offset: usize, digits: usize) -> LexFault
+    ensures { fault_of result ≡ Some (record { refusal = refusal.LongLiteral; at = offset }) }
+{
+    LexFault::LongLiteral {
+        offset,
+        literal: LongLiteral::Number { digits },
     }
 }
 
 fn string_kind(start: usize, text: &[u8], closed: bool) -> Result<Option<TokenKind>, LexFault>
     requires some { 0 < length text.now }
-    requires opens { slice_index text.now 0 ≡ 39 }
+    requires opens { slice_index text.now 0 ≡ characters.quote }
     requires room { start + length text.now < 2 ^ 64 }
     ensures { outcome_of start text.now result ≡ Some (lexing.token_of start text.now (quotation_of text.now closed)) }
 {
     if !closed {
-        return Err(LexFault::OpenString { at: start });
+        return Err(LexFault::OpenString { offset: start });
     }
-    if character_count(text) > MOST_CHARACTERS {
-        return Err(LexFault::LongLiteral { at: start });
+    let characters = character_count(text);
+    if characters > MAX_STRING_CHARACTERS {
+        return Err(LexFault::LongLiteral {
+            offset: start,
+            literal: LongLiteral::String { characters },
+        });
     }
     match first_unprintable(text) {
-        Some(offset) => Err(LexFault::StrayCharacter { at: start + offset }),
+        Some(place) => Err(LexFault::StrayCharacter {
+            offset: start + place,
+            place: StrayPlace::InString,
+        }),
         None => Ok(Some(TokenKind::String)),
     }
 }
@@ -105,9 +133,9 @@ fn digit_count(text: &[u8]) -> usize
 
 /// What the digits write, without the point.
 fn digits_value(text: &[u8]) -> u128
-    requires { value_of 10 (lexing.digits_of text.now) < 10 ^ 38 }
+    requires { value_of 10 (lexing.digits_of text.now) < 10 ^ most_digits }
     ensures value { result ≡ value_of 10 (lexing.digits_of text.now) }
-    ensures bounded { result < 10 ^ 38 }
+    ensures bounded { result < 10 ^ most_digits }
 {
     let mut value = 0;
     for byte in text {

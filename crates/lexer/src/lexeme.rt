@@ -75,7 +75,7 @@ fn leading_digits(text: &[u8]) -> usize
 
 /// How many bytes stand before the end of the line.
 fn leading_line(text: &[u8]) -> usize
-    ensures { result ≡ prefix_len (λ c. not (c == 10)) text.now }
+    ensures { result ≡ prefix_len (λ c. not (c == characters.line_feed)) text.now }
 {
     text.iter().take_while(|byte| **byte != b'\n').count()
 }
@@ -142,7 +142,7 @@ fn numeral(text: &[u8]) -> Beginning
 /// A string to its closing quote: one that no other quote follows (ISO/IEC 9075:1992, 5.3).
 fn quotation(text: &[u8]) -> Beginning
     requires some { 0 < length text.now }
-    requires opens { slice_index text.now 0 ≡ 39 }
+    requires opens { slice_index text.now 0 ≡ characters.quote }
     ensures { spec.IsFirst text.now result.lexeme result.length }
 {
     let body = &text[1..];
@@ -167,7 +167,7 @@ fn sign_or_byte(text: &[u8]) -> Beginning
     requires some { 0 < length text.now }
     requires no_word { characters.is_letter (slice_index text.now 0) ≡ false }
     requires no_numeral { spec.begins_numeral text.now ≡ false }
-    requires no_string { (slice_index text.now 0 == 39) ≡ false }
+    requires no_string { (slice_index text.now 0 == characters.quote) ≡ false }
     requires no_comment { spec.begins_comment text.now ≡ false }
     ensures { spec.IsFirst text.now result.lexeme result.length }
 {

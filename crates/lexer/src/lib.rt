@@ -10,7 +10,8 @@ mod scan;
 mod token;
 mod word;
 
-pub use fault::LexFault;
+pub use fault::{LexFault, LongLiteral, StrayPlace};
+pub use kind::{MAX_DIGITS, MAX_NAME_CHARACTERS, MAX_STRING_CHARACTERS};
 pub use numeral::Numeral;
 pub use scan::lex;
 pub use token::{Symbol, Token, TokenKind};

@@ -1,6 +1,7 @@
 //! Unsigned numbers.
 
 ghost use Rattle.std.specs.Prelude.{◌^◌, ◌<◌};
+ghost use Rattle.definitions.specs.Limits.{most_digits};
 
 /// An unsigned number (ISO/IEC 9075:1992, 5.3).
 #[derive(Clone, Copy, Debug, PartialEq, Eq)]
@@ -11,5 +12,5 @@ pub struct Numeral {
     pub digits: u8,
     /// How many of them stand behind the point, if it has one.
     pub fraction: Option<u8>,
-    pub ghost bounded: { units < 10 ^ 38 },
+    pub ghost bounded: { units < 10 ^ most_digits },
 }

@@ -1,6 +1,6 @@
 //! Tokens.
 
-ghost use Rattle.std.specs.Prelude.{◌≡◌, [], ◌∷◌, option_map};
+ghost use Rattle.std.specs.Prelude.{◌≡◌, [], ◌∷◌, Some, option_map};
 ghost use Rattle.definitions.specs.Lexing.{symbol};
 ghost use Rattle.lexer.specs.Meaning.{symbol_of};
 
@@ -28,6 +28,29 @@ pub enum Symbol {
 }
 
 impl Symbol {
+    /// The characters of the symbol.
+    pub fn as_str(self) -> &'static str
+        ensures { symbol result.now ≡ Some (symbol_of self) }
+    {
+        match self {
+            Symbol::OpenParen => "(",
+            Symbol::CloseParen => ")",
+            Symbol::Comma => ",",
+            Symbol::Semicolon => ";",
+            Symbol::Point => ".",
+            Symbol::Asterisk => "*",
+            Symbol::Plus => "+",
+            Symbol::Minus => "-",
+            Symbol::Solidus => "/",
+            Symbol::Equals => "=",
+            Symbol::NotEquals => "<>",
+            Symbol::LessThan => "<",
+            Symbol::GreaterThan => ">",
+            Symbol::LessOrEquals => "<=",
+            Symbol::GreaterOrEquals => ">=",
+        }
+    }
+
     /// The symbol that a byte is (ISO/IEC 9075:1992, 5.1).
     pub(crate) fn from_byte(byte: u8) -> Option<Symbol>
         ensures { option_map symbol_of result ≡ symbol (byte ∷ []) }

@@ -10,3 +10,5 @@ mod tables;
 mod tokens;
 #[cfg(test)]
 mod values;
+#[cfg(test)]
+mod wanted;

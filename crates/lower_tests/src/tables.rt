@@ -1,6 +1,6 @@
 //! Tables and files that no script can give.
 
-use catalog::{Database, LoadFault, NewColumn, RecordFault};
+use catalog::{Database, LoadFault, NewColumn, RecordFault, RefusedRecord};
 use sqlvalue::{DeclaredType, Num, Value};
 use std::test::Fail;
 
@@ -13,10 +13,15 @@ fn a_million_commas_are_refused(rt: HostRuntime) -> Result<(), Fail> {
     };
     assert_eq!(rt; database.create_table("T", &[column]), Ok(()));
     let commas = vec![in rt.alloc(); b','; 1_000_000]?;
-    let fault = RecordFault::FieldCount;
+    let refused = RefusedRecord {
+        fault: RecordFault::FieldCount { fields: 1_000_001 },
+        number: 1,
+        start: 0,
+        line: 1,
+    };
     assert_eq!(rt;
         database.load("T", &commas),
-        Err(LoadFault::Record { fault, number: 1 })
+        Err(LoadFault::Record(refused))
     );
     Ok(())
 }

@@ -3,7 +3,7 @@
 ghost use Rattle.std.specs.Prelude.{◌^◌, ◌<◌};
 
 use lexer::TokenKind::{self, Mark, Name, Reserved, String as Text};
-use lexer::{LexFault, Numeral, Symbol, Word, lex};
+use lexer::{LexFault, LongLiteral, Numeral, StrayPlace, Symbol, Word, lex};
 use std::test::Fail;
 
 fn number(units: u128, digits: u8, fraction: Option<u8>) -> TokenKind
@@ -70,24 +70,38 @@ fn scripts_have_their_tokens(rt: HostRuntime) -> Result<(), Fail> {
     Ok(())
 }
 
+fn stray(offset: usize, place: StrayPlace) -> LexFault {
+    LexFault::StrayCharacter { offset, place }
+}
+
+fn long(offset: usize, literal: LongLiteral) -> LexFault {
+    LexFault::LongLiteral { offset, literal }
+}
+
 #[test]
 fn the_leftmost_fault_is_told(rt: HostRuntime) {
     let cases = [
-        ("SELECT 'ab", LexFault::OpenString { at: 7 }),
-        ("'ab''", LexFault::OpenString { at: 0 }),
-        ("1x", LexFault::StrayCharacter { at: 1 }),
-        ("1._", LexFault::StrayCharacter { at: 2 }),
-        ("a ? 'b", LexFault::StrayCharacter { at: 2 }),
-        ("é", LexFault::StrayCharacter { at: 0 }),
-        ("'aé'", LexFault::StrayCharacter { at: 2 }),
-        ("ABCDEFGHIJKLMNOPQRS", LexFault::LongName { at: 0 }),
+        ("SELECT 'ab", LexFault::OpenString { offset: 7 }),
+        ("'ab''", LexFault::OpenString { offset: 0 }),
+        ("1x", stray(1, StrayPlace::BehindNumber)),
+        ("1._", stray(2, StrayPlace::BehindNumber)),
+        ("a ? 'b", stray(2, StrayPlace::Apart)),
+        ("é", stray(0, StrayPlace::Apart)),
+        ("'aé'", stray(2, StrayPlace::InString)),
+        (
+            "ABCDEFGHIJKLMNOPQRS",
+            LexFault::LongName {
+                offset: 0,
+                characters: 19,
+            },
+        ),
         (
             " 100000000000000000000000000000000000000",
-            LexFault::LongLiteral { at: 1 },
+            long(1, LongLiteral::Number { digits: 39 }),
         ),
         (
             "100000000000000000000000000000000000000x",
-            LexFault::LongLiteral { at: 0 },
+            long(0, LongLiteral::Number { digits: 39 }),
         ),
     ];
     for (script, expected) in cases {
@@ -105,13 +119,13 @@ fn a_string_has_at_most_254_characters(rt: HostRuntime) -> Result<(), Fail> {
     let too_long = format!(in rt.alloc(); "'{:254}é'", "")?;
     assert_eq!(rt;
         lex(rt.alloc(), too_long.as_str()).err(),
-        Some(LexFault::LongLiteral { at: 0 })
+        Some(long(0, LongLiteral::String { characters: 255 }))
     );
 
-    let stray = format!(in rt.alloc(); "'{:253}é'", "")?;
+    let strayed = format!(in rt.alloc(); "'{:253}é'", "")?;
     assert_eq!(rt;
-        lex(rt.alloc(), stray.as_str()).err(),
-        Some(LexFault::StrayCharacter { at: 254 })
+        lex(rt.alloc(), strayed.as_str()).err(),
+        Some(stray(254, StrayPlace::InString))
     );
     Ok(())
 }

@@ -2,7 +2,7 @@
 
 ghost use Rattle.std.specs.Prelude.{◌<◌, ◌≤◌, ◌^◌, nat_abs};
 
-use sqlvalue::{DeclaredType, Num, SqlType, Value, compare, rank};
+use sqlvalue::{DeclaredType, Num, SqlType, TypeFault, Value, compare, rank};
 use std::cmp::Ordering::{self, Equal, Greater, Less};
 
 /// The greatest size of units.
@@ -69,24 +69,25 @@ fn ranks_as_it_compares_with_null_first(rt: HostRuntime) {
 fn judges_the_parameters_of_types(rt: HostRuntime) {
     let numeric = |precision, scale| DeclaredType::Numeric { precision, scale };
     let char = |length| DeclaredType::Char { length };
-    assert_eq!(rt; DeclaredType::Smallint.sql_type(), Some(SqlType::Smallint));
-    assert_eq!(rt; DeclaredType::Integer.sql_type(), Some(SqlType::Integer));
+    assert_eq!(rt; DeclaredType::Smallint.sql_type(), Ok(SqlType::Smallint));
+    assert_eq!(rt; DeclaredType::Integer.sql_type(), Ok(SqlType::Integer));
     let widest = SqlType::Numeric {
         precision: 18,
         scale: 18,
     };
-    assert_eq!(rt; numeric(18, 18).sql_type(), Some(widest));
+    assert_eq!(rt; numeric(18, 18).sql_type(), Ok(widest));
     let longest = SqlType::Char { length: 254 };
-    assert_eq!(rt; char(254).sql_type(), Some(longest));
-    for declared in [
-        numeric(0, 0),
-        numeric(19, 0),
-        numeric(5, 6),
-        char(0),
-        char(255),
-        char(256 + 1),
+    assert_eq!(rt; char(254).sql_type(), Ok(longest));
+    for (declared, fault) in [
+        (numeric(0, 0), TypeFault::Precision),
+        (numeric(19, 0), TypeFault::Precision),
+        (numeric(19, 20), TypeFault::Precision),
+        (numeric(5, 6), TypeFault::Scale),
+        (char(0), TypeFault::Length),
+        (char(255), TypeFault::Length),
+        (char(256 + 1), TypeFault::Length),
     ] {
-        assert_eq!(rt; declared.sql_type(), None, "{declared:?}");
+        assert_eq!(rt; declared.sql_type(), Err(fault), "{declared:?}");
     }
 }
 

@@ -4,8 +4,10 @@ ghost use Rattle.std.specs.Prelude.{◌≡◌, ◌<◌};
 ghost use Rattle.memory_devices.specs.Runs.{IsRun};
 
 use crate::tape::Tape;
+use diagnostics::Reporter;
 use failures::Failures;
 use sqlr::{Ended, Library, RunFault, Session};
+use std::alloc::Global;
 use std::marker::Brand;
 use std::sync::ledger::{Blank, Ledger};
 
@@ -29,22 +31,28 @@ impl<'a> Part<'a> {
     }
 }
 
-/// How a run ended, and the bytes that its sink held then.
+/// The name that messages call a script by.
+const SCRIPT_NAME: &str = "script.sql";
+
+/// How a run ended, the bytes that its sink held then, and the messages on what was refused, which call
+/// the script `script.sql`.
 #[derive(Drop)]
 pub struct Ran {
     pub end: Result<Ended, RunFault>,
     pub printed: Vec<u8>,
+    pub messages: String,
 }
 
 /// Runs a script in a session. What it prints goes behind the bytes of a tape, which fails where it
 /// has no room left or no memory.
-pub fn run<B: Library>(session: &mut Session<B>, tape: Vec<u8>, part: Part) -> Ran
+pub fn run<B: Library>(alloc: Global, session: &mut Session<B>, tape: Vec<u8>, part: Part) -> Ran
     ensures { IsRun B.answers session.old part.entry.script.now session.new tape.items result }
 {
-    on_tape::<Brand, B>(session, tape, part, Blank::new(1))
+    on_tape::<Brand, B>(alloc, session, tape, part, Blank::new(1))
 }
 
 fn on_tape<L: Ledger, B: Library>(
+    alloc: Global,
     session: &mut Session<B>,
     tape: Vec<u8>,
     part: Part,
@@ -60,11 +68,18 @@ fn on_tape<L: Ledger, B: Library>(
         bytes: tape,
         room: part.room,
         failures: Failures::new(book, share),
+        reporter: Reporter::new(alloc, SCRIPT_NAME, part.script),
+        messages: String::new(alloc),
     };
     let end = session.run(part.script, &mut tape);
-    let Tape { bytes, .. } = tape;
+    let Tape {
+        bytes,
+        messages,
+        ..
+    } = tape;
     Ran {
         end,
         printed: bytes,
+        messages,
     }
 }

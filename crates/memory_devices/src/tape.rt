@@ -1,22 +1,29 @@
-//! Printed bytes in memory.
+//! Printed bytes in memory, and the messages beside them.
 
+use catalog::Database;
+use diagnostics::Reporter;
 use failures::Failures;
-use sqlr::{Sink, SinkFault};
+use sqlr::{Refused, Sink, SinkFault};
+use std::alloc::AllocError;
+use std::fmt::Display;
 use std::sync::ledger::Ledger;
 
 /// Takes bytes as long as it has room, and tells them.
 #[derive(Drop)]
-pub struct Tape<L: Ledger> {
+pub struct Tape<'a, L: Ledger> {
     pub bytes: Vec<u8>,
     /// How many more bytes it takes before its device fails.
     pub room: usize,
     pub failures: Failures<L>,
+    pub reporter: Reporter<'a>,
+    /// The messages on what was refused, as far as there was memory for them.
+    pub messages: String,
 }
 
-impl<L: Ledger> Sink for Tape<L> {
+impl<L: Ledger> Sink for Tape<'_, L> {
     ghost use Rattle.std.specs.Prelude.{Some};
 
-    ghost told = { λ s. Some s.bytes.items };
+    ghost taken = { λ s. Some s.bytes.items };
 
     ghost failures = { λ s. s.failures };
 
@@ -33,4 +40,13 @@ impl<L: Ledger> Sink for Tape<L> {
             }
         }
     }
+
+    fn explain(&mut self, refused: &Refused, database: &Database) {
+        let report = self.reporter.report(refused, database);
+        let _ = push(&mut self.messages, report);
+    }
+}
+
+fn push<D: Display + Drop>(messages: &mut String, message: D) -> Result<(), AllocError> {
+    write!(messages, "{message}")
 }

@@ -8,6 +8,8 @@ use Rattle.definitions.specs.Statement.{Expr, Column, Compare, Numeral, String, 
 use Rattle.definitions.specs.Table as table
 use Rattle.definitions.specs.Table.{Row, Table, Database, table_named, type_named, IsRow}
 use Rattle.definitions.specs.Refusal as r
+use Rattle.definitions.specs.Limits.{most_items}
+use Rattle.definitions.specs.Faults as faults
 use Rattle.definitions.specs.Answer.{value, is_kept, projected}
 use Rattle.definitions.specs.Printing.{expr_name}
 use Rattle.catalog.specs.Places.{IsColumnPlace}
@@ -20,9 +22,9 @@ use Rattle.sqlr.specs.Simple.{IsColumn, IsColumnItem, IsComparison, IsCondition,
 -- ---- the items of a select list
 
 abbrev pub AreKnown : Table → List Item → Type 0
-AreKnown t is = r.AnyOf (λ (i : Item). r.NamesUnknown t i.value) is → ⊥
+AreKnown t is = faults.AnyOf (λ (i : Item). faults.NamesUnknown t i.value) is → ⊥
 
-pub any_at : {A X : Type 0} (P : X → Type 0) (f : A → X) (xs : List A) (i : ℕ) (x : A) → i < length xs → x ≡ get_or xs i x → P (f x) → r.AnyOf P (map f xs)
+pub any_at : {A X : Type 0} (P : X → Type 0) (f : A → X) (xs : List A) (i : ℕ) (x : A) → i < length xs → x ≡ get_or xs i x → P (f x) → faults.AnyOf P (map f xs)
 any_at P f [] i x l e h = absurd (omega (arith, l))
 any_at P f (y ∷ xs) zero x l e h = inl (subst (λ z. P (f z)) e h)
 any_at P f (y ∷ xs) (suc i) x l e h = inr (any_at P f xs i x (omega (arith, l)) e h)
@@ -36,9 +38,9 @@ places_step columns (y ∷ xs) (suc i) x [] p l e h k = absurd h
 places_step columns (y ∷ xs) (suc i) x (q ∷ ps) p l e h k = (h.0, places_step columns xs i x ps p (omega (arith, l)) e h.1 k)
 
 pub known_step : (t : Table) (xs : List tree.Item) (i : ℕ) (x : tree.Item) → i < length xs → x ≡ get_or xs i x
-    → AreKnown t (map item_of (take i xs)) → (r.NamesUnknown t (item_of x).value → ⊥) → AreKnown t (map item_of (take (suc i) xs))
+    → AreKnown t (map item_of (take i xs)) → (faults.NamesUnknown t (item_of x).value → ⊥) → AreKnown t (map item_of (take (suc i) xs))
 known_step t [] i x l e h k a = absurd (omega (arith, l))
-known_step t (y ∷ xs) zero x l e h k (inl a) = k (subst (λ (z : tree.Item). r.NamesUnknown t (item_of z).value) (sym e) a)
+known_step t (y ∷ xs) zero x l e h k (inl a) = k (subst (λ (z : tree.Item). faults.NamesUnknown t (item_of z).value) (sym e) a)
 known_step t (y ∷ xs) zero x l e h k (inr a) = a
 known_step t (y ∷ xs) (suc i) x l e h k (inl a) = h (inl a)
 known_step t (y ∷ xs) (suc i) x l e h k (inr a) = known_step t xs i x (omega (arith, l)) e (λ b. h (inr b)) k a
@@ -91,20 +93,32 @@ rows_answered t b ps c (row ∷ rows) s h k a =
 
 -- ---- the faults of a query
 
-nothing : (o : Option Expr) → r.IfPresent (λ e. ⊥) o → ⊥
+nothing : (o : Option Expr) → faults.IfPresent (λ e. ⊥) o → ⊥
 nothing None h = h
 nothing (Some e) h = h
 
 -- an expression's fault is one of the query whose condition it is
-pub condition_fault : (db : Database) (b : Block) (t : Table) (f : r.Refusal) → IsFrom db b t → r.IfPresent (λ e. IsExprFault t e f) b.condition → r.BlockFaulty db b f
+pub condition_fault : (db : Database) (b : Block) (t : Table) (f : r.Refusal) → IsFrom db b t → faults.IfPresent (λ e. IsExprFault t e f) b.condition → faults.BlockFaulty db b f
+condition_fault db b t r.StrayCharacter h i = absurd (nothing b.condition i)
+condition_fault db b t r.OpenString h i = absurd (nothing b.condition i)
+condition_fault db b t r.LongLiteral h i = absurd (nothing b.condition i)
+condition_fault db b t r.LongName h i = absurd (nothing b.condition i)
+condition_fault db b t r.Unexpected h i = absurd (nothing b.condition i)
+condition_fault db b t r.TooDeep h i = absurd (nothing b.condition i)
 condition_fault db b t r.NameTaken h i = absurd (nothing b.condition i)
 condition_fault db b t r.NotFound h i = absurd (nothing b.condition i)
 condition_fault db b t r.OverLimit h i = absurd (nothing b.condition i)
 condition_fault db b t r.FieldCount h i = absurd (nothing b.condition i)
 condition_fault db b t (r.Field e) h i = absurd (nothing b.condition i)
-condition_fault db b t r.ScaleTooGreat h i = r.great_scale (inr i)
-condition_fault db b t r.UnknownColumn h i = r.unknown_column h.source t h.single h.named (inr i)
-condition_fault db b t r.MixedKinds h i = r.mixed_kinds h.source t h.single h.named (inr i)
+condition_fault db b t r.NullOrRepeated h i = absurd (nothing b.condition i)
+condition_fault db b t r.ScaleTooGreat h i = faults.great_scale (inr i)
+condition_fault db b t r.UnknownColumn h i = faults.unknown_column h.source t h.single h.named (inr i)
+condition_fault db b t r.MixedKinds h i = faults.mixed_kinds h.source t h.single h.named (inr i)
+condition_fault db b t r.MisplacedCondition h i = absurd (nothing b.condition i)
+condition_fault db b t r.MisplacedFunction h i = absurd (nothing b.condition i)
+condition_fault db b t r.UngroupedColumn h i = absurd (nothing b.condition i)
+condition_fault db b t r.UnknownKey h i = absurd (nothing b.condition i)
+condition_fault db b t r.ManyTables h i = absurd (nothing b.condition i)
 condition_fault db b t r.OverQueryLimit h i = absurd (nothing b.condition i)
 condition_fault db b t r.NoFile h i = absurd (nothing b.condition i)
 
@@ -120,41 +134,41 @@ only_table db b t u s h e n =
     let both : Some u ≡ Some t = sym n ∙ known in
     cc
 
-column_has_no_scale : (e : Expr) → IsColumn e → r.HasGreatScale e → ⊥
+column_has_no_scale : (e : Expr) → IsColumn e → faults.HasGreatScale e → ⊥
 column_has_no_scale (Column n) s h = h
 column_has_no_scale (Numeral u d x) s h = s
 column_has_no_scale (String x) s h = s
 column_has_no_scale (Signed m e) s h = s
 column_has_no_scale (Compare o a b) s h = s
 
-columns_have_no_scale : (is : List Item) → AllByRecursion IsColumnItem is → r.AnyOf (λ (i : Item). r.HasGreatScale i.value) is → ⊥
+columns_have_no_scale : (is : List Item) → AllByRecursion IsColumnItem is → faults.AnyOf (λ (i : Item). faults.HasGreatScale i.value) is → ⊥
 columns_have_no_scale [] s h = h
 columns_have_no_scale (i ∷ is) s (inl h) = column_has_no_scale i.value s.0 h
 columns_have_no_scale (i ∷ is) s (inr h) = columns_have_no_scale is s.1 h
 
-column_mixes_nothing : (t : Table) (e : Expr) → IsColumn e → r.MixesKinds t e → ⊥
+column_mixes_nothing : (t : Table) (e : Expr) → IsColumn e → faults.MixesKinds t e → ⊥
 column_mixes_nothing t (Column n) s h = h
 column_mixes_nothing t (Numeral u d x) s h = s
 column_mixes_nothing t (String x) s h = s
 column_mixes_nothing t (Signed m e) s h = s
 column_mixes_nothing t (Compare o a b) s h = s
 
-columns_mix_nothing : (t : Table) (is : List Item) → AllByRecursion IsColumnItem is → r.AnyOf (λ (i : Item). r.MixesKinds t i.value) is → ⊥
+columns_mix_nothing : (t : Table) (is : List Item) → AllByRecursion IsColumnItem is → faults.AnyOf (λ (i : Item). faults.MixesKinds t i.value) is → ⊥
 columns_mix_nothing t [] s h = h
 columns_mix_nothing t (i ∷ is) s (inl h) = column_mixes_nothing t i.value s.0 h
 columns_mix_nothing t (i ∷ is) s (inr h) = columns_mix_nothing t is s.1 h
 
-faultless_scale : (t : Table) (o : Option Expr) (c : Option Comparison) → BindsCondition t o c → r.IfPresent r.HasGreatScale o → ⊥
+faultless_scale : (t : Table) (o : Option Expr) (c : Option Comparison) → BindsCondition t o c → faults.IfPresent faults.HasGreatScale o → ⊥
 faultless_scale t None c h i = i
 faultless_scale t (Some e) None h i = h
 faultless_scale t (Some e) (Some c) h i = h.1.scale i
 
-faultless_names : (t : Table) (o : Option Expr) (c : Option Comparison) → BindsCondition t o c → r.IfPresent (r.NamesUnknown t) o → ⊥
+faultless_names : (t : Table) (o : Option Expr) (c : Option Comparison) → BindsCondition t o c → faults.IfPresent (faults.NamesUnknown t) o → ⊥
 faultless_names t None c h i = i
 faultless_names t (Some e) None h i = h
 faultless_names t (Some e) (Some c) h i = h.1.known i
 
-faultless_kinds : (t : Table) (o : Option Expr) (c : Option Comparison) → BindsCondition t o c → r.IfPresent (r.MixesKinds t) o → ⊥
+faultless_kinds : (t : Table) (o : Option Expr) (c : Option Comparison) → BindsCondition t o c → faults.IfPresent (faults.MixesKinds t) o → ⊥
 faultless_kinds t None c h i = i
 faultless_kinds t (Some e) None h i = h
 faultless_kinds t (Some e) (Some c) h i = h.1.kinds i
@@ -162,32 +176,32 @@ faultless_kinds t (Some e) (Some c) h i = h.1.kinds i
 some_is_not_none : (t : Table) → Some t ≡ None → ⊥
 some_is_not_none t e = cc
 
-single_found : (db : Database) (b : Block) (t : Table) → IsFrom db b t → r.AnyOf (λ (s : Source). table_named db s.table ≡ None) b.sources → ⊥
-single_found db b t h a = found (subst (λ ss. r.AnyOf (λ (s : Source). table_named db s.table ≡ None) ss) h.single a)
+single_found : (db : Database) (b : Block) (t : Table) → IsFrom db b t → faults.AnyOf (λ (s : Source). table_named db s.table ≡ None) b.sources → ⊥
+single_found db b t h a = found (subst (λ ss. faults.AnyOf (λ (s : Source). table_named db s.table ≡ None) ss) h.single a)
   where
-    found : r.AnyOf (λ (s : Source). table_named db s.table ≡ None) (h.source ∷ []) → ⊥
+    found : faults.AnyOf (λ (s : Source). table_named db s.table ≡ None) (h.source ∷ []) → ⊥
     found (inl e) = some_is_not_none t (sym h.named ∙ e)
     found (inr n) = n
 
-unfaulty : (db : Database) (b : Block) (t : Table) (c : Option Comparison) → IsSimple b → IsFrom db b t → length b.items ≤ 64 → AreKnown t b.items → BindsCondition t b.condition c
-    → (f : r.Refusal) → r.BlockFaulty db b f → ⊥
-unfaulty db b t c s h l k n f (r.no_table a) = single_found db b t h a
-unfaulty db b t c s h l k n f (r.great_scale (inl a)) = columns_have_no_scale b.items s.items a
-unfaulty db b t c s h l k n f (r.great_scale (inr a)) = faultless_scale t b.condition c n a
-unfaulty db b t c s h l k n f (r.unknown_column so u e m (inl a)) = k (subst (λ z. r.AnyOf (λ (i : Item). r.NamesUnknown z i.value) b.items) (only_table db b t u so h e m) a)
-unfaulty db b t c s h l k n f (r.unknown_column so u e m (inr a)) = faultless_names t b.condition c n (subst (λ z. r.IfPresent (r.NamesUnknown z) b.condition) (only_table db b t u so h e m) a)
-unfaulty db b t c s h l k n f (r.mixed_kinds so u e m (inl a)) = columns_mix_nothing t b.items s.items (subst (λ z. r.AnyOf (λ (i : Item). r.MixesKinds z i.value) b.items) (only_table db b t u so h e m) a)
-unfaulty db b t c s h l k n f (r.mixed_kinds so u e m (inr a)) = faultless_kinds t b.condition c n (subst (λ z. r.IfPresent (r.MixesKinds z) b.condition) (only_table db b t u so h e m) a)
-unfaulty db b t c s h l k n f (r.many_items a) = omega (arith, l, a)
+unfaulty : (db : Database) (b : Block) (t : Table) (c : Option Comparison) → IsSimple b → IsFrom db b t → length b.items ≤ most_items → AreKnown t b.items → BindsCondition t b.condition c
+    → (f : r.Refusal) → faults.BlockFaulty db b f → ⊥
+unfaulty db b t c s h l k n f (faults.no_table a) = single_found db b t h a
+unfaulty db b t c s h l k n f (faults.great_scale (inl a)) = columns_have_no_scale b.items s.items a
+unfaulty db b t c s h l k n f (faults.great_scale (inr a)) = faultless_scale t b.condition c n a
+unfaulty db b t c s h l k n f (faults.unknown_column so u e m (inl a)) = k (subst (λ z. faults.AnyOf (λ (i : Item). faults.NamesUnknown z i.value) b.items) (only_table db b t u so h e m) a)
+unfaulty db b t c s h l k n f (faults.unknown_column so u e m (inr a)) = faultless_names t b.condition c n (subst (λ z. faults.IfPresent (faults.NamesUnknown z) b.condition) (only_table db b t u so h e m) a)
+unfaulty db b t c s h l k n f (faults.mixed_kinds so u e m (inl a)) = columns_mix_nothing t b.items s.items (subst (λ z. faults.AnyOf (λ (i : Item). faults.MixesKinds z i.value) b.items) (only_table db b t u so h e m) a)
+unfaulty db b t c s h l k n f (faults.mixed_kinds so u e m (inr a)) = faultless_kinds t b.condition c n (subst (λ z. faults.IfPresent (faults.MixesKinds z) b.condition) (only_table db b t u so h e m) a)
+unfaulty db b t c s h l k n f (faults.many_items a) = omega (arith, l, a)
 
 -- what is bound is accepted
-pub bound_accepted : (db : Database) (b : Block) (t : Table) (c : Option Comparison) → IsSimple b → IsFrom db b t → length b.items ≤ 64 → AreKnown t b.items → BindsCondition t b.condition c
-    → r.IsAccepted db (Query (record { block = b }))
-bound_accepted db b t c s h l k n f (r.block q g a) = unfaulty db b t c s h l k n f a
+pub bound_accepted : (db : Database) (b : Block) (t : Table) (c : Option Comparison) → IsSimple b → IsFrom db b t → length b.items ≤ most_items → AreKnown t b.items → BindsCondition t b.condition c
+    → faults.IsAccepted db (Query (record { block = b }))
+bound_accepted db b t c s h l k n f (faults.block q g a) = unfaulty db b t c s h l k n f a
 
-pub unknown_item : (o : Option r.Refusal) (db : Database) (b : Block) (t : Table) → IsFrom db b t → IfSome o (λ f. (f ≡ r.UnknownColumn) × r.AnyOf (λ (i : Item). r.NamesUnknown t i.value) b.items) → IfSome o (r.BlockFaulty db b)
+pub unknown_item : (o : Option r.Refusal) (db : Database) (b : Block) (t : Table) → IsFrom db b t → IfSome o (λ f. (f ≡ r.UnknownColumn) × faults.AnyOf (λ (i : Item). faults.NamesUnknown t i.value) b.items) → IfSome o (faults.BlockFaulty db b)
 unknown_item None db b t h e = tt
-unknown_item (Some f) db b t h e = rw e.0 (r.unknown_column h.source t h.single h.named (inl e.1))
+unknown_item (Some f) db b t h e = rw e.0 (faults.unknown_column h.source t h.single h.named (inl e.1))
 
 -- what holds of every table holds of the one that is found
 pub found_each : (P : Table → Type 0) (db : Database) (name : List ℕ) (t : Table) → AllByRecursion P db → table_named db name ≡ Some t → P t

@@ -12,7 +12,7 @@ use Rattle.sqlr.specs.declared.ended.RunFault.{RunFault}
 use Rattle.sqlr.specs.declared.ended.RunFault.TheVariants as r
 use Rattle.sqlr.specs.declared.outcome.Printed.{Printed}
 use Rattle.sqlr.specs.Devices.{Took, TookBeginning, TookUpTo}
-use Rattle.sqlr.specs.Sessions.{BreaksIn, BreaksLine, BreaksOff, IsBoth, Runs, RunsAll, Takes, Tells}
+use Rattle.sqlr.specs.Sessions.{BreaksIn, BreaksLine, BreaksOff, IsBoth, Runs, RunsAll, Takes, Prints}
 
 -- ---- how statements ended
 
@@ -36,7 +36,7 @@ steps_more answers (x ∷ ss) old mid new s text own a b (next, first, rest, c, 
 
 -- ---- sinks
 
-took_nothing : (told : Option (List ℕ)) → Took told [] told
+took_nothing : (taken : Option (List ℕ)) → Took taken [] taken
 took_nothing None = tt
 took_nothing (Some before) = ap (λ x. Some x) (sym (append-nil before))
 
@@ -59,10 +59,10 @@ took_all (Some before) b text h = (0, omega arith, h ∙ ap (λ x. Some x) (sym 
 -- ---- statements of a script
 
 abbrev pub RanTo : {L : Type 0} → Answering L → State L → List tree.Statement → ℕ → State L → Option (List ℕ) → Option (List ℕ) → Ended → Type 0
-RanTo answers old xs i new told told' ended = RunsAll answers old (statements_of (take i xs)) new told told' ended
+RanTo answers old xs i new taken taken' ended = RunsAll answers old (statements_of (take i xs)) new taken taken' ended
 
-pub nothing_ran : {L : Type 0} (answers : Answering L) (old : State L) (xs : List tree.Statement) (told : Option (List ℕ)) → RanTo answers old xs 0 old told told e.Well
-nothing_ran answers old xs told = ([], step.Well, (refl, refl, refl), refl, took_nothing told)
+pub nothing_ran : {L : Type 0} (answers : Answering L) (old : State L) (xs : List tree.Statement) (taken : Option (List ℕ)) → RanTo answers old xs 0 old taken taken e.Well
+nothing_ran answers old xs taken = ([], step.Well, (refl, refl, refl), refl, took_nothing taken)
 
 front : (xs : List tree.Statement) (i : ℕ) (x : tree.Statement) → i < length xs → x ≡ get_or xs i x → statements_of (take (suc i) xs) ≡ statements_of (take i xs) ++ statement_of x ∷ []
 front [] i x l h = absurd (omega (arith, l))
@@ -74,58 +74,58 @@ split [] i x l h = absurd (omega (arith, l))
 split (y ∷ xs) zero x l h = ap (λ z. statement_of z ∷ statements_of xs) (sym h)
 split (y ∷ xs) (suc i) x l h = ap (λ zs. statement_of y ∷ zs) (split xs i x (omega (arith, l)) h)
 
-pub one_more : {L : Type 0} (answers : Answering L) (old mid new : State L) (xs : List tree.Statement) (i : ℕ) (x : tree.Statement) (told told' told'' : Option (List ℕ)) (ended both : Ended) (p : Printed)
-    → i < length xs → x ≡ get_or xs i x → RanTo answers old xs i mid told told' ended → Takes answers mid (statement_of x) new p → Took told' p.text.items told'' → IsBoth ended p.ended both
-    → RanTo answers old xs (suc i) new told told'' both
-one_more answers old mid new xs i x told told' told'' ended both p l h (text, how, ran, is, took) (own, this, own_is) taken b =
-    (text ++ p.text.items, both_ended how own, subst (λ ss. Steps answers old ss new (text ++ p.text.items) (both_ended how own)) (sym (front xs i x l h)) (steps_more answers _ old mid new (statement_of x) text p.text.items how own ran this), b how own is own_is, took_more told told' told'' text p.text.items took taken)
+pub one_more : {L : Type 0} (answers : Answering L) (old mid new : State L) (xs : List tree.Statement) (i : ℕ) (x : tree.Statement) (taken taken' taken'' : Option (List ℕ)) (ended both : Ended) (p : Printed)
+    → i < length xs → x ≡ get_or xs i x → RanTo answers old xs i mid taken taken' ended → Takes answers mid (statement_of x) new p → Took taken' p.text.items taken'' → IsBoth ended p.ended both
+    → RanTo answers old xs (suc i) new taken taken'' both
+one_more answers old mid new xs i x taken taken' taken'' ended both p l h (text, how, ran, is, took) (own, this, own_is) put b =
+    (text ++ p.text.items, both_ended how own, subst (λ ss. Steps answers old ss new (text ++ p.text.items) (both_ended how own)) (sym (front xs i x l h)) (steps_more answers _ old mid new (statement_of x) text p.text.items how own ran this), b how own is own_is, took_more taken taken' taken'' text p.text.items took put)
 
-pub memory_apart : r.Memory ≡ r.Sink → ⊥
-memory_apart k = cc
+pub memory_apart : (offset : ℕ) → r.Memory offset ≡ r.Sink → ⊥
+memory_apart offset k = cc
 
-pub library_apart : r.Library ≡ r.Sink → ⊥
-library_apart k = cc
+pub library_apart : (offset : ℕ) → r.Library offset ≡ r.Sink → ⊥
+library_apart offset k = cc
 
 -- a statement breaks off, and has done nothing
-pub broke_undone : {L : Type 0} (answers : Answering L) (old mid new : State L) (xs : List tree.Statement) (i : ℕ) (x : tree.Statement) (told told' : Option (List ℕ)) (ended : Ended) (fault : RunFault)
-    → i < length xs → x ≡ get_or xs i x → RanTo answers old xs i mid told told' ended → new.database ≡ mid.database → ((fault ≡ r.Sink) → ⊥) → BreaksIn answers old (statements_of xs) new told told' fault
-broke_undone answers old mid new xs i x told told' ended r.Memory l h (text, how, ran, is, took) same n =
-    (text, [], step.undone (statements_of (take i xs)) (statements_of (drop (suc i) xs)) (statement_of x) mid how (split xs i x l h) ran (λ k. cc) same refl, took_all told told' text took)
-broke_undone answers old mid new xs i x told told' ended r.Library l h (text, how, ran, is, took) same n =
-    (text, [], step.undone (statements_of (take i xs)) (statements_of (drop (suc i) xs)) (statement_of x) mid how (split xs i x l h) ran (λ k. cc) same refl, took_all told told' text took)
-broke_undone answers old mid new xs i x told told' ended r.Sink l h ran same n = absurd (n refl)
+pub broke_undone : {L : Type 0} (answers : Answering L) (old mid new : State L) (xs : List tree.Statement) (i : ℕ) (x : tree.Statement) (taken taken' : Option (List ℕ)) (ended : Ended) (fault : RunFault)
+    → i < length xs → x ≡ get_or xs i x → RanTo answers old xs i mid taken taken' ended → new.database ≡ mid.database → ((fault ≡ r.Sink) → ⊥) → BreaksIn answers old (statements_of xs) new taken taken' fault
+broke_undone answers old mid new xs i x taken taken' ended (r.Memory offset) l h (text, how, ran, is, took) same n =
+    (text, [], step.undone (statements_of (take i xs)) (statements_of (drop (suc i) xs)) (statement_of x) mid how (split xs i x l h) ran (λ k. cc) same refl, took_all taken taken' text took)
+broke_undone answers old mid new xs i x taken taken' ended (r.Library offset) l h (text, how, ran, is, took) same n =
+    (text, [], step.undone (statements_of (take i xs)) (statements_of (drop (suc i) xs)) (statement_of x) mid how (split xs i x l h) ran (λ k. cc) same refl, took_all taken taken' text took)
+broke_undone answers old mid new xs i x taken taken' ended r.Sink l h ran same n = absurd (n refl)
 
 -- the sink refuses a statement's text
-pub broke_done : {L : Type 0} (answers : Answering L) (old mid new : State L) (xs : List tree.Statement) (i : ℕ) (x : tree.Statement) (told told' told'' : Option (List ℕ)) (ended : Ended) (p : Printed)
-    → i < length xs → x ≡ get_or xs i x → RanTo answers old xs i mid told told' ended → Takes answers mid (statement_of x) new p → TookBeginning told' p.text.items told'' → BreaksIn answers old (statements_of xs) new told told'' r.Sink
-broke_done answers old mid new xs i x told told' told'' ended p l h (text, how, ran, is, took) (own, this, own_is) begun =
-    (text, p.text.items, step.done (statements_of (take i xs)) (statements_of (drop (suc i) xs)) (statement_of x) mid how own (split xs i x l h) ran refl this, took_up_to told told' told'' text p.text.items took begun)
+pub broke_done : {L : Type 0} (answers : Answering L) (old mid new : State L) (xs : List tree.Statement) (i : ℕ) (x : tree.Statement) (taken taken' taken'' : Option (List ℕ)) (ended : Ended) (p : Printed)
+    → i < length xs → x ≡ get_or xs i x → RanTo answers old xs i mid taken taken' ended → Takes answers mid (statement_of x) new p → TookBeginning taken' p.text.items taken'' → BreaksIn answers old (statements_of xs) new taken taken'' r.Sink
+broke_done answers old mid new xs i x taken taken' taken'' ended p l h (text, how, ran, is, took) (own, this, own_is) begun =
+    (text, p.text.items, step.done (statements_of (take i xs)) (statements_of (drop (suc i) xs)) (statement_of x) mid how own (split xs i x l h) ran refl this, took_up_to taken taken' taken'' text p.text.items took begun)
 
 -- ---- scripts
 
-pub script_ran : {L : Type 0} (answers : Answering L) (old new : State L) (script : List ℕ) (ss : List Statement) (told told' : Option (List ℕ)) (result : Result Ended RunFault)
-    → AreStatements script ss → IfOk result (RunsAll answers old ss new told told') → IfOk result (Runs answers old script new told told')
-script_ran answers old new script ss told told' (Ok ended) a (text, how, ran, is, took) = (text, how, step.run ss a ran, is, took)
-script_ran answers old new script ss told told' (Err f) a h = tt
+pub script_ran : {L : Type 0} (answers : Answering L) (old new : State L) (script : List ℕ) (ss : List Statement) (taken taken' : Option (List ℕ)) (result : Result Ended RunFault)
+    → AreStatements script ss → IfOk result (RunsAll answers old ss new taken taken') → IfOk result (Runs answers old script new taken taken')
+script_ran answers old new script ss taken taken' (Ok ended) a (text, how, ran, is, took) = (text, how, step.run ss a ran, is, took)
+script_ran answers old new script ss taken taken' (Err f) a h = tt
 
-pub script_broke : {L : Type 0} (answers : Answering L) (old new : State L) (script : List ℕ) (ss : List Statement) (told told' : Option (List ℕ)) (result : Result Ended RunFault)
-    → AreStatements script ss → IfErr result (BreaksIn answers old ss new told told') → IfErr result (BreaksOff answers old script new told told')
-script_broke answers old new script ss told told' (Ok ended) a h = tt
-script_broke answers old new script ss told told' (Err f) a (printed, begun, broke, took) = (printed, begun, step.steps ss a broke, took)
+pub script_broke : {L : Type 0} (answers : Answering L) (old new : State L) (script : List ℕ) (ss : List Statement) (taken taken' : Option (List ℕ)) (result : Result Ended RunFault)
+    → AreStatements script ss → IfErr result (BreaksIn answers old ss new taken taken') → IfErr result (BreaksOff answers old script new taken taken')
+script_broke answers old new script ss taken taken' (Ok ended) a h = tt
+script_broke answers old new script ss taken taken' (Err f) a (printed, begun, broke, took) = (printed, begun, step.steps ss a broke, took)
 
-pub line_told : {L : Type 0} (answers : Answering L) (old : State L) (script line : List ℕ) (told told' : Option (List ℕ)) (result : Result Ended RunFault)
-    → FaultLine script line → IfOk result (Tells line told told') → IfOk result (Runs answers old script old told told')
-line_told answers old script line told told' (Ok ended) f (is, took) = (line, step.Faulted, step.fault f refl refl, is, took)
-line_told answers old script line told told' (Err x) f h = tt
+pub line_printed : {L : Type 0} (answers : Answering L) (old : State L) (script line : List ℕ) (taken taken' : Option (List ℕ)) (result : Result Ended RunFault)
+    → FaultLine script line → IfOk result (Prints line taken taken') → IfOk result (Runs answers old script old taken taken')
+line_printed answers old script line taken taken' (Ok ended) f (is, took) = (line, step.Faulted, step.fault f refl refl, is, took)
+line_printed answers old script line taken taken' (Err x) f h = tt
 
-pub nothing_done : {L : Type 0} (answers : Answering L) (old : State L) (script : List ℕ) (told : Option (List ℕ)) → BreaksOff answers old script old told told r.Memory
-nothing_done answers old script told = ([], [], step.unread refl refl refl refl, took_all told told [] (took_nothing told))
+pub nothing_done : {L : Type 0} (answers : Answering L) (old : State L) (script : List ℕ) (taken : Option (List ℕ)) (offset : ℕ) → BreaksOff answers old script old taken taken (r.Memory offset)
+nothing_done answers old script taken offset = ([], [], step.unread refl refl refl refl, took_all taken taken [] (took_nothing taken))
 
-line_broke_at : {L : Type 0} (answers : Answering L) (old : State L) (script line : List ℕ) (told told' : Option (List ℕ)) (fault : RunFault) → FaultLine script line → BreaksLine line told told' fault → BreaksOff answers old script old told told' fault
-line_broke_at answers old script line told told' r.Memory f h = subst (λ x. BreaksOff answers old script old told x r.Memory) (sym h) (nothing_done answers old script told)
-line_broke_at answers old script line told told' r.Library f h = absurd h
-line_broke_at answers old script line told told' r.Sink f h = ([], line, step.fault refl f refl refl, took_up_to told told told' [] line (took_nothing told) h)
+line_broke_at : {L : Type 0} (answers : Answering L) (old : State L) (script line : List ℕ) (taken taken' : Option (List ℕ)) (fault : RunFault) → FaultLine script line → BreaksLine line taken taken' fault → BreaksOff answers old script old taken taken' fault
+line_broke_at answers old script line taken taken' (r.Memory offset) f h = subst (λ x. BreaksOff answers old script old taken x (r.Memory offset)) (sym h) (nothing_done answers old script taken offset)
+line_broke_at answers old script line taken taken' (r.Library offset) f h = absurd h
+line_broke_at answers old script line taken taken' r.Sink f h = ([], line, step.fault refl f refl refl, took_up_to taken taken taken' [] line (took_nothing taken) h)
 
-pub line_broke : {L : Type 0} (answers : Answering L) (old : State L) (script line : List ℕ) (told told' : Option (List ℕ)) (result : Result Ended RunFault) → FaultLine script line → IfErr result (BreaksLine line told told') → IfErr result (BreaksOff answers old script old told told')
-line_broke answers old script line told told' (Ok ended) f h = tt
-line_broke answers old script line told told' (Err x) f h = line_broke_at answers old script line told told' x f h
+pub line_broke : {L : Type 0} (answers : Answering L) (old : State L) (script line : List ℕ) (taken taken' : Option (List ℕ)) (result : Result Ended RunFault) → FaultLine script line → IfErr result (BreaksLine line taken taken') → IfErr result (BreaksOff answers old script old taken taken')
+line_broke answers old script line taken taken' (Ok ended) f h = tt
+line_broke answers old script line taken taken' (Err x) f h = line_broke_at answers old script line taken taken' x f h

@@ -5,12 +5,13 @@ use Rattle.definitions.specs.Statement as tree
 use Rattle.definitions.specs.Statement.{Expr, Item, Source, Block, Query}
 use Rattle.definitions.specs.Table.{Column, Row, Table, Database, table_named}
 use Rattle.definitions.specs.Refusal as r
+use Rattle.definitions.specs.Faults as faults
 use Rattle.definitions.specs.Answer.{agrees, value}
 use Rattle.definitions.specs.Printing.{expr_name}
 use Rattle.catalog.specs.Places.{IsColumnPlace}
 use Rattle.sqlvalue.specs.Meaning.{value_of}
 use Rattle.syntax.specs.Trees.{op_of}
-use Rattle.sqlr.specs.Meaning.{refusal_of}
+use Rattle.sqlr.specs.Meaning.{query_refusal}
 use Rattle.sqlr.specs.declared.binding.BindFault.{BindFault}
 use Rattle.sqlr.specs.declared.binding.BindFault.TheVariants as b
 use Rattle.sqlr.specs.declared.binding.Bound.{Bound}
@@ -38,6 +39,10 @@ keeps (Some c) row = is_true c row
 abbrev pub values_at : List ℕ → Row → Row
 values_at places row = map (value_at row) places
 
+-- the row of a number
+abbrev pub row_of : Bound → ℕ → Row
+row_of b row = slice_index_or b.table.now.rows row []
+
 -- the result rows of a bound query over some rows
 abbrev pub rows_of : Bound → List Row → List Row
 rows_of b rows = map (values_at b.columns.items) (filter (keeps b.condition) rows)
@@ -58,16 +63,16 @@ pub record Binds (t : Table) (e : Expr) (c : Comparison) : Type 0 where
 
 -- a refusal is a fault of an expression over a table
 abbrev pub IsExprFault : Table → Expr → r.Refusal → Type 0
-IsExprFault t e r.ScaleTooGreat = r.HasGreatScale e
-IsExprFault t e r.UnknownColumn = r.NamesUnknown t e
-IsExprFault t e r.MixedKinds = r.MixesKinds t e
+IsExprFault t e r.ScaleTooGreat = faults.HasGreatScale e
+IsExprFault t e r.UnknownColumn = faults.NamesUnknown t e
+IsExprFault t e r.MixedKinds = faults.MixesKinds t e
 IsExprFault t e _ = ⊥
 
 -- an expression has none of them
 pub record IsFaultless (t : Table) (e : Expr) : Type 0 where
-  pub scale : r.HasGreatScale e → ⊥
-  pub known : r.NamesUnknown t e → ⊥
-  pub kinds : r.MixesKinds t e → ⊥
+  pub scale : faults.HasGreatScale e → ⊥
+  pub known : faults.NamesUnknown t e → ⊥
+  pub kinds : faults.MixesKinds t e → ⊥
 
 -- a bound condition is that of a query, which has no fault
 abbrev pub BindsCondition : Table → Option Expr → Option Comparison → Type 0
@@ -85,17 +90,13 @@ abbrev pub is_text : Value → Bool
 is_text (Text codes) = true
 is_text _ = false
 
-abbrev pub is_text_type : SqlType → Bool
-is_text_type (Char n) = true
-is_text_type _ = false
-
 -- the value of a literal, on every row, and that it has no fault
 pub record IsLiteralValue (e : Expr) (v : Value) : Type 0 where
   pub value : (columns : List Column) (row : Row) → value columns row e ≡ v
-  pub kind : (t : Table) → r.expr_kind t e ≡ Some (if is_text v then Texts else Numbers)
-  pub scale : r.HasGreatScale e → ⊥
+  pub kind : (t : Table) → faults.expr_kind t e ≡ Some (if is_text v then Texts else Numbers)
+  pub scale : faults.HasGreatScale e → ⊥
 
--- why a query is not bound; none where memory was wanting
-abbrev pub told : BindFault → Option r.Refusal
-told (b.Refused refusal) = Some (refusal_of refusal)
-told b.Memory = None
+-- the refusal of a query that is not bound; none where memory was wanting
+abbrev pub bind_refusal : BindFault → Option r.Refusal
+bind_refusal (b.Refused cause) = Some (query_refusal cause)
+bind_refusal b.Memory = None

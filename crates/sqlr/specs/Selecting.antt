@@ -2,13 +2,13 @@
 use Rattle.std.specs.Prelude.{ℕ, ◌≡◌, List, map}
 use Rattle.definitions.specs.Statement.{Block, Query}
 use Rattle.definitions.specs.Table.{Table, Database}
-use Rattle.definitions.specs.Refusal.{IsAccepted}
+use Rattle.definitions.specs.Faults.{IsAccepted}
 use Rattle.definitions.specs.Answer.{answer}
 use Rattle.definitions.specs.Printing.{item_name, table_text}
 use Rattle.sqlr.specs.Binding.{IsFrom}
 
 -- the answer of a query over its table
-pub record PrintsAnswer (db : Database) (b : Block) (text : List ℕ) : Type 0 where
+pub record PrintsTable (db : Database) (b : Block) (text : List ℕ) : Type 0 where
   pub accepted : IsAccepted db (Query (record { block = b }))
   pub table : Table
   pub from : IsFrom db b table

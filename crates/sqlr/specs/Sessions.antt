@@ -19,8 +19,8 @@ ended_of step.Well = e.Well
 ended_of step.Faulted = e.Faulted
 
 abbrev pub break_of : RunFault → Break
-break_of r.Memory = NoMemory
-break_of r.Library = LibraryFailed
+break_of (r.Memory offset) = NoMemory
+break_of (r.Library offset) = LibraryFailed
 break_of r.Sink = SinkFailed
 
 -- a statement takes one state to the next, and prints this
@@ -39,30 +39,30 @@ pub record TakesBytes (db : Database) (name : Name) (bytes : List ℕ) (db' : Da
 
 -- a script is run: the sink took all that it prints
 abbrev pub Runs : {L : Type 0} → Answering L → State L → List ℕ → State L → Option (List ℕ) → Option (List ℕ) → Ended → Type 0
-Runs answers old script new told told' ended = (text : List ℕ) × (how : step.Ended) × Run answers old script new text how × (ended ≡ ended_of how) × Took told text told'
+Runs answers old script new taken taken' ended = (text : List ℕ) × (how : step.Ended) × Run answers old script new text how × (ended ≡ ended_of how) × Took taken text taken'
 
 -- a script's run breaks off: the sink took the beginning of what it prints
 abbrev pub BreaksOff : {L : Type 0} → Answering L → State L → List ℕ → State L → Option (List ℕ) → Option (List ℕ) → RunFault → Type 0
-BreaksOff answers old script new told told' fault =
-    (printed begun : List ℕ) × Breaks answers old script (break_of fault) new printed begun × TookUpTo told printed begun told'
+BreaksOff answers old script new taken taken' fault =
+    (printed begun : List ℕ) × Breaks answers old script (break_of fault) new printed begun × TookUpTo taken printed begun taken'
 
 -- statements are run: the sink took all that they print
 abbrev pub RunsAll : {L : Type 0} → Answering L → State L → List Statement → State L → Option (List ℕ) → Option (List ℕ) → Ended → Type 0
-RunsAll answers old ss new told told' ended = (text : List ℕ) × (how : step.Ended) × Steps answers old ss new text how × (ended ≡ ended_of how) × Took told text told'
+RunsAll answers old ss new taken taken' ended = (text : List ℕ) × (how : step.Ended) × Steps answers old ss new text how × (ended ≡ ended_of how) × Took taken text taken'
 
 -- statements break off: the sink took the beginning of what they print
 abbrev pub BreaksIn : {L : Type 0} → Answering L → State L → List Statement → State L → Option (List ℕ) → Option (List ℕ) → RunFault → Type 0
-BreaksIn answers old ss new told told' fault =
-    (printed begun : List ℕ) × StepsBreak answers old ss (break_of fault) new printed begun × TookUpTo told printed begun told'
+BreaksIn answers old ss new taken taken' fault =
+    (printed begun : List ℕ) × StepsBreak answers old ss (break_of fault) new printed begun × TookUpTo taken printed begun taken'
 
--- a line is told, or breaks off
-abbrev pub Tells : List ℕ → Option (List ℕ) → Option (List ℕ) → Ended → Type 0
-Tells line told told' ended = (ended ≡ e.Faulted) × Took told line told'
+-- a line is printed, or breaks off
+abbrev pub Prints : List ℕ → Option (List ℕ) → Option (List ℕ) → Ended → Type 0
+Prints line taken taken' ended = (ended ≡ e.Faulted) × Took taken line taken'
 
 abbrev pub BreaksLine : List ℕ → Option (List ℕ) → Option (List ℕ) → RunFault → Type 0
-BreaksLine line told told' r.Memory = told' ≡ told
-BreaksLine line told told' r.Library = ⊥
-BreaksLine line told told' r.Sink = TookBeginning told line told'
+BreaksLine line taken taken' (r.Memory offset) = taken' ≡ taken
+BreaksLine line taken taken' (r.Library offset) = ⊥
+BreaksLine line taken taken' r.Sink = TookBeginning taken line taken'
 
 -- how two statements ended, one behind the other
 abbrev pub IsBoth : Ended → Ended → Ended → Type 0
@@ -74,7 +74,7 @@ IsBlamed before after f.Library = before < after
 IsBlamed before after f.Memory = ⊤
 
 abbrev pub IsLibraryBlamed : ℕ → ℕ → RunFault → Type 0
-IsLibraryBlamed before after r.Library = before < after
+IsLibraryBlamed before after (r.Library offset) = before < after
 IsLibraryBlamed before after _ = ⊤
 
 abbrev pub IsSinkBlamed : ℕ → ℕ → RunFault → Type 0

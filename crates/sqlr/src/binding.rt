@@ -4,35 +4,38 @@ ghost use Rattle.std.specs.Prelude.{◌≡◌, ◌<◌, ◌≤◌, ◌∷◌, []
 ghost use Rattle.std.specs.List.{AllByRecursion};
 ghost use Rattle.definitions.specs.Answer as answer;
 ghost use Rattle.definitions.specs.Printing.{expr_name};
+ghost use Rattle.definitions.specs.Limits.{greatest_scale};
+ghost use Rattle.definitions.specs.Faults as faults;
 ghost use Rattle.definitions.specs.Refusal as refusal;
 ghost use Rattle.definitions.specs.Statement.{Query, Signed};
 ghost use Rattle.definitions.specs.Value.{Number};
 ghost use Rattle.catalog.specs.Places.{IsColumnPlace};
-ghost use Rattle.sqlvalue.specs.Meaning.{type_of, value_of};
-ghost use Rattle.syntax.specs.Trees.{block_of, condition_of, expr_of, item_of, source_of};
+ghost use Rattle.sqlvalue.specs.Meaning.{value_of};
+ghost use Rattle.syntax.specs.Trees.{block_of, condition_of, expr_of, item_of, name_of, source_of};
+ghost use Rattle.sqlr.specs.declared.binding.BindFault.TheVariants as bind_fault;
 ghost use Rattle.sqlr.specs.Binding as spec;
-ghost use Rattle.sqlr.specs.Binding.{IsPlaced, ArePlaces, Binds, BindsCondition, IsExprFault, IsFaultless, IsFrom, IsLiteralValue, rows_of, told};
-ghost use Rattle.sqlr.specs.Meaning.{refusal_of};
+ghost use Rattle.sqlr.specs.Binding.{IsPlaced, ArePlaces, Binds, BindsCondition, IsExprFault, IsFaultless, IsFrom, IsLiteralValue, bind_refusal, rows_of};
+ghost use Rattle.sqlr.specs.Meaning.{query_refusal};
 ghost use Rattle.sqlr.specs.Simple.{IsSimple, IsSingle, IsColumn, IsColumnItem, IsNumeral, IsLiteral, IsComparison, IsCondition};
 
-use crate::refusal::Refusal;
+use crate::cause::QueryCause;
 use catalog::{Database, Table};
-use sqlvalue::{Num, SqlType, Value};
-use std::alloc::Global;
-use syntax::{Block, Expr, Item, Numeral, Op};
+use sqlvalue::{Num, Value};
+use std::alloc::{AllocError, AllocFailed, Global};
+use syntax::{Block, Expr, Item, Name, Numeral, Op};
 
 /// How many items a select list may have (own).
-const MAX_ITEMS: usize = 64;
+pub const MAX_ITEMS: usize = 64;
 
 /// The greatest scale of a literal (own).
-const MAX_SCALE: u8 = 18;
+pub const MAX_SCALE: u8 = 18;
 
 /// A query over one table, by the places of its columns.
 #[derive(Drop)]
-pub struct Bound<'a> {
-    pub table: &'a Table,
+pub struct Bound<'d, 'q> {
+    pub table: &'d Table,
     pub columns: Vec<usize>,
-    pub condition: Option<Comparison<'a>>,
+    pub condition: Option<Comparison<'q>>,
 }
 
 /// A comparison of a column with a literal.
@@ -44,39 +47,61 @@ pub struct Comparison<'a> {
 }
 
 /// Why a query is not bound.
-pub enum BindFault {
-    Refused(Refusal),
+pub enum BindFault<'a> {
+    Refused(QueryCause<'a>),
     Memory,
+}
+
+impl<'a> From<QueryCause<'a>> for BindFault<'a> {
+    ghost from_gives = { λ cause fault. fault ≡ bind_fault.Refused cause };
+
+    fn from(cause: QueryCause<'a>) -> BindFault<'a> {
+        BindFault::Refused(cause)
+    }
+}
+
+impl<'a> From<AllocError> for BindFault<'a> {
+    ghost from_gives = { λ _ fault. fault ≡ bind_fault.Memory };
+
+    fn from(_error: AllocError) -> BindFault<'a> {
+        BindFault::Memory
+    }
+}
+
+impl<'a, T: Drop> From<AllocFailed<T>> for BindFault<'a> {
+    ghost from_gives = { λ _ fault. fault ≡ bind_fault.Memory };
+
+    fn from(_error: AllocFailed<T>) -> BindFault<'a> {
+        BindFault::Memory
+    }
 }
 
 /// A query block with its names found in the database (ISO/IEC 9075:1992, 7.9), or a fault that it
 /// has.
-pub fn bind<'a>(
+pub fn bind<'d, 'q>(
     alloc: Global,
-    database: &'a Database,
-    block: &'a Block,
-) -> Result<Bound<'a>, BindFault>
+    database: &'d Database,
+    block: &'q Block,
+) -> Result<Bound<'d, 'q>, BindFault<'q>>
     requires { IsSimple (block_of block.now) }
     ensures placed { IfOk result IsPlaced }
-    ensures accepted { IfOk result (λ b. refusal.IsAccepted database.now (Query (record { block = block_of block.now }))) }
+    ensures accepted { IfOk result (λ b. faults.IsAccepted database.now (Query (record { block = block_of block.now }))) }
     ensures table { IfOk result (λ b. IsFrom database.now (block_of block.now) b.table.now) }
     ensures rows { IfOk result (λ b. rows_of b b.table.now.rows ≡ answer.answer b.table.now (block_of block.now)) }
-    ensures refused { IfErr result (λ f. IfSome (told f) (refusal.BlockFaulty database.now (block_of block.now))) }
+    ensures refused { IfErr result (λ f. IfSome (bind_refusal f) (faults.BlockFaulty database.now (block_of block.now))) }
 {
+    let name = source_name(block);
     if block.items.len() > MAX_ITEMS {
-        return Err(BindFault::Refused(Refusal::OverQueryLimit));
+        return Err(BindFault::Refused(QueryCause::ManyItems {
+            items: block.items.len(),
+            table: name,
+        }));
     }
-    let Some(table) = database.table(source_name(block)) else {
-        return Err(BindFault::Refused(Refusal::NotFound));
+    let Some(table) = database.table(name.text.as_str()) else {
+        return Err(BindFault::Refused(QueryCause::NoTable(name)));
     };
-    let columns = match item_columns(alloc, table, &block.items) {
-        Ok(columns) => columns,
-        Err(fault) => return Err(fault),
-    };
-    let condition = match bind_condition(table, &block.condition) {
-        Ok(condition) => condition,
-        Err(refusal) => return Err(BindFault::Refused(refusal)),
-    };
+    let columns = item_columns(alloc, table, name, &block.items)?;
+    let condition = bind_condition(table, name, &block.condition)?;
     Ok(Bound {
         table,
         columns,
@@ -84,33 +109,36 @@ pub fn bind<'a>(
     })
 }
 
-fn source_name(block: &Block) -> &str
+/// The name of the table that a query reads.
+fn source_name(block: &Block) -> &Name
     requires { IsSingle (map source_of block.now.sources.items) }
-    ensures { map source_of block.now.sources.items ≡ record { table = result.now } ∷ [] }
+    ensures { map source_of block.now.sources.items ≡ record { table = name_of result.now } ∷ [] }
 {
     let [source] = block.sources.as_slice() else {
         unreachable!()
     };
-    source.table.text.as_str()
+    &source.table
 }
 
 /// The places of the columns of a select list.
-fn item_columns(alloc: Global, table: &Table, items: &[Item]) -> Result<Vec<usize>, BindFault>
+fn item_columns<'a>(
+    alloc: Global,
+    table: &Table,
+    name: &'a Name,
+    items: &'a [Item],
+) -> Result<Vec<usize>, BindFault<'a>>
     requires { AllByRecursion IsColumnItem (map item_of items.now) }
     ensures within { IfOk result (λ columns. All (λ place. place < length table.now.columns) columns.items) }
     ensures places { IfOk result (λ columns. ArePlaces table.now.columns (map item_of items.now) columns.items) }
-    ensures known { IfOk result (λ columns. refusal.AnyOf (λ i. refusal.NamesUnknown table.now i.value) (map item_of items.now) → ⊥) }
-    ensures refused { IfErr result (λ f. IfSome (told f) (λ r. (r ≡ refusal.UnknownColumn) × refusal.AnyOf (λ i. refusal.NamesUnknown table.now i.value) (map item_of items.now))) }
+    ensures known { IfOk result (λ columns. faults.AnyOf (λ i. faults.NamesUnknown table.now i.value) (map item_of items.now) → ⊥) }
+    ensures refused { IfErr result (λ f. IfSome (bind_refusal f) (λ r. (r ≡ refusal.UnknownColumn) × faults.AnyOf (λ i. faults.NamesUnknown table.now i.value) (map item_of items.now))) }
 {
     let mut columns = Vec::new(alloc);
     'items: for item in items {
         let Some(place) = column_place(table, &item.value) else {
-            return Err(BindFault::Refused(Refusal::UnknownColumn));
+            return Err(BindFault::Refused(no_column(name, &item.value)));
         };
-        match columns.push(place) {
-            Ok(()) => {}
-            Err(_) => return Err(BindFault::Memory),
-        }
+        columns.push(place)?;
     }
     Ok(columns)
 }
@@ -120,8 +148,8 @@ fn column_place(table: &Table, expr: &Expr) -> Option<usize>
     requires { IsColumn (expr_of expr.now) }
     ensures within { IfSome result (λ place. place < length table.now.columns) }
     ensures place { IfSome result (IsColumnPlace table.now.columns (expr_name (expr_of expr.now))) }
-    ensures known { IfSome result (λ place. refusal.NamesUnknown table.now (expr_of expr.now) → ⊥) }
-    ensures unknown { IsNone result → refusal.NamesUnknown table.now (expr_of expr.now) }
+    ensures known { IfSome result (λ place. faults.NamesUnknown table.now (expr_of expr.now) → ⊥) }
+    ensures unknown { IsNone result → faults.NamesUnknown table.now (expr_of expr.now) }
 {
     let Expr::Column(name) = expr else {
         unreachable!()
@@ -129,48 +157,79 @@ fn column_place(table: &Table, expr: &Expr) -> Option<usize>
     table.column(name.text.as_str())
 }
 
+/// That a table has no column of a name.
+fn no_column<'a>(table: &'a Name, expr: &'a Expr) -> QueryCause<'a>
+    requires { IsColumn (expr_of expr.now) }
+    ensures { query_refusal result ≡ refusal.UnknownColumn }
+{
+    let Expr::Column(column) = expr else {
+        unreachable!()
+    };
+    QueryCause::NoColumn { table, column }
+}
+
 fn bind_condition<'a>(
     table: &Table,
+    name: &'a Name,
     condition: &'a Option<Expr>,
-) -> Result<Option<Comparison<'a>>, Refusal>
+) -> Result<Option<Comparison<'a>>, QueryCause<'a>>
     requires { IsCondition (condition_of condition.now) }
     ensures within { IfOk result (λ bound. IfSome bound (λ c. c.column < length table.now.columns)) }
     ensures binds { IfOk result (BindsCondition table.now (condition_of condition.now)) }
-    ensures refused { IfErr result (λ r. refusal.IfPresent (λ e. IsExprFault table.now e (refusal_of r)) (condition_of condition.now)) }
+    ensures refused { IfErr result (λ f. faults.IfPresent (λ e. IsExprFault table.now e (query_refusal f)) (condition_of condition.now)) }
 {
     let Some(condition) = condition else {
         return Ok(None);
     };
-    match bind_comparison(table, condition) {
+    match bind_comparison(table, name, condition) {
         Ok(comparison) => Ok(Some(comparison)),
-        Err(refusal) => Err(refusal),
+        Err(cause) => Err(cause),
     }
 }
 
-fn bind_comparison<'a>(table: &Table, expr: &'a Expr) -> Result<Comparison<'a>, Refusal>
+fn bind_comparison<'a>(
+    table: &Table,
+    name: &'a Name,
+    expr: &'a Expr,
+) -> Result<Comparison<'a>, QueryCause<'a>>
     requires { IsComparison (expr_of expr.now) }
     ensures within { IfOk result (λ c. c.column < length table.now.columns) }
     ensures binds { IfOk result (Binds table.now (expr_of expr.now)) }
     ensures faultless { OnOk result (IsFaultless table.now (expr_of expr.now)) }
-    ensures refused { IfErr result (λ r. IsExprFault table.now (expr_of expr.now) (refusal_of r)) }
+    ensures refused { IfErr result (λ f. IsExprFault table.now (expr_of expr.now) (query_refusal f)) }
 {
     let Expr::Compare { op, left, right } = expr else {
         unreachable!()
     };
     let Some(column) = column_place(table, left) else {
-        return Err(Refusal::UnknownColumn);
+        return Err(no_column(name, left));
     };
     let Some(literal) = literal_value(right) else {
-        return Err(Refusal::ScaleTooGreat);
+        return Err(QueryCause::GreatScale(right));
     };
-    if is_text(literal) != is_text_type(table.sql_type(column)) {
-        return Err(Refusal::MixedKinds);
+    if is_text(literal) != table.sql_type(column).is_text() {
+        return Err(mixed_kinds(name, left, right));
     }
     Ok(Comparison {
         column,
         op: *op,
         literal,
     })
+}
+
+/// That a column is compared with a literal of the other kind.
+fn mixed_kinds<'a>(table: &'a Name, expr: &'a Expr, literal: &'a Expr) -> QueryCause<'a>
+    requires { IsColumn (expr_of expr.now) }
+    ensures { query_refusal result ≡ refusal.MixedKinds }
+{
+    let Expr::Column(column) = expr else {
+        unreachable!()
+    };
+    QueryCause::MixedKinds {
+        table,
+        column,
+        literal,
+    }
 }
 
 fn is_text(value: Value) -> bool
@@ -182,20 +241,11 @@ fn is_text(value: Value) -> bool
     }
 }
 
-fn is_text_type(sql_type: SqlType) -> bool
-    ensures { result ≡ spec.is_text_type (type_of sql_type) }
-{
-    match sql_type {
-        SqlType::Char { .. } => true,
-        _ => false,
-    }
-}
-
 /// The value of a literal; none where its scale is too great.
 fn literal_value(expr: &Expr) -> Option<Value<'_>>
     requires { IsLiteral (expr_of expr.now) }
     ensures value { IfSome result (λ v. IsLiteralValue (expr_of expr.now) (value_of v)) }
-    ensures great { IsNone result → refusal.HasGreatScale (expr_of expr.now) }
+    ensures great { IsNone result → faults.HasGreatScale (expr_of expr.now) }
 {
     match expr {
         Expr::Numeral(numeral) => number(*numeral, false),
@@ -208,7 +258,7 @@ fn literal_value(expr: &Expr) -> Option<Value<'_>>
 fn signed_value<'a>(minus: bool, operand: &Expr) -> Option<Value<'a>>
     requires { IsNumeral (expr_of operand.now) }
     ensures value { IfSome result (λ v. IsLiteralValue (Signed minus (expr_of operand.now)) (value_of v)) }
-    ensures great { IsNone result → refusal.HasGreatScale (expr_of operand.now) }
+    ensures great { IsNone result → faults.HasGreatScale (expr_of operand.now) }
 {
     let Expr::Numeral(numeral) = operand else {
         unreachable!()
@@ -218,8 +268,8 @@ fn signed_value<'a>(minus: bool, operand: &Expr) -> Option<Value<'a>>
 
 fn number<'a>(numeral: Numeral, minus: bool) -> Option<Value<'a>>
     ensures value { IfSome result (λ v. value_of v ≡ answer.signed minus (Number (pos numeral.units) numeral.scale)) }
-    ensures scale { IfSome result (λ v. numeral.scale ≤ 18) }
-    ensures great { IsNone result → 18 < numeral.scale }
+    ensures scale { IfSome result (λ v. numeral.scale ≤ greatest_scale) }
+    ensures great { IsNone result → greatest_scale < numeral.scale }
 {
     if numeral.scale > MAX_SCALE {
         return None;

@@ -19,10 +19,13 @@ pub enum Ended {
 /// Why a run broke off.
 #[derive(Clone, Copy, Debug, PartialEq, Eq, Error)]
 pub enum RunFault {
+    /// Memory was wanting, at a byte of the script: in the statement that names something there, or 0
+    /// where its text is read.
     #[error("out of memory")]
-    Memory,
+    Memory { offset: usize },
+    /// The library's device failed, for a LOAD whose file is named at a byte of the script.
     #[error("the library's device failed")]
-    Library,
+    Library { offset: usize },
     #[error("the sink's device failed")]
     Sink,
 }

@@ -2,18 +2,19 @@
 #![tactic(auto)]
 
 mod binding;
+mod cause;
 mod ended;
 mod library;
 mod outcome;
 mod printing;
-mod refusal;
 mod script;
 mod select;
 mod session;
 mod sink;
 
+pub use binding::{MAX_ITEMS, MAX_SCALE};
+pub use cause::{Cause, QueryCause, Refused};
 pub use command_line::{request, requests};
-pub use diagnostics::{Message, Place, Report};
 pub use ended::{Ended, RunFault, status};
 pub use library::{FetchFault, Fetched, Library};
 pub use session::Session;

@@ -2,22 +2,22 @@
 
 ghost use Rattle.std.specs.Prelude.{◌≡◌, IfOk, IfErr};
 ghost use Rattle.definitions.specs.Printing.{refusal_text, record_refusal_text};
+ghost use Rattle.refusals.specs.Meaning.{refusal_of};
 ghost use Rattle.sqlr.specs.declared.ended.Ended.TheVariants as ended;
 ghost use Rattle.sqlr.specs.declared.outcome.StepFault.TheVariants as fault;
-ghost use Rattle.sqlr.specs.Meaning.{refusal_of};
 
+use crate::cause::{Cause, Refused};
 use crate::ended::Ended;
 use crate::printing::{write_record_refusal, write_refusal};
-use crate::refusal::Refusal;
-use diagnostics::Message;
+use refusals::Refusal;
 use std::alloc::{AllocError, Global};
 
-/// What a statement prints, how it ended, and what people are told beside.
+/// What a statement prints, how it ended, and why it is refused, if it is.
 #[derive(Drop)]
-pub struct Printed {
+pub struct Printed<'a> {
     pub text: Vec<u8>,
     pub ended: Ended,
-    pub message: Option<Message>,
+    pub refused: Option<Refused<'a>>,
 }
 
 /// Why a statement broke off.
@@ -26,53 +26,61 @@ pub enum StepFault {
     Library,
 }
 
+impl From<AllocError> for StepFault {
+    ghost from_gives = { λ _ f. f ≡ fault.Memory };
+
+    fn from(_error: AllocError) -> StepFault {
+        StepFault::Memory
+    }
+}
+
+/// What a statement prints that is not refused.
+pub fn done<'a>(text: Vec<u8>) -> Printed<'a>
+    ensures text { result.text ≡ text }
+    ensures ended { result.ended ≡ ended.Well }
+{
+    Printed {
+        text,
+        ended: Ended::Well,
+        refused: None,
+    }
+}
+
 /// A refused statement's line.
-pub fn refused(
+pub fn refused<'a>(
     alloc: Global,
     refusal: Refusal,
-    message: Option<Message>,
-) -> Result<Printed, StepFault>
+    cause: Cause<'a>,
+) -> Result<Printed<'a>, StepFault>
     ensures text { IfOk result (λ p. p.text.items ≡ refusal_text (refusal_of refusal)) }
     ensures ended { IfOk result (λ p. p.ended ≡ ended.Faulted) }
     ensures memory { IfErr result (λ f. f ≡ fault.Memory) }
 {
     let mut text = Vec::new(alloc);
-    match write_refusal(&mut text, refusal) {
-        Ok(()) => Ok(Printed {
-            text,
-            ended: Ended::Faulted,
-            message,
-        }),
-        Err(_) => Err(StepFault::Memory),
-    }
+    write_refusal(&mut text, refusal)?;
+    Ok(Printed {
+        text,
+        ended: Ended::Faulted,
+        refused: Some(Refused { refusal, cause }),
+    })
 }
 
 /// The line of a LOAD whose record of this number is refused.
-pub fn refused_record(
+pub fn refused_record<'a>(
     alloc: Global,
     refusal: Refusal,
     number: u64,
-    message: Option<Message>,
-) -> Result<Printed, StepFault>
+    cause: Cause<'a>,
+) -> Result<Printed<'a>, StepFault>
     ensures text { IfOk result (λ p. p.text.items ≡ record_refusal_text (refusal_of refusal) number) }
     ensures ended { IfOk result (λ p. p.ended ≡ ended.Faulted) }
     ensures memory { IfErr result (λ f. f ≡ fault.Memory) }
 {
     let mut text = Vec::new(alloc);
-    match write_record_refusal(&mut text, refusal, number) {
-        Ok(()) => Ok(Printed {
-            text,
-            ended: Ended::Faulted,
-            message,
-        }),
-        Err(_) => Err(StepFault::Memory),
-    }
-}
-
-/// A message, where there is memory for it.
-pub fn told(message: Result<Option<Message>, AllocError>) -> Option<Message> {
-    match message {
-        Ok(message) => message,
-        Err(_) => None,
-    }
+    write_record_refusal(&mut text, refusal, number)?;
+    Ok(Printed {
+        text,
+        ended: Ended::Faulted,
+        refused: Some(Refused { refusal, cause }),
+    })
 }

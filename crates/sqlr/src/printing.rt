@@ -1,13 +1,14 @@
 //! The text that is printed. Every line ends with LF.
 
 ghost use Rattle.std.specs.Prelude.{◌≡◌, ◌++◌, ◌^◌, ◌<◌, ◌∷◌, [], OnOk, pos, nat_abs, decimal, codes, replicate, vec_len, vec_capacity, ◌+◌, ◌≤◌};
+ghost use Rattle.definitions.specs.Characters.{zero_digit};
 ghost use Rattle.definitions.specs.Printing as spec;
 ghost use Rattle.definitions.specs.Value as model;
 ghost use Rattle.sqlvalue.specs.Meaning.{value_of};
-ghost use Rattle.sqlr.specs.Meaning.{refusal_of};
+ghost use Rattle.refusals.specs.Meaning.{refusal_of};
 
-use crate::refusal::Refusal;
 use itoa::Buffer;
+use refusals::Refusal;
 use sqlvalue::{Num, Value};
 use std::alloc::AllocError;
 
@@ -50,7 +51,7 @@ fn write_fraction(out: &mut Vec<u8>, scale: u8, rest: u128) -> Result<(), AllocE
 }
 
 fn write_zeros(out: &mut Vec<u8>, count: usize) -> Result<(), AllocError>
-    ensures { OnOk result (out.new.items ≡ out.old.items ++ replicate count 48) }
+    ensures { OnOk result (out.new.items ≡ out.old.items ++ replicate count zero_digit) }
 {
     'zeros: for _zero in 0..count {
         out.push(b'0')?;
@@ -113,12 +114,12 @@ pub fn write_record_refusal(
 }
 
 /// The line of a fault of the script's text, at a byte.
-pub fn write_fault(out: &mut Vec<u8>, label: &str, at: usize) -> Result<(), AllocError>
-    ensures { OnOk result (out.new.items ≡ out.old.items ++ spec.fault_text label.now at) }
+pub fn write_fault(out: &mut Vec<u8>, refusal: Refusal, offset: usize) -> Result<(), AllocError>
+    ensures { OnOk result (out.new.items ≡ out.old.items ++ spec.fault_text (refusal_of refusal) offset) }
 {
-    write_error(out, label, "42000")?;
+    write_error(out, refusal.label(), refusal.state())?;
     out.extend_from_slice(b" at ")?;
-    write_decimal(out, at as u128)?;
+    write_decimal(out, offset as u128)?;
     out.extend_from_slice(b"\n")
 }
 

@@ -6,19 +6,24 @@ ghost use Rattle.lexer.specs.Meaning.{fault_of};
 ghost use Rattle.definitions.specs.Step.{AreStatements};
 ghost use Rattle.sqlr.specs.Scripts.{IsFault, line_of, lexical_line};
 
+use crate::cause::{Cause, Refused};
 use lexer::{LexFault, lex};
+use refusals::Refusal;
 use std::alloc::Global;
 use syntax::{Statement, SyntaxFault, parse};
 
 /// Why a script is not run.
 pub enum ScriptFault {
-    /// A fault of its text: the label that is printed, and the byte that it stands at.
-    Told { label: &'static str, at: usize },
+    /// A fault of its text, and the byte that it stands at.
+    Refused {
+        refused: Refused<'static>,
+        offset: usize,
+    },
     Memory,
 }
 
 /// The statements of a script.
-pub fn read(alloc: Global, script: &str) -> Result<Vec<Statement>, ScriptFault>
+pub fn parse_script(alloc: Global, script: &str) -> Result<Vec<Statement>, ScriptFault>
     ensures statements { IfOk result (λ statements. AreStatements script.now (statements_of statements.items)) }
     ensures fault { IfErr result (IsFault script.now) }
 {
@@ -28,7 +33,13 @@ pub fn read(alloc: Global, script: &str) -> Result<Vec<Statement>, ScriptFault>
     };
     match parse(alloc, &tokens, script.len()) {
         Ok(statements) => Ok(statements),
-        Err(SyntaxFault::Unexpected { at }) => Err(ScriptFault::Told { label: "E05", at }),
+        Err(SyntaxFault::Unexpected(unexpected)) => Err(ScriptFault::Refused {
+            refused: Refused {
+                refusal: Refusal::Unexpected,
+                cause: Cause::Unexpected(unexpected),
+            },
+            offset: unexpected.offset,
+        }),
         Err(SyntaxFault::Memory) => Err(ScriptFault::Memory),
     }
 }
@@ -36,11 +47,18 @@ pub fn read(alloc: Global, script: &str) -> Result<Vec<Statement>, ScriptFault>
 fn lexical(fault: LexFault) -> ScriptFault
     ensures { line_of result ≡ option_map lexical_line (fault_of fault) }
 {
-    match fault {
-        LexFault::StrayCharacter { at } => ScriptFault::Told { label: "E01", at },
-        LexFault::OpenString { at } => ScriptFault::Told { label: "E02", at },
-        LexFault::LongLiteral { at } => ScriptFault::Told { label: "E03", at },
-        LexFault::LongName { at } => ScriptFault::Told { label: "E04", at },
-        LexFault::Memory => ScriptFault::Memory,
+    let (refusal, offset) = match fault {
+        LexFault::StrayCharacter { offset, .. } => (Refusal::StrayCharacter, offset),
+        LexFault::OpenString { offset } => (Refusal::OpenString, offset),
+        LexFault::LongLiteral { offset, .. } => (Refusal::LongLiteral, offset),
+        LexFault::LongName { offset, .. } => (Refusal::LongName, offset),
+        LexFault::Memory => return ScriptFault::Memory,
+    };
+    ScriptFault::Refused {
+        refused: Refused {
+            refusal,
+            cause: Cause::Lexical(fault),
+        },
+        offset,
     }
 }

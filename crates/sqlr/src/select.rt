@@ -1,13 +1,13 @@
 //! The answer of a query, as it is printed.
 
-ghost use Rattle.std.specs.Prelude.{◌≡◌, ◌<◌, ◌++◌, [], All, IfOk, IfErr, IfSome, OnOk, length, map, slice_index_or};
+ghost use Rattle.std.specs.Prelude.{◌≡◌, ◌<◌, ◌++◌, [], All, IfOk, IfErr, IfSome, OnOk, length, filter, map, slice_index_or};
 ghost use Rattle.definitions.specs.Answer as spec;
 ghost use Rattle.definitions.specs.Printing.{fields_line, item_name, row_line, table_text};
-ghost use Rattle.definitions.specs.Refusal as refusal;
+ghost use Rattle.definitions.specs.Faults as faults;
 ghost use Rattle.sqlvalue.specs.Meaning.{value_of};
 ghost use Rattle.syntax.specs.Trees.{op_of, block_of, item_of};
-ghost use Rattle.sqlr.specs.Binding.{IsPlaced, keeps, is_true, rows_of, told, values_at};
-ghost use Rattle.sqlr.specs.Selecting.{PrintsAnswer};
+ghost use Rattle.sqlr.specs.Binding.{IsPlaced, keeps, is_true, row_of, bind_refusal, values_at};
+ghost use Rattle.sqlr.specs.Selecting.{PrintsTable};
 ghost use Rattle.sqlr.specs.Simple.{IsSimple, IsColumnItem};
 
 use crate::binding::{BindFault, Bound, Comparison, bind};
@@ -19,35 +19,53 @@ use std::cmp::Ordering;
 use syntax::{Block, Expr, Item, Op};
 
 /// What a query prints: the header, its rows and how many there are; or a fault that it has.
-pub fn select(alloc: Global, database: &Database, block: &Block) -> Result<Vec<u8>, BindFault>
+pub fn select<'q>(
+    alloc: Global,
+    database: &Database,
+    block: &'q Block,
+) -> Result<Vec<u8>, BindFault<'q>>
     requires { IsSimple (block_of block.now) }
-    ensures prints { IfOk result (λ text. PrintsAnswer database.now (block_of block.now) text.items) }
-    ensures refused { IfErr result (λ f. IfSome (told f) (refusal.BlockFaulty database.now (block_of block.now))) }
+    ensures prints { IfOk result (λ text. PrintsTable database.now (block_of block.now) text.items) }
+    ensures refused { IfErr result (λ f. IfSome (bind_refusal f) (faults.BlockFaulty database.now (block_of block.now))) }
 {
-    let bound = match bind(alloc, database, block) {
-        Ok(bound) => bound,
-        Err(fault) => return Err(fault),
-    };
+    let bound = bind(alloc, database, block)?;
+    let rows = answer_rows(alloc, &bound)?;
     let mut out = Vec::new(alloc);
-    match write_answer(&mut out, &bound, &block.items) {
-        Ok(()) => Ok(out),
-        Err(_) => Err(BindFault::Memory),
-    }
+    write_table(&mut out, &bound, &block.items, &rows)?;
+    Ok(out)
 }
 
-fn write_answer(out: &mut Vec<u8>, bound: &Bound, items: &[Item]) -> Result<(), AllocError>
+/// The rows of a query's answer, by their numbers in its table, from 0.
+fn answer_rows(alloc: Global, bound: &Bound) -> Result<Vec<usize>, AllocError>
     requires { IsPlaced bound.now }
-    ensures { OnOk result (out.new.items ≡ out.old.items ++ table_text (map item_name (map item_of items.now)) (rows_of bound.now bound.now.table.now.rows)) }
+    ensures within { IfOk result (λ rows. All (λ row. row < length bound.now.table.now.rows) rows.items) }
+    ensures kept { IfOk result (λ rows. map (row_of bound.now) rows.items ≡ filter (keeps bound.now.condition) bound.now.table.now.rows) }
 {
-    write_header(out, items)?;
-    let mut count: usize = 0;
+    let mut rows = Vec::new(alloc);
     'rows: for row in 0..bound.table.len() {
         if is_kept(bound, row) {
-            write_row(out, bound, row)?;
-            count += 1;
+            rows.push(row)?;
         }
     }
-    write_decimal(out, count as u128)?;
+    Ok(rows)
+}
+
+/// Rows of a table, by their numbers, as the result columns of a query.
+fn write_table(
+    out: &mut Vec<u8>,
+    bound: &Bound,
+    items: &[Item],
+    rows: &[usize],
+) -> Result<(), AllocError>
+    requires placed { IsPlaced bound.now }
+    requires within { All (λ row. row < length bound.now.table.now.rows) rows.now }
+    ensures { OnOk result (out.new.items ≡ out.old.items ++ table_text (map item_name (map item_of items.now)) (map (values_at bound.now.columns.items) (map (row_of bound.now) rows.now))) }
+{
+    write_header(out, items)?;
+    'rows: for row in rows {
+        write_row(out, bound, *row)?;
+    }
+    write_decimal(out, rows.len() as u128)?;
     out.extend_from_slice(b" rows\n")
 }
 
@@ -78,7 +96,7 @@ fn name_of(item: &Item) -> &str
 fn write_row(out: &mut Vec<u8>, bound: &Bound, row: usize) -> Result<(), AllocError>
     requires placed { IsPlaced bound.now }
     requires in_rows { row < length bound.now.table.now.rows }
-    ensures { OnOk result (out.new.items ≡ out.old.items ++ row_line (values_at bound.now.columns.items (slice_index_or bound.now.table.now.rows row []))) }
+    ensures { OnOk result (out.new.items ≡ out.old.items ++ row_line (values_at bound.now.columns.items (row_of bound.now row))) }
 {
     'columns: for (i, column) in bound.columns.iter().enumerate() {
         if i > 0 {
@@ -94,7 +112,7 @@ fn write_row(out: &mut Vec<u8>, bound: &Bound, row: usize) -> Result<(), AllocEr
 fn is_kept(bound: &Bound, row: usize) -> bool
     requires placed { IsPlaced bound.now }
     requires in_rows { row < length bound.now.table.now.rows }
-    ensures { result ≡ keeps bound.now.condition (slice_index_or bound.now.table.now.rows row []) }
+    ensures { result ≡ keeps bound.now.condition (row_of bound.now row) }
 {
     match &bound.condition {
         Some(comparison) => is_met(bound.table, comparison, row),

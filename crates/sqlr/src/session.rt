@@ -6,30 +6,27 @@ ghost use Rattle.definitions.specs.Printing.{fault_text};
 ghost use Rattle.definitions.specs.Statement as tree;
 ghost use Rattle.definitions.specs.Step.{AreStatements};
 ghost use Rattle.definitions.specs.Table.{table_named};
+ghost use Rattle.refusals.specs.Meaning.{refusal_of};
 ghost use Rattle.catalog.specs.Meaning as catalog;
 ghost use Rattle.syntax.specs.Trees.{block_of, definitions_of, name_of, statement_of, statements_of, text_of};
 ghost use Rattle.sqlr.specs.declared.outcome.StepFault.TheVariants as fault;
-ghost use Rattle.sqlr.specs.Meaning.{refusal_of};
-ghost use Rattle.sqlr.specs.Sessions.{BreaksIn, BreaksLine, BreaksOff, IsBlamed, IsBoth, IsLibraryBlamed, IsSinkBlamed, Runs, RunsAll, Takes, TakesBytes, Tells};
+ghost use Rattle.sqlr.specs.Sessions.{BreaksIn, BreaksLine, BreaksOff, IsBlamed, IsBoth, IsLibraryBlamed, IsSinkBlamed, Prints, Runs, RunsAll, Takes, TakesBytes};
 ghost use Rattle.sqlr.specs.Simple.{IsSimple, IsSimpleStatement};
 
 use crate::binding::BindFault;
+use crate::cause::{Cause, Refused};
 use crate::ended::{Ended, RunFault};
 use crate::library::{FetchFault, Fetched, Library};
-use crate::outcome::{Printed, StepFault, refused, refused_record, told};
+use crate::outcome::{Printed, StepFault, done, refused, refused_record};
 use crate::printing::{LOADED_ROOM, write_fault, write_loaded};
-use crate::refusal::{FieldError, Refusal};
-use crate::script::{ScriptFault, read};
+use crate::script::{ScriptFault, parse_script};
 use crate::select::select;
 use crate::sink::Sink;
-use catalog::{CreateFault, Database, FieldFault, LoadFault, NewColumn, RecordFault};
-use diagnostics::{Message, of_create, of_file, of_load, of_query, of_record, of_rows, of_script};
+use catalog::{Database, LoadFault, NewColumn};
+use refusals::Refusal;
 use std::alloc::{AllocError, Global};
 use std::marker::Model;
 use syntax::{Block, ColumnDefinition, Name, Statement, StringLiteral};
-
-/// How many messages of a run are kept.
-const MAX_MESSAGES: usize = 1000;
 
 /// A database, and the library that LOAD finds its files in.
 #[derive(Drop)]
@@ -37,7 +34,6 @@ pub struct Session<L: Library> {
     alloc: Global,
     library: L,
     database: Database,
-    messages: Vec<Message>,
 }
 
 impl<L: Library> Model for Session<L> {
@@ -58,14 +54,14 @@ impl<L: Library> Session<L> {
             alloc,
             library,
             database: Database::new(alloc),
-            messages: Vec::new(alloc),
         }
     }
 
-    /// What people are to be told of the refusals of the last run, beside the printed lines: at most
-    /// its first 1,000 messages, and fewer where memory was wanting (own).
-    pub fn messages(&self) -> &[Message] {
-        self.messages.as_slice()
+    /// The library that LOAD finds its files in.
+    pub fn library(&self) -> &L
+        ensures { result.now ≡ self.now.library }
+    {
+        &self.library
     }
 
     /// Runs a script, and puts what it prints into a sink, the text of each statement as a whole
@@ -74,50 +70,35 @@ impl<L: Library> Session<L> {
     /// statements before left it; where the sink failed, the statement whose text it refused has
     /// taken effect, and a beginning of that text was printed.
     pub fn run<S: Sink>(&mut self, script: &str, sink: &mut S) -> Result<Ended, RunFault>
-        ensures runs { IfOk result (Runs L.answers self.old script.now self.new (S.told sink.old) (S.told sink.new)) }
-        ensures breaks { IfErr result (BreaksOff L.answers self.old script.now self.new (S.told sink.old) (S.told sink.new)) }
+        ensures runs { IfOk result (Runs L.answers self.old script.now self.new (S.taken sink.old) (S.taken sink.new)) }
+        ensures breaks { IfErr result (BreaksOff L.answers self.old script.now self.new (S.taken sink.old) (S.taken sink.new)) }
         ensures library { IfErr result (IsLibraryBlamed (L.failures self.old.library) (L.failures self.new.library)) }
         ensures sink { IfErr result (IsSinkBlamed (S.failures sink.old) (S.failures sink.new)) }
     {
-        self.forget();
-        match read(self.alloc, script) {
+        match parse_script(self.alloc, script) {
             Ok(statements) => self.run_statements(&statements, sink),
-            Err(ScriptFault::Told { label, at }) => {
-                self.keep(told(of_script(self.alloc, script)));
-                self.tell_fault(label, at, sink)
+            Err(ScriptFault::Refused { refused, offset }) => {
+                sink.explain(&refused, &self.database);
+                self.put_fault(refused.refusal, offset, sink)
             }
-            Err(ScriptFault::Memory) => Err(RunFault::Memory),
+            Err(ScriptFault::Memory) => Err(RunFault::Memory { offset: 0 }),
         }
     }
 
-    /// Forgets the messages of the run before.
-    fn forget(&mut self)
-        ensures { self.new ≡ self.old }
-    {
-        self.messages.clear();
-    }
-
-    /// Keeps a message, if there is room for it.
-    fn keep(&mut self, message: Option<Message>)
-        ensures { self.new ≡ self.old }
-    {
-        if self.messages.len() >= MAX_MESSAGES {
-            return;
-        }
-        if let Some(message) = message {
-            let _ = self.messages.push(message);
-        }
-    }
-
-    /// Prints the line of a fault of the script's text.
-    fn tell_fault<S: Sink>(&self, label: &str, at: usize, sink: &mut S) -> Result<Ended, RunFault>
-        ensures told { IfOk result (Tells (fault_text label.now at) (S.told sink.old) (S.told sink.new)) }
-        ensures breaks { IfErr result (BreaksLine (fault_text label.now at) (S.told sink.old) (S.told sink.new)) }
+    /// Prints the line of a fault of the script's text, at a byte.
+    fn put_fault<S: Sink>(
+        &self,
+        refusal: Refusal,
+        offset: usize,
+        sink: &mut S,
+    ) -> Result<Ended, RunFault>
+        ensures prints { IfOk result (Prints (fault_text (refusal_of refusal) offset) (S.taken sink.old) (S.taken sink.new)) }
+        ensures breaks { IfErr result (BreaksLine (fault_text (refusal_of refusal) offset) (S.taken sink.old) (S.taken sink.new)) }
         ensures blamed { IfErr result (IsSinkBlamed (S.failures sink.old) (S.failures sink.new)) }
     {
         let mut text = Vec::new(self.alloc);
-        if write_fault(&mut text, label, at).is_err() {
-            return Err(RunFault::Memory);
+        if write_fault(&mut text, refusal, offset).is_err() {
+            return Err(RunFault::Memory { offset: 0 });
         }
         match sink.put(&text) {
             Ok(()) => Ok(Ended::Faulted),
@@ -131,30 +112,31 @@ impl<L: Library> Session<L> {
         sink: &mut S,
     ) -> Result<Ended, RunFault>
         requires { AllByRecursion IsSimpleStatement (statements_of statements.now) }
-        ensures runs { IfOk result (RunsAll L.answers self.old (statements_of statements.now) self.new (S.told sink.old) (S.told sink.new)) }
-        ensures breaks { IfErr result (BreaksIn L.answers self.old (statements_of statements.now) self.new (S.told sink.old) (S.told sink.new)) }
+        ensures runs { IfOk result (RunsAll L.answers self.old (statements_of statements.now) self.new (S.taken sink.old) (S.taken sink.new)) }
+        ensures breaks { IfErr result (BreaksIn L.answers self.old (statements_of statements.now) self.new (S.taken sink.old) (S.taken sink.new)) }
         ensures library { IfErr result (IsLibraryBlamed (L.failures self.old.library) (L.failures self.new.library)) }
         ensures sink { IfErr result (IsSinkBlamed (S.failures sink.old) (S.failures sink.new)) }
     {
         let mut ended = Ended::Well;
         'statements: for statement in statements {
+            let offset = place_of(statement);
             let printed = match self.step(statement) {
                 Ok(printed) => printed,
-                Err(StepFault::Memory) => return Err(RunFault::Memory),
-                Err(StepFault::Library) => return Err(RunFault::Library),
+                Err(StepFault::Memory) => return Err(RunFault::Memory { offset }),
+                Err(StepFault::Library) => return Err(RunFault::Library { offset }),
             };
+            explain(sink, &printed.refused, &self.database);
             match sink.put(&printed.text) {
                 Ok(()) => {}
                 Err(_) => return Err(RunFault::Sink),
             }
             ended = both(ended, printed.ended);
-            self.keep(printed.message);
         }
         Ok(ended)
     }
 
     /// Runs a statement. One that breaks off has changed nothing in the database.
-    fn step(&mut self, statement: &Statement) -> Result<Printed, StepFault>
+    fn step<'a>(&mut self, statement: &'a Statement) -> Result<Printed<'a>, StepFault>
         requires { IsSimpleStatement (statement_of statement.now) }
         ensures takes { IfOk result (Takes L.answers self.old (statement_of statement.now) self.new) }
         ensures kept { OnErr result (self.new.database ≡ self.old.database) }
@@ -168,131 +150,124 @@ impl<L: Library> Session<L> {
         }
     }
 
-    fn create_table(
+    fn create_table<'a>(
         &mut self,
-        name: &Name,
-        columns: &[ColumnDefinition],
-    ) -> Result<Printed, StepFault>
+        name: &'a Name,
+        columns: &'a [ColumnDefinition],
+    ) -> Result<Printed<'a>, StepFault>
         ensures takes { IfOk result (Takes L.answers self.old (tree.CreateTable (name_of name.now) (definitions_of columns.now)) self.new) }
         ensures kept { OnErr result (self.new.database ≡ self.old.database) }
         ensures memory { IfErr result (λ f. f ≡ fault.Memory) }
         ensures library { self.new.library ≡ self.old.library }
     {
-        let made = match new_columns(self.alloc, columns) {
-            Ok(made) => made,
-            Err(_) => return Err(StepFault::Memory),
+        let made = new_columns(self.alloc, columns)?;
+        let text = Vec::from_slice(self.alloc, b"OK\n")?;
+        let fault = match self.database.create_table(name.text.as_str(), &made) {
+            Ok(()) => return Ok(done(text)),
+            Err(fault) => fault,
         };
-        let text = match Vec::from_slice(self.alloc, b"OK\n") {
-            Ok(text) => text,
-            Err(_) => return Err(StepFault::Memory),
+        let Some(refusal) = fault.refusal() else {
+            return Err(StepFault::Memory);
         };
-        match self.database.create_table(name.text.as_str(), &made) {
-            Ok(()) => Ok(Printed {
-                text,
-                ended: Ended::Well,
-                message: None,
-            }),
-            Err(CreateFault::NameTaken) => {
-                let message = told(of_create(self.alloc, &self.database, name, columns));
-                refused(self.alloc, Refusal::NameTaken, message)
-            }
-            Err(CreateFault::OverLimit) => {
-                let message = told(of_create(self.alloc, &self.database, name, columns));
-                refused(self.alloc, Refusal::OverLimit, message)
-            }
-            Err(CreateFault::Memory) => Err(StepFault::Memory),
-        }
+        let cause = Cause::Create {
+            name,
+            columns,
+            fault,
+        };
+        refused(self.alloc, refusal, cause)
     }
 
-    fn load(&mut self, table: &Name, file: &StringLiteral) -> Result<Printed, StepFault>
+    fn load<'a>(
+        &mut self,
+        table: &'a Name,
+        file: &'a StringLiteral,
+    ) -> Result<Printed<'a>, StepFault>
         ensures takes { IfOk result (Takes L.answers self.old (tree.Load (name_of table.now) (text_of file.now)) self.new) }
         ensures kept { OnErr result (self.new.database ≡ self.old.database) }
         ensures blamed { IfErr result (IsBlamed (L.failures self.old.library) (L.failures self.new.library)) }
         ensures counted { L.failures self.old.library ≤ L.failures self.new.library }
     {
         if self.database.table(table.text.as_str()).is_none() {
-            let message = of_load(self.alloc, &self.database, table).ok();
-            return refused(self.alloc, Refusal::NotFound, message);
+            return refused(self.alloc, Refusal::NotFound, Cause::NoTable(table));
         }
         match self.library.fetch(file.text.as_str()) {
-            Ok(Fetched::Bytes(bytes)) => self.load_bytes(table, file, &bytes),
-            Ok(Fetched::Absent) => {
-                let message = of_file(self.alloc, file).ok();
-                refused(self.alloc, Refusal::NoFile, message)
-            }
+            Ok(Fetched::Bytes(bytes)) => self.load_bytes(table, file, bytes),
+            Ok(Fetched::Absent) => refused(self.alloc, Refusal::NoFile, Cause::NoFile(file)),
             Err(FetchFault::Device) => Err(StepFault::Library),
             Err(FetchFault::Memory) => Err(StepFault::Memory),
         }
     }
 
     /// Loads the bytes of a file into a table that is there.
-    fn load_bytes(
+    fn load_bytes<'a>(
         &mut self,
-        table: &Name,
-        file: &StringLiteral,
-        bytes: &[u8],
-    ) -> Result<Printed, StepFault>
+        table: &'a Name,
+        file: &'a StringLiteral,
+        bytes: Vec<u8>,
+    ) -> Result<Printed<'a>, StepFault>
         requires { table_named self.old.database (name_of table.now) ≢ None }
-        ensures takes { IfOk result (TakesBytes self.old.database (name_of table.now) bytes.now self.new.database) }
+        ensures takes { IfOk result (TakesBytes self.old.database (name_of table.now) bytes.items self.new.database) }
         ensures kept { OnErr result (self.new.database ≡ self.old.database) }
         ensures memory { IfErr result (λ f. f ≡ fault.Memory) }
         ensures library { self.new.library ≡ self.old.library }
     {
-        let mut text = match Vec::with_capacity(self.alloc, LOADED_ROOM) {
-            Ok(text) => text,
-            Err(_) => return Err(StepFault::Memory),
-        };
-        match self.database.load(table.text.as_str(), bytes) {
+        let mut text = Vec::with_capacity(self.alloc, LOADED_ROOM)?;
+        match self.database.load(table.text.as_str(), &bytes) {
             Ok(rows) => {
                 write_loaded(&mut text, rows);
-                Ok(Printed {
-                    text,
-                    ended: Ended::Well,
-                    message: None,
-                })
+                Ok(done(text))
             }
             Err(LoadFault::NoTable) => unreachable!(),
-            Err(LoadFault::Record { fault, number }) => {
-                let message = self.record_message(table, file, bytes, number);
-                refused_record(self.alloc, record_refusal(fault), number, message)
+            Err(LoadFault::Record(record)) => {
+                let cause = Cause::Record {
+                    table,
+                    file,
+                    bytes,
+                    record,
+                };
+                refused_record(self.alloc, record.fault.refusal(), record.number, cause)
             }
-            Err(LoadFault::TooManyRows) => {
-                let message = of_rows(self.alloc, table).ok();
-                refused(self.alloc, Refusal::OverLimit, message)
+            Err(LoadFault::ManyRows) => {
+                refused(self.alloc, Refusal::OverLimit, Cause::ManyRows(table))
             }
             Err(LoadFault::Memory) => Err(StepFault::Memory),
         }
     }
 
-    /// What is wrong with a record of a file.
-    fn record_message(
-        &self,
-        table: &Name,
-        file: &StringLiteral,
-        bytes: &[u8],
-        number: u64,
-    ) -> Option<Message> {
-        let table = self.database.table(table.text.as_str())?;
-        told(of_record(self.alloc, table, file, bytes, number))
-    }
-
-    fn query(&self, block: &Block) -> Result<Printed, StepFault>
+    fn query<'a>(&self, block: &'a Block) -> Result<Printed<'a>, StepFault>
         requires { IsSimple (block_of block.now) }
         ensures takes { IfOk result (Takes L.answers self.now (tree.Query (record { block = block_of block.now })) self.now) }
         ensures memory { IfErr result (λ f. f ≡ fault.Memory) }
     {
         match select(self.alloc, &self.database, block) {
-            Ok(text) => Ok(Printed {
-                text,
-                ended: Ended::Well,
-                message: None,
-            }),
-            Err(BindFault::Refused(refusal)) => {
-                let message = told(of_query(self.alloc, &self.database, block));
-                refused(self.alloc, refusal, message)
+            Ok(text) => Ok(done(text)),
+            Err(BindFault::Refused(cause)) => {
+                refused(self.alloc, cause.refusal(), Cause::Query(cause))
             }
             Err(BindFault::Memory) => Err(StepFault::Memory),
         }
+    }
+}
+
+/// Tells a sink why a statement is refused, if it is.
+fn explain<S: Sink>(sink: &mut S, refused: &Option<Refused>, database: &Database)
+    ensures taken { S.taken sink.new ≡ S.taken sink.old }
+    ensures counted { S.failures sink.new ≡ S.failures sink.old }
+{
+    if let Some(refused) = refused {
+        sink.explain(refused, database);
+    }
+}
+
+/// Where a statement names its table, or LOAD its file: the offset in the script.
+fn place_of(statement: &Statement) -> usize {
+    match statement {
+        Statement::CreateTable { name, .. } => name.start,
+        Statement::Load { file, .. } => file.start,
+        Statement::Query(query) => match query.block.sources.first() {
+            Some(source) => source.table.start,
+            None => 0,
+        },
     }
 }
 
@@ -321,16 +296,4 @@ fn new_columns<'a>(
         })?;
     }
     Ok(columns)
-}
-
-/// The refusal that a record's fault is.
-fn record_refusal(fault: RecordFault) -> Refusal
-    ensures { refusal_of result ≡ catalog.record_refusal fault }
-{
-    match fault {
-        RecordFault::FieldCount => Refusal::FieldCount,
-        RecordFault::Field(FieldFault::BadText) => Refusal::Field(FieldError::BadText),
-        RecordFault::Field(FieldFault::OutOfRange) => Refusal::Field(FieldError::OutOfRange),
-        RecordFault::Field(FieldFault::TooLong) => Refusal::Field(FieldError::TooLong),
-    }
 }

@@ -1,24 +1,33 @@
 //! Where the printed bytes go.
 
-ghost use Rattle.std.specs.Prelude.{◌<◌, ◌≤◌, ℕ, List, Option, OnOk, OnErr};
+ghost use Rattle.std.specs.Prelude.{◌≡◌, ◌<◌, ◌≤◌, ℕ, List, Option, OnOk, OnErr};
 ghost use Rattle.sqlr.specs.Devices.{Took, TookBeginning};
 
+use crate::cause::Refused;
+use catalog::Database;
 use thiserror::Error;
 
 /// Takes what is printed.
 pub trait Sink {
     /// The bytes that it has taken, where it tells them.
-    ghost told: { Self → Option (List ℕ) };
+    ghost taken: { Self → Option (List ℕ) };
 
     /// How often its device has failed.
     ghost failures: { Self → ℕ };
 
     /// Takes bytes; one that fails has taken a beginning of them.
     fn put(&mut self, bytes: &[u8]) -> Result<(), SinkFault>
-        ensures ok { OnOk result (Took (told self.old) bytes.now (told self.new)) }
-        ensures fault { OnErr result (TookBeginning (told self.old) bytes.now (told self.new)) }
+        ensures ok { OnOk result (Took (taken self.old) bytes.now (taken self.new)) }
+        ensures fault { OnErr result (TookBeginning (taken self.old) bytes.now (taken self.new)) }
         ensures failed { OnErr result (failures self.old < failures self.new) }
         ensures counted { failures self.old ≤ failures self.new };
+
+    /// Is told why a script or a statement is refused, before its line is put, with the database that it
+    /// was refused over (own). It does nothing, unless a sink has another body.
+    fn explain(&mut self, _refused: &Refused, _database: &Database)
+        ensures taken { taken self.new ≡ taken self.old }
+        ensures counted { failures self.new ≡ failures self.old }
+    {}
 }
 
 /// A sink's device has failed.

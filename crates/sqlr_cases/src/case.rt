@@ -38,6 +38,10 @@ pub enum CaseFault {
     UnknownHeading { title: String },
     #[error("'{title}' is out of place: files come first, then each script with its output, its messages if there are any, and its status")]
     OutOfPlace { title: String },
+    #[error("file '{name}' is there twice")]
+    FileTwice { name: String },
+    #[error("text stands behind a status")]
+    BehindStatus,
     #[error("a script is no UTF-8")]
     NotText,
     #[error("it ends before the status of a script")]
@@ -123,6 +127,9 @@ impl Draft {
         match section.heading {
             Heading::File(name) if self.case.runs.is_empty() => {
                 let name = String::from_str(alloc, name)?;
+                if self.case.files.iter().any(|file| file.name == name) {
+                    return Err(CaseFault::FileTwice { name });
+                }
                 let bytes = section.bytes;
                 self.case.files.push(CaseFile { name, bytes })?;
             }
@@ -162,6 +169,9 @@ impl Draft {
                     output: Some(output),
                     messages: Some(section.bytes),
                 });
+            }
+            (Heading::Status(_), Some(_), _) if !section.bytes.is_empty() => {
+                return Err(CaseFault::BehindStatus);
             }
             (Heading::Status(status), Some(output), messages) => {
                 self.case.runs.push(Run {

@@ -2,12 +2,9 @@
 
 use crate::case::{Case, Run};
 use memory_devices::{File, Part, Shelf, run};
-use sqlr::{Library, Report, Session, status};
+use sqlr::{Library, Session, status};
 use std::alloc::{AllocError, Global};
 use std::fmt::{self, Display, Formatter};
-
-/// The name under which messages speak of a script.
-const SCRIPT_NAME: &str = "script.sql";
 
 /// What differs.
 #[derive(Clone, Copy, Debug)]
@@ -82,8 +79,8 @@ fn compare<L: Library>(
     expected: &Run,
     found: &mut Vec<Difference>,
 ) -> Result<(), AllocError> {
-    let ran = run(session, Vec::new(alloc), Part::whole(&expected.script));
-    let messages = messages(alloc, session, &expected.script)?;
+    let part = Part::whole(&expected.script);
+    let ran = run(alloc, session, Vec::new(alloc), part);
     let texts = [
         (
             What::Output,
@@ -93,7 +90,7 @@ fn compare<L: Library>(
         (
             What::Messages,
             expected.messages.as_slice(),
-            messages.as_bytes(),
+            ran.messages.as_bytes(),
         ),
     ];
     for (what, expected, printed) in texts {
@@ -116,22 +113,4 @@ fn compare<L: Library>(
         })?;
     }
     Ok(())
-}
-
-/// The messages of a session's last run, as they are shown.
-fn messages<L: Library>(
-    alloc: Global,
-    session: &Session<L>,
-    script: &str,
-) -> Result<String, AllocError> {
-    let mut text = String::new(alloc);
-    for message in session.messages() {
-        let report = Report {
-            script_name: SCRIPT_NAME,
-            script,
-            message,
-        };
-        write!(text, "{report}")?;
-    }
-    Ok(text)
 }

@@ -1,20 +1,37 @@
 //! Files of the working folder.
 
+use crate::standard_error::StandardError;
 use failures::Failures;
 use sqlr::{FetchFault, Fetched, Library};
-use std::fs;
-use std::io::ErrorKind;
-use std::rt::Files;
+use std::alloc::Global;
+use std::fs::{File, OpenFile};
+use std::io::{self, ErrorKind, Read};
+use std::rt::Runtime;
 use std::sync::ledger::Ledger;
+
+/// While a file above this size is loaded, in bytes, a notice tells of it.
+const LARGE: u64 = 20_000_000;
+
+const MEGABYTE: u64 = 1_000_000;
 
 /// Files by their names as they stand, relative to the working folder.
 #[derive(Drop)]
-pub struct Folder<L: Ledger, R: Files + AllocGlobal + Drop> {
-    pub rt: R,
+pub struct Folder<'a, L: Ledger, R: Runtime + AllocGlobal> {
+    pub rt: &'a R,
+    pub standard_error: &'a StandardError<'a, R>,
     pub failures: Failures<L>,
+    /// What was wrong with the last file that could not be read.
+    pub fault: Option<FileFault>,
 }
 
-impl<L: Ledger, R: Files + AllocGlobal + Drop> Library for Folder<L, R> {
+/// A file that could not be read, by the name that it was asked for, and the system's reason.
+#[derive(Drop)]
+pub struct FileFault {
+    pub name: String,
+    pub reason: io::Error,
+}
+
+impl<L: Ledger, R: Runtime + AllocGlobal> Library for Folder<'_, L, R> {
     ghost use Rattle.std.specs.Prelude.{⊤};
 
     ghost answers = { λ _ _ _ _. ⊤ };
@@ -22,16 +39,45 @@ impl<L: Ledger, R: Files + AllocGlobal + Drop> Library for Folder<L, R> {
     ghost failures = { λ s. s.failures };
 
     fn fetch(&mut self, name: &str) -> Result<Fetched, FetchFault> {
-        match fs::read(&self.rt, name) {
-            Ok(bytes) => Ok(Fetched::Bytes(bytes)),
-            Err(error) => match error.kind() {
-                ErrorKind::NotFound => Ok(Fetched::Absent),
-                ErrorKind::OutOfMemory => Err(FetchFault::Memory),
-                _ => {
-                    self.failures.rise();
-                    Err(FetchFault::Device)
-                }
-            },
+        let reason = match self.read(name) {
+            Ok(bytes) => return Ok(Fetched::Bytes(bytes)),
+            Err(reason) => reason,
+        };
+        match reason.kind() {
+            ErrorKind::NotFound => Ok(Fetched::Absent),
+            ErrorKind::OutOfMemory => {
+                self.fault = FileFault::new(self.rt.alloc(), name, reason);
+                Err(FetchFault::Memory)
+            }
+            _ => {
+                self.fault = FileFault::new(self.rt.alloc(), name, reason);
+                self.failures.rise();
+                Err(FetchFault::Device)
+            }
         }
+    }
+}
+
+impl<L: Ledger, R: Runtime + AllocGlobal> Folder<'_, L, R> {
+    /// The bytes of a file; while a large one is read and loaded, a notice says so.
+    fn read(&self, name: &str) -> io::Result<Vec<u8>> {
+        let mut file = File::open(self.rt, name)?;
+        let size = file.metadata()?.len();
+        if size > LARGE {
+            let megabytes = size / MEGABYTE;
+            self.standard_error
+                .show_notice(format_args!("loading {name}, {megabytes} MB"));
+        }
+        let mut bytes = Vec::new(self.rt.alloc());
+        file.read_to_end(&mut bytes)?;
+        Ok(bytes)
+    }
+}
+
+impl FileFault {
+    /// What was wrong with a file, or nothing where there is no memory for its name.
+    fn new(alloc: Global, name: &str, reason: io::Error) -> Option<FileFault> {
+        let name = String::from_str(alloc, name).ok()?;
+        Some(FileFault { name, reason })
     }
 }

@@ -3,34 +3,44 @@
 
 mod folder;
 mod output;
+mod standard_error;
 
 ghost use Rattle.std.specs.Prelude.{◌≡◌, ◌<◌};
 
+use diagnostics::{Lines, Place, Reporter};
 use failures::Failures;
-use folder::Folder;
+use folder::{FileFault, Folder};
 use output::Output;
-use sqlr::requests::Request;
-use sqlr::{Message, Report, Session, request, status};
+use sqlr::requests::{Request, Script};
+use sqlr::{RunFault, Session, request, status};
+use standard_error::StandardError;
 use std::alloc::AllocError;
-use std::fmt::Display;
+use std::io::{self, ErrorKind, IsTerminal};
 use std::marker::Brand;
 use std::process::ExitCode;
 use std::rt::Runtime;
 use std::sync::ledger::{Blank, Ledger};
-use std::{env, fs, io};
+use std::{env, fs};
 
 /// The exit status of a run that breaks off before its script is read.
 const BROKEN_OFF: u8 = 2;
 
 fn main(rt: HostRuntime) -> io::Result<ExitCode> {
-    let status = exit_status::<Brand, Brand, HostRuntime>(&rt, Blank::new(1), Blank::new(1));
+    let standard_error = StandardError::new(&rt, rt.stderr().is_terminal());
+    let status = exit_status::<Brand, Brand, HostRuntime>(
+        &rt,
+        &standard_error,
+        Blank::new(1),
+        Blank::new(1),
+    );
     Ok(ExitCode::from(status))
 }
 
 /// Does what the command line asks for, and gives the exit status: 0 well, 1 a statement refused,
 /// 2 broken off, with words on standard error.
-fn exit_status<F: Ledger, P: Ledger, R: Runtime + AllocGlobal>(
-    rt: &R,
+fn exit_status<'a, F: Ledger, P: Ledger, R: Runtime + AllocGlobal>(
+    rt: &'a R,
+    standard_error: &'a StandardError<'a, R>,
     fetches: Blank,
     puts: Blank,
 ) -> u8
@@ -45,34 +55,41 @@ fn exit_status<F: Ledger, P: Ledger, R: Runtime + AllocGlobal>(
     let fetch_failures = Failures::new(book, share);
     let (book, share) = puts.open::<P>();
     let put_failures = Failures::new(book, share);
-    match asked(rt) {
-        Ok(Request::Run(script)) => run_file(rt, &script, fetch_failures, put_failures),
+    match asked(rt, standard_error) {
+        Ok(Request::Run(script)) => {
+            run_script(rt, standard_error, &script, fetch_failures, put_failures)
+        }
         Err(status) => status,
     }
 }
 
 /// What the command line asks for, or the status to end with where its words ask for nothing: those
-/// of help are printed to standard output, and others to standard error.
-fn asked<R: Runtime + AllocGlobal>(rt: &R) -> Result<Request, u8> {
+/// of help and the version are printed to standard output, and others to standard error.
+fn asked<R: Runtime + AllocGlobal>(
+    rt: &R,
+    standard_error: &StandardError<R>,
+) -> Result<Request, u8> {
     let words = match command_line(rt) {
         Ok(words) => words,
-        Err(error) => return Err(broken_off(rt, "the command line", error)),
+        Err(reason) => return Err(broken_off(standard_error, "the command line", reason)),
     };
     let mut texts: Vec<&str> = Vec::new(rt.alloc());
     for word in &words {
         if texts.push(word.as_str()).is_err() {
-            return Err(broken_off(rt, "the command line", AllocError));
+            let reason = io::Error::from(AllocError);
+            return Err(broken_off(standard_error, "the command line", reason));
         }
     }
     match request(rt.alloc(), &texts) {
         Ok(request) => Ok(request),
-        Err(fault) => {
-            let asked_for = !fault.use_stderr();
-            match fault.print(rt) {
-                Ok(()) if asked_for => Err(0),
-                _ => Err(BROKEN_OFF),
+        Err(fault) => match fault.print(rt) {
+            Ok(()) if !fault.use_stderr() => Err(0),
+            Ok(()) => Err(BROKEN_OFF),
+            Err(reason) => {
+                tell_output(standard_error, reason);
+                Err(BROKEN_OFF)
             }
-        }
+        },
     }
 }
 
@@ -80,52 +97,111 @@ fn command_line<R: Runtime + AllocGlobal>(rt: &R) -> io::Result<Vec<String>> {
     Ok(env::args(rt)?.collect(rt.alloc())?)
 }
 
-/// Runs a script file, and gives the exit status.
-fn run_file<F: Ledger, P: Ledger, R: Runtime + AllocGlobal>(
-    rt: &R,
-    name: &str,
+/// Runs a script, and gives the exit status.
+fn run_script<'a, F: Ledger, P: Ledger, R: Runtime + AllocGlobal>(
+    rt: &'a R,
+    standard_error: &'a StandardError<'a, R>,
+    script: &Script,
     fetch_failures: Failures<F>,
     put_failures: Failures<P>,
 ) -> u8 {
-    let script = match fs::read_to_string(rt, name) {
-        Ok(script) => script,
-        Err(error) => return broken_off(rt, name, error),
-    };
-    let handle = match rt.clone() {
-        Ok(handle) => handle,
-        Err(error) => return broken_off(rt, name, error),
+    let name = name_of(script);
+    let text = match read(rt, script) {
+        Ok(text) => text,
+        Err(reason) => return broken_off(standard_error, name, reason),
     };
     let folder = Folder {
-        rt: handle,
+        rt,
+        standard_error,
         failures: fetch_failures,
+        fault: None,
     };
     let mut output = Output {
         writer: io::writer(rt),
+        standard_error,
+        reporter: Reporter::new(rt.alloc(), name, &text),
+        refused: 0,
         failures: put_failures,
+        fault: None,
     };
     let mut session = Session::new(rt.alloc(), folder);
-    let run = session.run(&script, &mut output);
-    tell(rt, name, &script, session.messages());
+    let run = session.run(&text, &mut output);
+    tell_left_out(standard_error, name, output.left_out());
     if let Err(fault) = &run {
-        let _ = broken_off(rt, name, *fault);
+        let file = &session.library().fault;
+        tell_broken_off(standard_error, name, &text, *fault, file, output.fault);
     }
     status(&run)
 }
 
-/// Says on standard error what is wrong with the statements that were refused.
-fn tell<R: Runtime>(rt: &R, script_name: &str, script: &str, messages: &[Message]) {
-    for message in messages {
-        let report = Report {
-            script_name,
-            script,
-            message,
-        };
-        let _ = rt.eprint(format_args!("{report}"));
+/// What messages call a script: standard input is called as other programs of SQL call it.
+fn name_of(script: &Script) -> &str {
+    match script {
+        Script::File(name) => name.as_str(),
+        Script::StandardInput => "<stdin>",
     }
 }
 
-/// Says on standard error why nothing more is done.
-fn broken_off<R: Runtime>(rt: &R, what: &str, why: impl Display + Drop) -> u8 {
-    let _ = rt.eprintln(format_args!("sqlr: {what}: {why}"));
+fn read<R: Runtime + AllocGlobal>(rt: &R, script: &Script) -> io::Result<String> {
+    match script {
+        Script::File(name) => fs::read_to_string(rt, name),
+        Script::StandardInput => io::read_to_string(rt.alloc(), rt.reader()),
+    }
+}
+
+/// Says how many messages were left out, if any were.
+fn tell_left_out<R: Runtime + AllocGlobal>(
+    standard_error: &StandardError<R>,
+    script_name: &str,
+    count: u64,
+) {
+    match count {
+        0 => {}
+        1 => standard_error.tell(format_args!("{script_name}: and 1 more message")),
+        _ => standard_error.tell(format_args!("{script_name}: and {count} more messages")),
+    }
+}
+
+/// Says why nothing is run, and gives the exit status.
+fn broken_off<R: Runtime + AllocGlobal>(
+    standard_error: &StandardError<R>,
+    what: &str,
+    reason: io::Error,
+) -> u8 {
+    standard_error.tell_failed(what, reason);
     BROKEN_OFF
+}
+
+/// Says where in the script a run broke off and why, by the system's reason where a device has failed.
+fn tell_broken_off<R: Runtime + AllocGlobal>(
+    standard_error: &StandardError<R>,
+    script_name: &str,
+    script: &str,
+    fault: RunFault,
+    file: &Option<FileFault>,
+    output: Option<io::Error>,
+) {
+    if let Some(reason) = output {
+        tell_output(standard_error, reason);
+    }
+    let (RunFault::Memory { offset } | RunFault::Library { offset }) = fault else {
+        return;
+    };
+    let Place { line, column } = Lines::new(script).locate(offset);
+    match file {
+        Some(file) => {
+            let file_name = file.name.as_str();
+            let what = format_args!("{script_name}:{line}:{column}: {file_name}");
+            standard_error.tell_failed(what, file.reason);
+        }
+        None => standard_error.tell(format_args!("{script_name}:{line}:{column}: {fault}")),
+    }
+}
+
+/// Says why standard output takes no more. Nothing is said where its reader has gone, as `head` goes
+/// when it has seen enough.
+fn tell_output<R: Runtime + AllocGlobal>(standard_error: &StandardError<R>, reason: io::Error) {
+    if !matches!(reason.kind(), ErrorKind::BrokenPipe) {
+        standard_error.tell_failed("standard output", reason);
+    }
 }

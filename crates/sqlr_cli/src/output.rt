@@ -1,30 +1,68 @@
 //! Standard output as a sink.
 
+use crate::standard_error::StandardError;
+use catalog::Database;
+use diagnostics::Reporter;
 use failures::Failures;
-use sqlr::{Sink, SinkFault};
-use std::io::Write;
+use sqlr::{Refused, Sink, SinkFault};
+use std::io::{self, Write};
+use std::rt::Runtime;
 use std::sync::ledger::Ledger;
 
-/// Puts what is printed into a writer, which tells nothing of what it has taken.
+/// How many messages of a run are printed.
+const MAX_MESSAGES: u64 = 1000;
+
+/// Puts what is printed into a writer, which tells nothing of what it has taken, and says at once on
+/// standard error what is wrong with a refused statement.
 #[derive(Drop)]
-pub struct Output<L: Ledger, W: Write + Drop> {
+pub struct Output<'a, 's, L: Ledger, R: Runtime + AllocGlobal, W: Write + Drop> {
     pub writer: W,
+    pub standard_error: &'a StandardError<'a, R>,
+    pub reporter: Reporter<'s>,
+    /// How many statements were refused.
+    pub refused: u64,
     pub failures: Failures<L>,
+    /// Why the writer failed last.
+    pub fault: Option<io::Error>,
 }
 
-impl<L: Ledger, W: Write + Drop> Sink for Output<L, W> {
+impl<L: Ledger, R: Runtime + AllocGlobal, W: Write + Drop> Sink for Output<'_, '_, L, R, W> {
     ghost use Rattle.std.specs.Prelude.{None};
 
-    ghost told = { λ _. None };
+    ghost taken = { λ _. None };
 
     ghost failures = { λ s. s.failures };
 
     fn put(&mut self, bytes: &[u8]) -> Result<(), SinkFault> {
-        if self.writer.write_all(bytes).is_ok() && self.writer.flush().is_ok() {
-            Ok(())
-        } else {
-            self.failures.rise();
-            Err(SinkFault)
+        self.standard_error.clear_notice();
+        match written(&mut self.writer, bytes) {
+            Ok(()) => Ok(()),
+            Err(reason) => {
+                self.failures.rise();
+                self.fault = Some(reason);
+                Err(SinkFault)
+            }
         }
     }
+
+    fn explain(&mut self, refused: &Refused, database: &Database) {
+        self.refused = self.refused.saturating_add(1);
+        if self.refused > MAX_MESSAGES {
+            return;
+        }
+        let report = self.reporter.report(refused, database);
+        self.standard_error.print(report);
+    }
+}
+
+impl<L: Ledger, R: Runtime + AllocGlobal, W: Write + Drop> Output<'_, '_, L, R, W> {
+    /// How many messages were left out.
+    pub fn left_out(&self) -> u64 {
+        self.refused.saturating_sub(MAX_MESSAGES)
+    }
+}
+
+fn written<W: Write>(writer: &mut W, bytes: &[u8]) -> io::Result<()> {
+    writer.write_all(bytes)?;
+    writer.flush()
 }

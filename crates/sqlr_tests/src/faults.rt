@@ -67,8 +67,13 @@ fn run_faulty_job<L: Ledger>(alloc: Global, job: Job, fetches: Blank) -> (Ran, R
         failures: Failures::new(book, share),
     };
     let mut session = Session::new(alloc, library);
-    let first = run(&mut session, Vec::new(alloc), Part::whole(job.first));
-    let second = run(&mut session, Vec::new(alloc), Part::whole(job.second));
+    let first = run(alloc, &mut session, Vec::new(alloc), Part::whole(job.first));
+    let second = run(
+        alloc,
+        &mut session,
+        Vec::new(alloc),
+        Part::whole(job.second),
+    );
     (first, second)
 }
 
@@ -77,9 +82,10 @@ fn faulty_file_changes_nothing(rt: HostRuntime) {
     let first =
         "CREATE TABLE T (A INTEGER, B CHAR(3)); LOAD T FROM 'two.csv'; SELECT A FROM T; LOAD T FROM 'faulty.csv'; SELECT B FROM T;";
     let second = "SELECT A, B FROM T; LOAD T FROM 'two.csv';";
+    // The file's name stands at byte 91 of the script.
     for (fault, end) in [
-        (FetchFault::Device, RunFault::Library),
-        (FetchFault::Memory, RunFault::Memory),
+        (FetchFault::Device, RunFault::Library { offset: 91 }),
+        (FetchFault::Memory, RunFault::Memory { offset: 91 }),
     ] {
         let job = Job {
             fault,
@@ -113,7 +119,7 @@ fn file_of_no_table_is_not_fetched(rt: HostRuntime) {
         refused.printed.as_slice(),
         b"error E08 42000\nOK\n".as_slice()
     );
-    assert_eq!(rt; broken.end, Err(RunFault::Library));
+    assert_eq!(rt; broken.end, Err(RunFault::Library { offset: 12 }));
     assert!(rt; broken.printed.is_empty());
 }
 
@@ -128,14 +134,14 @@ fn sinks_fail_at_each_byte(rt: HostRuntime) -> Result<(), AllocError> {
             script: &script,
             room,
         };
-        let cut = run(&mut session, Vec::new(alloc), part);
+        let cut = run(alloc, &mut session, Vec::new(alloc), part);
         assert_eq!(rt; cut.end, Err(RunFault::Sink), "with room for {room}");
         assert_eq!(rt;
             cut.printed.as_slice(),
             &text.as_bytes()[..room],
             "with room for {room}"
         );
-        let look = run(&mut session, Vec::new(alloc), Part::whole(LOOK));
+        let look = run(alloc, &mut session, Vec::new(alloc), Part::whole(LOOK));
         let seen = seen_behind(steps_run(room));
         assert_eq!(rt;
             look.printed.as_slice(),
@@ -156,7 +162,7 @@ fn sink_with_room_for_all_takes_all(rt: HostRuntime) -> Result<(), AllocError> {
         script: &script,
         room: text.len(),
     };
-    let ran = run(&mut session, Vec::new(alloc), part);
+    let ran = run(alloc, &mut session, Vec::new(alloc), part);
     assert_eq!(rt; ran.end, Ok(Ended::Faulted));
     assert_eq!(rt; ran.printed.as_slice(), text.as_bytes());
     Ok(())

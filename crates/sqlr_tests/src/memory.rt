@@ -22,15 +22,15 @@ fn refused_allocation_leaves_whole_statements(rt: HostRuntime) -> Result<(), Fai
     };
     let files = &FILES;
     let mut session = Session::new(alloc, Shelf { alloc, files });
-    let Ran { end, printed } = run(&mut session, tape, Part::whole(&script));
+    let Ran { end, printed, .. } = run(alloc, &mut session, tape, Part::whole(&script));
     let done = steps_printed(&printed).ok_or("no whole texts")?;
-    assert_eq!(rt; end, end_behind(done), "behind {done} statements");
-    let look = run(&mut session, second_tape, Part::whole(LOOK));
+    assert!(rt; is_end_behind(end, done), "behind {done} statements");
+    let look = run(alloc, &mut session, second_tape, Part::whole(LOOK));
     if done < STEPS.len() {
         println!(rt; "refused behind {done} statements")?;
     } else if look.end.is_err() {
         println!(rt; "refused behind the run")?;
-        assert_eq!(rt; look.end, Err(RunFault::Memory));
+        assert!(rt; matches!(look.end, Err(RunFault::Memory { .. })));
         assert!(rt; look.printed.is_empty());
         return Ok(());
     }
@@ -42,11 +42,11 @@ fn refused_allocation_leaves_whole_statements(rt: HostRuntime) -> Result<(), Fai
     Ok(())
 }
 
-/// How a run ends whose sink has the texts of so many steps.
-fn end_behind(steps: usize) -> Result<Ended, RunFault> {
+/// Whether a run ends so whose sink has the texts of so many steps.
+fn is_end_behind(end: Result<Ended, RunFault>, steps: usize) -> bool {
     if steps < STEPS.len() {
-        Err(RunFault::Memory)
+        matches!(end, Err(RunFault::Memory { .. }))
     } else {
-        Ok(Ended::Faulted)
+        matches!(end, Ok(Ended::Faulted))
     }
 }

@@ -1,7 +1,9 @@
 //! What people are told of a refusal that would take too large a file.
 
-use diagnostics::of_rows;
-use sqlr::Report;
+use catalog::Database;
+use diagnostics::Reporter;
+use refusals::Refusal;
+use sqlr::{Cause, Refused};
 use std::test::Fail;
 use syntax::Name;
 
@@ -13,15 +15,16 @@ fn too_many_rows_are_told_at_the_table(rt: HostRuntime) -> Result<(), Fail> {
         text: String::from_str(alloc, "T")?,
         start: 5,
     };
-    let message = of_rows(alloc, &name)?;
-    let report = Report {
-        script_name: "s.sql",
-        script: "LOAD T FROM 'rows.csv';",
-        message: &message,
+    let refused = Refused {
+        refusal: Refusal::OverLimit,
+        cause: Cause::ManyRows(&name),
     };
+    let database = Database::new(alloc);
+    let mut reporter = Reporter::new(alloc, "s.sql", "LOAD T FROM 'rows.csv';");
+    let report = reporter.report(&refused, &database);
     let text = format!(in alloc; "{report}")?;
     let expected =
-        "s.sql:1:6: error E09: a table has at most 100,000,000 rows\nLOAD T FROM 'rows.csv';\n     ^\n";
+        "s.sql:1:6: error E09 42000: a table has at most 100000000 rows\nLOAD T FROM 'rows.csv';\n     ^\n";
     assert_eq!(rt; text.as_str(), expected);
     Ok(())
 }

@@ -1,4 +1,5 @@
 -- What the values and types of this crate stand for.
+use Rattle.std.specs.Prelude.{Bool, true, false}
 use Rattle.definitions.specs.Value as spec
 use Rattle.sqlvalue.specs.declared.value.Value.{Value}
 use Rattle.sqlvalue.specs.declared.value.Value.TheVariants as v
@@ -24,3 +25,8 @@ type_of t.Smallint = spec.Smallint
 type_of t.Integer = spec.Integer
 type_of (t.Numeric precision scale) = spec.Numeric precision scale
 type_of (t.Char length) = spec.Char length
+
+-- whether a type's values are texts
+abbrev pub is_text_type : spec.SqlType → Bool
+is_text_type (spec.Char n) = true
+is_text_type _ = false

@@ -8,5 +8,5 @@ mod value;
 
 pub use comparison::{compare, rank};
 pub use number::Num;
-pub use sql_type::{DeclaredType, SqlType};
+pub use sql_type::{DeclaredType, MAX_LENGTH, MAX_PRECISION, SqlType, TypeFault};
 pub use value::Value;

@@ -1,6 +1,7 @@
 //! Exact numbers.
 
 ghost use Rattle.std.specs.Prelude.{◌≡◌, ◌/◌, ◌%◌, ◌^◌, ◌<◌, ◌≤◌, pos, int_lt, nat_abs};
+ghost use Rattle.definitions.specs.Limits.{most_digits, greatest_scale};
 
 /// An exact number: a whole number of units at a scale, `units / 10^scale`
 /// (ISO/IEC 9075:1992, 4.4.1; the bounds are own).
@@ -8,8 +9,8 @@ ghost use Rattle.std.specs.Prelude.{◌≡◌, ◌/◌, ◌%◌, ◌^◌, ◌<�
 pub struct Num {
     pub units: i128,
     pub scale: u8,
-    pub ghost bounded: { nat_abs units < 10 ^ 38 },
-    pub ghost scaled: { scale ≤ 18 },
+    pub ghost bounded: { nat_abs units < 10 ^ most_digits },
+    pub ghost scaled: { scale ≤ greatest_scale },
 }
 
 impl Num {
@@ -23,7 +24,7 @@ impl Num {
     /// Its units without their sign.
     pub fn size(self) -> u128
         ensures value { result ≡ nat_abs self.units }
-        ensures bounded { result < 10 ^ 38 }
+        ensures bounded { result < 10 ^ most_digits }
     {
         self.units.unsigned_abs()
     }
@@ -41,10 +42,10 @@ impl Num {
 
 /// How many units of a scale make one.
 pub fn power_of_ten(scale: u8) -> u128
-    requires { scale ≤ 18 }
+    requires { scale ≤ greatest_scale }
     ensures exact { result ≡ 10 ^ scale }
     ensures positive { 0 < result }
-    ensures bounded { result ≤ 10 ^ 18 }
+    ensures bounded { result ≤ 10 ^ greatest_scale }
 {
     10u128.pow(u32::from(scale))
 }

@@ -1,8 +1,17 @@
 //! The types of columns.
 
-ghost use Rattle.std.specs.Prelude.{◌≡◌, ◌↔◌, IsSome, IfSome};
+ghost use Rattle.std.specs.Prelude.{◌≡◌, ◌↔◌, IsOk, IfOk};
+ghost use Rattle.definitions.specs.Value as spec;
 ghost use Rattle.definitions.specs.Value.{IsType};
-ghost use Rattle.sqlvalue.specs.Meaning.{declared_of, type_of};
+ghost use Rattle.sqlvalue.specs.Meaning.{declared_of, is_text_type, type_of};
+
+use std::fmt::{self, Display, Formatter};
+
+/// The greatest precision of a NUMERIC (own).
+pub const MAX_PRECISION: u8 = 18;
+
+/// The greatest length of a CHAR, in characters (own).
+pub const MAX_LENGTH: u8 = 254;
 
 /// A type as a statement writes it, its parameters not judged yet.
 #[derive(Clone, Copy, Debug, PartialEq, Eq)]
@@ -26,35 +35,93 @@ pub enum SqlType {
     Char { length: u8 },
 }
 
+/// Which parameter of a type is out of range.
+#[derive(Clone, Copy, Debug, PartialEq, Eq)]
+pub enum TypeFault {
+    /// The precision is 1 to `MAX_PRECISION`.
+    Precision,
+    /// The scale is at most the precision.
+    Scale,
+    /// The length is 1 to `MAX_LENGTH`.
+    Length,
+}
+
 impl DeclaredType {
     /// The type, where its parameters are in range: a precision of 1 to 18, a scale of at most
-    /// the precision, a length of 1 to 254.
-    pub fn sql_type(self) -> Option<SqlType>
-        ensures in_range { IsSome result ↔ IsType (declared_of self) }
-        ensures same { IfSome result (λ t. type_of t ≡ declared_of self) }
+    /// the precision, a length of 1 to 254; or else the first one that is not.
+    pub fn sql_type(self) -> Result<SqlType, TypeFault>
+        ensures in_range { IsOk result ↔ IsType (declared_of self) }
+        ensures same { IfOk result (λ t. type_of t ≡ declared_of self) }
     {
         match self {
-            DeclaredType::Smallint => Some(SqlType::Smallint),
-            DeclaredType::Integer => Some(SqlType::Integer),
+            DeclaredType::Smallint => Ok(SqlType::Smallint),
+            DeclaredType::Integer => Ok(SqlType::Integer),
+            DeclaredType::Numeric { precision, scale } => numeric(precision, scale),
+            DeclaredType::Char { length } => char_of(length),
+        }
+    }
+}
+
+fn numeric(precision: u128, scale: u128) -> Result<SqlType, TypeFault>
+    ensures in_range { IsOk result ↔ IsType (spec.Numeric precision scale) }
+    ensures same { IfOk result (λ t. type_of t ≡ spec.Numeric precision scale) }
+{
+    if precision < 1 || precision > u128::from(MAX_PRECISION) {
+        return Err(TypeFault::Precision);
+    }
+    if scale > precision {
+        return Err(TypeFault::Scale);
+    }
+    Ok(SqlType::Numeric {
+        precision: precision as u8,
+        scale: scale as u8,
+    })
+}
+
+fn char_of(length: u128) -> Result<SqlType, TypeFault>
+    ensures in_range { IsOk result ↔ IsType (spec.Char length) }
+    ensures same { IfOk result (λ t. type_of t ≡ spec.Char length) }
+{
+    if length < 1 || length > u128::from(MAX_LENGTH) {
+        return Err(TypeFault::Length);
+    }
+    Ok(SqlType::Char {
+        length: length as u8,
+    })
+}
+
+impl SqlType {
+    /// Whether its values are texts, and not numbers.
+    pub fn is_text(self) -> bool
+        ensures { result ≡ is_text_type (type_of self) }
+    {
+        match self {
+            SqlType::Char { .. } => true,
+            SqlType::Smallint | SqlType::Integer | SqlType::Numeric { .. } => false,
+        }
+    }
+}
+
+impl Display for SqlType {
+    fn fmt<W: fmt::Write>(&self, f: &mut Formatter<W>) -> fmt::Result {
+        match self {
+            SqlType::Smallint => f.write_str("SMALLINT"),
+            SqlType::Integer => f.write_str("INTEGER"),
+            SqlType::Numeric { precision, scale } => write!(f, "NUMERIC({precision},{scale})"),
+            SqlType::Char { length } => write!(f, "CHAR({length})"),
+        }
+    }
+}
+
+impl Display for DeclaredType {
+    fn fmt<W: fmt::Write>(&self, f: &mut Formatter<W>) -> fmt::Result {
+        match self {
+            DeclaredType::Smallint => f.write_str("SMALLINT"),
+            DeclaredType::Integer => f.write_str("INTEGER"),
             DeclaredType::Numeric { precision, scale } => {
-                if precision >= 1 && precision <= 18 && scale <= precision {
-                    Some(SqlType::Numeric {
-                        precision: precision as u8,
-                        scale: scale as u8,
-                    })
-                } else {
-                    None
-                }
+                write!(f, "NUMERIC({precision},{scale})")
             }
-            DeclaredType::Char { length } => {
-                if length >= 1 && length <= 254 {
-                    Some(SqlType::Char {
-                        length: length as u8,
-                    })
-                } else {
-                    None
-                }
-            }
+            DeclaredType::Char { length } => write!(f, "CHAR({length})"),
         }
     }
 }

@@ -1,5 +1,5 @@
 pub mod Locality
-pub mod Tokens
+pub mod Places
 pub mod Quotes
 pub mod Stopping
 pub mod Parts

@@ -10,7 +10,7 @@ use Rattle.syntax.specs.declared.fault.Stop.TheVariants as s
 use Rattle.lexer.specs.declared.token.Token.{Token}
 use Rattle.lexer.specs.Meaning.{token_of, tokens_of}
 use Rattle.syntax.specs.Trees.{kinds_of}
-use Rattle.syntax.specs.Reading.{Agree, Stops, StopsScript, starts_at, place_of}
+use Rattle.syntax.specs.Reading.{Agree, Stops, StopsScript, start_or, stop_offset}
 use Rattle.syntax.proofs.Locality.{same_statement}
 
 -- the statements so far, with any rest, are the whole
@@ -90,14 +90,14 @@ got_kind [] n t e = absurd cc
 got_kind (x ∷ xs) zero t e = (_, refl)
 got_kind (x ∷ xs) (suc n) t e = got_kind xs n t e
 
-fails_at : (ts : List Token) (end n : ℕ) (o : Option Token) → o ≡ slice_get ts n → StopsScript (kinds_of ts) 0 (s.Token n) → g.SyntaxFails (tokens_of ts) end (starts_at end o)
+fails_at : (ts : List Token) (end n : ℕ) (o : Option Token) → o ≡ slice_get ts n → StopsScript (kinds_of ts) 0 (s.Token n) → g.SyntaxFails (tokens_of ts) end (start_or end o)
 fails_at ts end n (Some t) e h =
     let k = got_kind ts n t e in
     inl (n, token_of t, got ts n t e, refl, λ more xs d. h.1 (take (n + 1) (kinds_of ts) ++ more) (λ j l. rw add-one (agrees (kinds_of ts) more n j k.0 l k.1)) xs d)
 fails_at ts end n None e h = inr (refl, λ xs d. h.1 (kinds_of ts) (λ j l. refl) xs d)
 
-pub script_fails : (ts : List Token) (end : ℕ) (stop : Stop) (at : Option ℕ) → at ≡ place_of ts end stop → StopsScript (kinds_of ts) 0 stop → MatchOption at ⊤ (g.SyntaxFails (tokens_of ts) end)
-script_fails ts end (s.Token n) (Some at) e h = let f : starts_at end (slice_get ts n) ≡ at = cc in subst (λ x. g.SyntaxFails (tokens_of ts) end x) f (fails_at ts end n (slice_get ts n) refl h)
+pub script_fails : (ts : List Token) (end : ℕ) (stop : Stop) (offset : Option ℕ) → offset ≡ stop_offset ts end stop → StopsScript (kinds_of ts) 0 stop → MatchOption offset ⊤ (g.SyntaxFails (tokens_of ts) end)
+script_fails ts end (s.Token n) (Some offset) e h = let f : start_or end (slice_get ts n) ≡ offset = cc in subst (λ x. g.SyntaxFails (tokens_of ts) end x) f (fails_at ts end n (slice_get ts n) refl h)
 script_fails ts end (s.Token n) None e h = absurd cc
-script_fails ts end s.Memory (Some at) e h = absurd cc
+script_fails ts end s.Memory (Some offset) e h = absurd cc
 script_fails ts end s.Memory None e h = tt

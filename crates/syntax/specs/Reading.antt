@@ -60,19 +60,20 @@ abbrev pub StopsScript : List token.TokenKind → ℕ → Stop → Type 0
 StopsScript ts at (s.Token n) = (at ≤ n) × ((us : List token.TokenKind) → Agree ts us n → (x : List Statement) → ScriptAt us at x → ⊥)
 StopsScript ts at s.Memory = ⊤
 
--- the byte at which a token begins, or the end of the text
-abbrev pub starts_at : (end : ℕ) → Option Token → ℕ
-starts_at end (Some t) = t.start
-starts_at end None = end
+-- the offset at which a token begins, or else the end of the text
+abbrev pub start_or : (end : ℕ) → Option Token → ℕ
+start_or end (Some t) = t.start
+start_or end None = end
 
--- the byte that a fault tells; none where memory was wanting
-abbrev pub fault_place : SyntaxFault → Option ℕ
-fault_place (f.Unexpected at) = Some at
-fault_place f.Memory = None
+-- the offset that a fault tells; none where memory was wanting
+abbrev pub fault_offset : SyntaxFault → Option ℕ
+fault_offset (f.Unexpected u) = Some u.offset
+fault_offset f.Memory = None
 
-abbrev pub place_of : List Token → (end : ℕ) → Stop → Option ℕ
-place_of tokens end (s.Token n) = Some (starts_at end (slice_get tokens n))
-place_of tokens end s.Memory = None
+-- the offset at which tokens stop being read
+abbrev pub stop_offset : List Token → (end : ℕ) → Stop → Option ℕ
+stop_offset tokens end (s.Token n) = Some (start_or end (slice_get tokens n))
+stop_offset tokens end s.Memory = None
 
 -- the word that begins a type
 abbrev pub type_word_of : TypeWord → grammar.TypeWord

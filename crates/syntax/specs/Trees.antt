@@ -1,4 +1,4 @@
--- What the trees of this crate stand for: those of the definitions, without the places in the script.
+-- What the trees of this crate stand for: those of the definitions, without the offsets in the script.
 use Rattle.std.specs.Prelude.{ℕ, List, Option, Some, None, map, string_bytes}
 use Rattle.definitions.specs.Statement as spec
 use Rattle.definitions.specs.Token.{TokenKind}

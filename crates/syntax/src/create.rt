@@ -1,6 +1,6 @@
 //! CREATE TABLE.
 
-ghost use Rattle.std.specs.Prelude.{◌≡◌, ◌+◌, ◌≤◌, ◌<◌, length, map, IfOk, IfErr, IfSome, IfNone, OnSome, option_map};
+ghost use Rattle.std.specs.Prelude.{◌≡◌, ◌+◌, ◌≤◌, ◌<◌, ◌^◌, length, map, IfOk, IfErr, IfSome, IfNone, OnSome, option_map};
 ghost use Rattle.definitions.specs.Grammar.{CreateTableAt, ListAt, ColumnAt, TypeAt, ParametersAt, LengthAt, TypeWordAt};
 ghost use Rattle.definitions.specs.Grammar as grammar;
 ghost use Rattle.sqlvalue.specs.Meaning.{declared_of};
@@ -8,16 +8,17 @@ ghost use Rattle.lexer.specs.Meaning.{word_of};
 ghost use Rattle.syntax.specs.Trees.{kinds_of, definition_of, definitions_of, statement_of};
 ghost use Rattle.syntax.specs.Reading.{Stops, type_word_of};
 
+use crate::class::TokenClass;
 use crate::fault::Stop;
-use crate::memory::push;
-use crate::read::{count, is_symbol, name, reserved, symbol, token_at, word};
+use crate::read::{count, is_symbol, name, reserved, symbol, word};
+use crate::tokens::Tokens;
 use crate::tree::{ColumnDefinition, Statement};
-use lexer::{Symbol, Token, Word};
+use lexer::{Symbol, Word};
 use sqlvalue::DeclaredType;
 use std::alloc::Global;
 
 /// `CREATE TABLE name "(" column { "," column } ")"` (ISO/IEC 9075:1992, 11.3).
-pub fn create_table(alloc: Global, tokens: &[Token], at: usize) -> Result<(Statement, usize), Stop>
+pub fn create_table(alloc: Global, tokens: &Tokens, at: usize) -> Result<(Statement, usize), Stop>
     ensures next { IfOk result (λ r. (at < r.1) × (r.1 ≤ length tokens.now)) }
     ensures derived { IfOk result (λ r. CreateTableAt (kinds_of tokens.now) at r.1 (statement_of r.0)) }
     ensures none { IfErr result (Stops CreateTableAt (kinds_of tokens.now) at) }
@@ -33,7 +34,7 @@ pub fn create_table(alloc: Global, tokens: &[Token], at: usize) -> Result<(State
 
 fn columns(
     alloc: Global,
-    tokens: &[Token],
+    tokens: &Tokens,
     at: usize,
 ) -> Result<(Vec<ColumnDefinition>, usize), Stop>
     ensures next { IfOk result (λ r. (at < r.1) × (r.1 ≤ length tokens.now)) }
@@ -43,17 +44,17 @@ fn columns(
     let mut columns = Vec::new(alloc);
     let mut next = at;
     'more: loop {
-        let (column, end) = column(alloc, tokens, next)?;
-        push(&mut columns, column)?;
-        if !is_symbol(tokens, end, Symbol::Comma) {
-            return Ok((columns, end));
+        let (column, after) = column(alloc, tokens, next)?;
+        columns.push(column)?;
+        if !is_symbol(tokens, after, Symbol::Comma) {
+            return Ok((columns, after));
         }
-        next = end + 1;
+        next = after + 1;
     }
 }
 
 /// `name type` (ISO/IEC 9075:1992, 11.4).
-fn column(alloc: Global, tokens: &[Token], at: usize) -> Result<(ColumnDefinition, usize), Stop>
+fn column(alloc: Global, tokens: &Tokens, at: usize) -> Result<(ColumnDefinition, usize), Stop>
     ensures next { IfOk result (λ r. (at < r.1) × (r.1 ≤ length tokens.now)) }
     ensures derived { IfOk result (λ r. ColumnAt (kinds_of tokens.now) at r.1 (definition_of r.0)) }
     ensures none { IfErr result (Stops ColumnAt (kinds_of tokens.now) at) }
@@ -64,7 +65,7 @@ fn column(alloc: Global, tokens: &[Token], at: usize) -> Result<(ColumnDefinitio
 }
 
 /// A type (ISO/IEC 9075:1992, 6.1).
-fn declared_type(tokens: &[Token], at: usize) -> Result<(DeclaredType, usize), Stop>
+fn declared_type(tokens: &Tokens, at: usize) -> Result<(DeclaredType, usize), Stop>
     ensures next { IfOk result (λ r. (at < r.1) × (r.1 ≤ length tokens.now)) }
     ensures derived { IfOk result (λ r. TypeAt (kinds_of tokens.now) at r.1 (declared_of r.0)) }
     ensures none { IfErr result (Stops TypeAt (kinds_of tokens.now) at) }
@@ -87,12 +88,13 @@ enum TypeWord {
 }
 
 /// The type whose word stands at a place.
-fn type_word_at(tokens: &[Token], at: usize) -> Option<TypeWord>
+fn type_word_at(tokens: &Tokens, at: usize) -> Option<TypeWord>
     ensures inside { OnSome result (at < length tokens.now) }
+    ensures room { OnSome result (at + 1 < 2 ^ 64) }
     ensures some { IfSome result (λ k. TypeWordAt (kinds_of tokens.now) at (type_word_of k)) }
     ensures none { IfNone result ((k : _) → ¬ (TypeWordAt (kinds_of tokens.now) at k)) }
 {
-    let token = token_at(tokens, at)?;
+    let token = tokens.look(at, TokenClass::Type)?;
     let word = reserved(token.kind)?;
     type_word(word)
 }
@@ -110,7 +112,7 @@ fn type_word(word: Word) -> Option<TypeWord>
 }
 
 /// `"(" count [ "," count ] ")"`; the scale is 0 if none is written.
-fn numeric_parameters(tokens: &[Token], at: usize) -> Result<(DeclaredType, usize), Stop>
+fn numeric_parameters(tokens: &Tokens, at: usize) -> Result<(DeclaredType, usize), Stop>
     ensures next { IfOk result (λ r. (at < r.1) × (r.1 ≤ length tokens.now)) }
     ensures derived { IfOk result (λ r. ParametersAt (kinds_of tokens.now) at r.1 (declared_of r.0)) }
     ensures none { IfErr result (Stops ParametersAt (kinds_of tokens.now) at) }
@@ -133,7 +135,7 @@ fn numeric_parameters(tokens: &[Token], at: usize) -> Result<(DeclaredType, usiz
 }
 
 /// `[ "(" count ")" ]`; the length is 1 if none is written.
-fn length_parameter(tokens: &[Token], at: usize) -> Result<(DeclaredType, usize), Stop>
+fn length_parameter(tokens: &Tokens, at: usize) -> Result<(DeclaredType, usize), Stop>
     requires { at ≤ length tokens.now }
     ensures next { IfOk result (λ r. (at ≤ r.1) × (r.1 ≤ length tokens.now)) }
     ensures derived { IfOk result (λ r. LengthAt (kinds_of tokens.now) at r.1 (declared_of r.0)) }

@@ -1,15 +1,17 @@
 //! From tokens to statements.
 #![tactic(auto)]
 
+mod class;
 mod create;
 mod fault;
-mod memory;
 mod parser;
 mod query;
 mod read;
+mod tokens;
 mod tree;
 
-pub use fault::SyntaxFault;
+pub use class::{TokenClass, Wanted};
+pub use fault::{SyntaxFault, Unexpected};
 pub use parser::parse;
 pub use tree::{
     Block, ColumnDefinition, Expr, Item, Name, Numeral, Op, Select, Source, Statement,

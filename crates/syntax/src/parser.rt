@@ -1,16 +1,16 @@
 //! Scripts.
 
-ghost use Rattle.std.specs.Prelude.{◌≡◌, ◌+◌, ◌≤◌, ◌<◌, length, IfOk, IfErr, MatchOption, ⊤, slice_get};
+ghost use Rattle.std.specs.Prelude.{◌≡◌, ◌+◌, ◌≤◌, ◌<◌, length, IfOk, IfErr, MatchOption, ⊤};
 ghost use Rattle.definitions.specs.Grammar.{Derives, SyntaxFails, ScriptAt, StatementAt, LoadAt};
 ghost use Rattle.lexer.specs.Meaning.{tokens_of};
 ghost use Rattle.syntax.specs.Trees.{kinds_of, statement_of, statements_of};
-ghost use Rattle.syntax.specs.Reading.{Stops, StopsScript, fault_place, place_of, starts_at};
+ghost use Rattle.syntax.specs.Reading.{Stops, StopsScript, fault_offset, stop_offset};
 
 use crate::create::create_table;
 use crate::fault::{Stop, SyntaxFault};
-use crate::memory::push;
 use crate::query::block;
-use crate::read::{is_word, name, string, symbol, token_at, word};
+use crate::read::{is_word, name, string, symbol, word};
+use crate::tokens::Tokens;
 use crate::tree::{Select, Statement};
 use lexer::{Symbol, Token, Word};
 use std::alloc::Global;
@@ -19,51 +19,40 @@ use std::alloc::Global;
 /// length in bytes.
 pub fn parse(alloc: Global, tokens: &[Token], end: usize) -> Result<Vec<Statement>, SyntaxFault>
     ensures derived { IfOk result (λ statements. Derives (kinds_of tokens.now) (statements_of statements.items)) }
-    ensures fault { IfErr result (λ fault. MatchOption (fault_place fault) ⊤ (SyntaxFails (tokens_of tokens.now) end)) }
+    ensures fault { IfErr result (λ fault. MatchOption (fault_offset fault) ⊤ (SyntaxFails (tokens_of tokens.now) end)) }
 {
-    match script(alloc, tokens) {
+    let tokens = Tokens::new(tokens);
+    match script(alloc, &tokens) {
         Ok(statements) => Ok(statements),
-        Err(stop) => Err(fault_of(tokens, end, stop)),
+        Err(stop) => Err(fault_of(&tokens, end, stop)),
     }
 }
 
-/// Where a fault stands in the script.
-fn fault_of(tokens: &[Token], end: usize, stop: Stop) -> SyntaxFault
-    ensures { fault_place result ≡ place_of tokens.now end stop }
+/// The fault of a stop, in a script of `end` bytes.
+fn fault_of(tokens: &Tokens, end: usize, stop: Stop) -> SyntaxFault
+    ensures { fault_offset result ≡ stop_offset tokens.now end stop }
 {
     match stop {
-        Stop::Token(place) => SyntaxFault::Unexpected {
-            at: start_of(tokens, end, place),
-        },
+        Stop::Token(at) => SyntaxFault::Unexpected(tokens.unexpected(end, at)),
         Stop::Memory => SyntaxFault::Memory,
     }
 }
 
-/// The byte at which a token begins, or the script's length behind the last.
-fn start_of(tokens: &[Token], end: usize, place: usize) -> usize
-    ensures { result ≡ starts_at end (slice_get tokens.now place) }
-{
-    match token_at(tokens, place) {
-        Some(token) => token.start,
-        None => end,
-    }
-}
-
-fn script(alloc: Global, tokens: &[Token]) -> Result<Vec<Statement>, Stop>
+fn script(alloc: Global, tokens: &Tokens) -> Result<Vec<Statement>, Stop>
     ensures derived { IfOk result (λ statements. ScriptAt (kinds_of tokens.now) 0 (statements_of statements.items)) }
     ensures none { IfErr result (StopsScript (kinds_of tokens.now) 0) }
 {
     let mut statements = Vec::new(alloc);
     let mut at = 0;
     'statements: while at < tokens.len() {
-        let (statement, end) = statement(alloc, tokens, at)?;
-        push(&mut statements, statement)?;
-        at = symbol(tokens, end, Symbol::Semicolon)?;
+        let (statement, after) = statement(alloc, tokens, at)?;
+        statements.push(statement)?;
+        at = symbol(tokens, after, Symbol::Semicolon)?;
     }
     Ok(statements)
 }
 
-fn statement(alloc: Global, tokens: &[Token], at: usize) -> Result<(Statement, usize), Stop>
+fn statement(alloc: Global, tokens: &Tokens, at: usize) -> Result<(Statement, usize), Stop>
     ensures next { IfOk result (λ r. (at < r.1) × (r.1 ≤ length tokens.now)) }
     ensures derived { IfOk result (λ r. StatementAt (kinds_of tokens.now) at r.1 (statement_of r.0)) }
     ensures none { IfErr result (Stops StatementAt (kinds_of tokens.now) at) }
@@ -79,7 +68,7 @@ fn statement(alloc: Global, tokens: &[Token], at: usize) -> Result<(Statement, u
 }
 
 /// `LOAD name FROM string` (own).
-fn load(alloc: Global, tokens: &[Token], at: usize) -> Result<(Statement, usize), Stop>
+fn load(alloc: Global, tokens: &Tokens, at: usize) -> Result<(Statement, usize), Stop>
     ensures next { IfOk result (λ r. (at < r.1) × (r.1 ≤ length tokens.now)) }
     ensures derived { IfOk result (λ r. LoadAt (kinds_of tokens.now) at r.1 (statement_of r.0)) }
     ensures none { IfErr result (Stops LoadAt (kinds_of tokens.now) at) }

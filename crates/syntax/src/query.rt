@@ -8,15 +8,16 @@ ghost use Rattle.lexer.specs.Meaning.{symbol_of};
 ghost use Rattle.syntax.specs.Trees.{kinds_of, block_of, item_of, source_of, expr_of, condition_of, numeral_of, op_of};
 ghost use Rattle.syntax.specs.Reading.{Stops, OpAt};
 
+use crate::class::TokenClass;
 use crate::fault::Stop;
-use crate::memory::{boxed, push};
-use crate::read::{is_string_at, is_symbol, is_word, mark, name, numeral, string, token_at, word};
+use crate::read::{is_string_at, is_symbol, is_word, mark, name, numeral, string, word};
+use crate::tokens::Tokens;
 use crate::tree::{Block, Expr, Item, Numeral, Op, Source};
-use lexer::{Symbol, Token, Word};
+use lexer::{Symbol, Word};
 use std::alloc::Global;
 
 /// `SELECT item { "," item } FROM source [ WHERE condition ]` (ISO/IEC 9075:1992, 7.9).
-pub fn block(alloc: Global, tokens: &[Token], at: usize) -> Result<(Block, usize), Stop>
+pub fn block(alloc: Global, tokens: &Tokens, at: usize) -> Result<(Block, usize), Stop>
     ensures next { IfOk result (λ r. (at < r.1) × (r.1 ≤ length tokens.now)) }
     ensures derived { IfOk result (λ r. BlockAt (kinds_of tokens.now) at r.1 (block_of r.0)) }
     ensures none { IfErr result (Stops BlockAt (kinds_of tokens.now) at) }
@@ -26,7 +27,7 @@ pub fn block(alloc: Global, tokens: &[Token], at: usize) -> Result<(Block, usize
     let at = word(tokens, at, Word::From)?;
     let (source, at) = source(alloc, tokens, at)?;
     let mut sources = Vec::new(alloc);
-    push(&mut sources, source)?;
+    sources.push(source)?;
     let (condition, at) = condition(alloc, tokens, at)?;
     Ok((
         Block {
@@ -38,7 +39,7 @@ pub fn block(alloc: Global, tokens: &[Token], at: usize) -> Result<(Block, usize
     ))
 }
 
-fn items(alloc: Global, tokens: &[Token], at: usize) -> Result<(Vec<Item>, usize), Stop>
+fn items(alloc: Global, tokens: &Tokens, at: usize) -> Result<(Vec<Item>, usize), Stop>
     ensures next { IfOk result (λ r. (at < r.1) × (r.1 ≤ length tokens.now)) }
     ensures derived { IfOk result (λ r. ListAt (ItemAt (kinds_of tokens.now)) (kinds_of tokens.now) at r.1 (map item_of r.0.items)) }
     ensures none { IfErr result (Stops (λ ts. ListAt (ItemAt ts) ts) (kinds_of tokens.now) at) }
@@ -46,16 +47,16 @@ fn items(alloc: Global, tokens: &[Token], at: usize) -> Result<(Vec<Item>, usize
     let mut items = Vec::new(alloc);
     let mut next = at;
     'more: loop {
-        let (item, end) = item(alloc, tokens, next)?;
-        push(&mut items, item)?;
-        if !is_symbol(tokens, end, Symbol::Comma) {
-            return Ok((items, end));
+        let (item, after) = item(alloc, tokens, next)?;
+        items.push(item)?;
+        if !is_symbol(tokens, after, Symbol::Comma) {
+            return Ok((items, after));
         }
-        next = end + 1;
+        next = after + 1;
     }
 }
 
-fn item(alloc: Global, tokens: &[Token], at: usize) -> Result<(Item, usize), Stop>
+fn item(alloc: Global, tokens: &Tokens, at: usize) -> Result<(Item, usize), Stop>
     ensures next { IfOk result (λ r. (at < r.1) × (r.1 ≤ length tokens.now)) }
     ensures derived { IfOk result (λ r. ItemAt (kinds_of tokens.now) at r.1 (item_of r.0)) }
     ensures none { IfErr result (Stops ItemAt (kinds_of tokens.now) at) }
@@ -65,7 +66,7 @@ fn item(alloc: Global, tokens: &[Token], at: usize) -> Result<(Item, usize), Sto
     Ok((Item { value }, at))
 }
 
-fn source(alloc: Global, tokens: &[Token], at: usize) -> Result<(Source, usize), Stop>
+fn source(alloc: Global, tokens: &Tokens, at: usize) -> Result<(Source, usize), Stop>
     ensures next { IfOk result (λ r. (at < r.1) × (r.1 ≤ length tokens.now)) }
     ensures derived { IfOk result (λ r. SourceAt (kinds_of tokens.now) at r.1 (source_of r.0)) }
     ensures none { IfErr result (Stops SourceAt (kinds_of tokens.now) at) }
@@ -75,7 +76,7 @@ fn source(alloc: Global, tokens: &[Token], at: usize) -> Result<(Source, usize),
 }
 
 /// `[ WHERE condition ]` (ISO/IEC 9075:1992, 7.6).
-fn condition(alloc: Global, tokens: &[Token], at: usize) -> Result<(Option<Expr>, usize), Stop>
+fn condition(alloc: Global, tokens: &Tokens, at: usize) -> Result<(Option<Expr>, usize), Stop>
     requires { at ≤ length tokens.now }
     ensures next { IfOk result (λ r. (at ≤ r.1) × (r.1 ≤ length tokens.now)) }
     ensures derived { IfOk result (λ r. WhereAt (kinds_of tokens.now) at r.1 (condition_of r.0)) }
@@ -89,26 +90,26 @@ fn condition(alloc: Global, tokens: &[Token], at: usize) -> Result<(Option<Expr>
 }
 
 /// `name op literal` (ISO/IEC 9075:1992, 8.2).
-fn comparison(alloc: Global, tokens: &[Token], at: usize) -> Result<(Expr, usize), Stop>
+fn comparison(alloc: Global, tokens: &Tokens, at: usize) -> Result<(Expr, usize), Stop>
     ensures next { IfOk result (λ r. (at < r.1) × (r.1 ≤ length tokens.now)) }
     ensures derived { IfOk result (λ r. ComparisonAt (kinds_of tokens.now) at r.1 (expr_of r.0)) }
     ensures none { IfErr result (Stops ComparisonAt (kinds_of tokens.now) at) }
 {
     let (column, at) = name(alloc, tokens, at)?;
-    let left = boxed(alloc, Expr::Column(column))?;
+    let left = Box::new(alloc, Expr::Column(column))?;
     let (op, at) = op(tokens, at)?;
     let (literal, at) = literal(alloc, tokens, at)?;
-    let right = boxed(alloc, literal)?;
+    let right = Box::new(alloc, literal)?;
     Ok((Expr::Compare { op, left, right }, at))
 }
 
 /// A comparison operator (ISO/IEC 9075:1992, 8.2).
-fn op(tokens: &[Token], at: usize) -> Result<(Op, usize), Stop>
+fn op(tokens: &Tokens, at: usize) -> Result<(Op, usize), Stop>
     ensures next { IfOk result (λ r. (r.1 ≡ at + 1) × (r.1 ≤ length tokens.now)) }
     ensures derived { IfOk result (λ r. OpAt (kinds_of tokens.now) at r.1 (op_of r.0)) }
     ensures none { IfErr result (Stops OpAt (kinds_of tokens.now) at) }
 {
-    let Some(token) = token_at(tokens, at) else {
+    let Some(token) = tokens.look(at, TokenClass::Comparison) else {
         return Err(Stop::Token(at));
     };
     let Some(symbol) = mark(token.kind) else {
@@ -135,7 +136,7 @@ fn comparison_op(symbol: Symbol) -> Option<Op>
 }
 
 /// `string | [ "+" | "-" ] number` (ISO/IEC 9075:1992, 5.3).
-fn literal(alloc: Global, tokens: &[Token], at: usize) -> Result<(Expr, usize), Stop>
+fn literal(alloc: Global, tokens: &Tokens, at: usize) -> Result<(Expr, usize), Stop>
     ensures next { IfOk result (λ r. (at < r.1) × (r.1 ≤ length tokens.now)) }
     ensures derived { IfOk result (λ r. LiteralAt (kinds_of tokens.now) at r.1 (expr_of r.0)) }
     ensures none { IfErr result (Stops LiteralAt (kinds_of tokens.now) at) }
@@ -154,23 +155,23 @@ fn literal(alloc: Global, tokens: &[Token], at: usize) -> Result<(Expr, usize), 
 }
 
 /// A number behind its sign.
-fn signed(alloc: Global, tokens: &[Token], at: usize, minus: bool) -> Result<(Expr, usize), Stop>
+fn signed(alloc: Global, tokens: &Tokens, at: usize, minus: bool) -> Result<(Expr, usize), Stop>
     ensures next { IfOk result (λ r. (at < r.1) × (r.1 ≤ length tokens.now)) }
     ensures derived { IfOk result (λ r. (e : _) × UnsignedAt (kinds_of tokens.now) at r.1 e × (expr_of r.0 ≡ tree.Signed minus e)) }
     ensures none { IfErr result (Stops UnsignedAt (kinds_of tokens.now) at) }
 {
     let (number, at) = unsigned(tokens, at)?;
-    let operand = boxed(alloc, Expr::Numeral(number))?;
+    let operand = Box::new(alloc, Expr::Numeral(number))?;
     Ok((Expr::Signed { minus, operand }, at))
 }
 
 /// An unsigned number (ISO/IEC 9075:1992, 5.3, exact numeric literal).
-fn unsigned(tokens: &[Token], at: usize) -> Result<(Numeral, usize), Stop>
+fn unsigned(tokens: &Tokens, at: usize) -> Result<(Numeral, usize), Stop>
     ensures next { IfOk result (λ r. (at < r.1) × (r.1 ≤ length tokens.now)) }
     ensures derived { IfOk result (λ r. UnsignedAt (kinds_of tokens.now) at r.1 (numeral_of r.0)) }
     ensures none { IfErr result (Stops UnsignedAt (kinds_of tokens.now) at) }
 {
-    let Some(token) = token_at(tokens, at) else {
+    let Some(token) = tokens.look(at, TokenClass::Number) else {
         return Err(Stop::Token(at));
     };
     let Some(number) = numeral(token.kind) else {

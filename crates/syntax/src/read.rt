@@ -1,6 +1,6 @@
 //! The tokens that the rules read one by one.
 
-ghost use Rattle.std.specs.Prelude.{◌≡◌, ◌↔◌, ◌+◌, ◌≤◌, ◌<◌, length, codes, string_bytes, false, IsTrue, IfOk, IfErr, OnOk, OnSome, slice_get, option_map};
+ghost use Rattle.std.specs.Prelude.{◌≡◌, ◌↔◌, ◌+◌, ◌≤◌, ◌<◌, ◌^◌, length, codes, string_bytes, false, IsTrue, IfOk, IfErr, OnOk, option_map};
 ghost use Rattle.std.specs.Bool.{OnTrue};
 ghost use Rattle.definitions.specs.Token.{Mark, Reserved};
 ghost use Rattle.definitions.specs.Characters.{folded};
@@ -10,18 +10,12 @@ ghost use Rattle.lexer.specs.Meaning.{symbol_of, word_of, unquoted, quoted_text}
 ghost use Rattle.syntax.specs.Trees.{kinds_of, name_of, text_of};
 ghost use Rattle.syntax.specs.Reading.{Stops, StringAt, mark_in, reserved_in, numeral_in, is_name_kind, is_string_kind};
 
+use crate::class::TokenClass;
 use crate::fault::Stop;
+use crate::tokens::Tokens;
 use crate::tree::{Name, StringLiteral};
-use lexer::{Numeral, Symbol, Token, TokenKind, Word};
+use lexer::{Numeral, Symbol, TokenKind, Word};
 use std::alloc::{AllocError, Global};
-
-/// The token at a place.
-pub fn token_at<'a>(tokens: &[Token<'a>], at: usize) -> Option<Token<'a>>
-    ensures there { result ≡ slice_get tokens.now at }
-    ensures inside { OnSome result (at < length tokens.now) }
-{
-    tokens.get(at).copied()
-}
 
 /// The symbol that a kind of token is.
 pub fn mark(kind: TokenKind) -> Option<Symbol>
@@ -90,37 +84,39 @@ fn is_string(kind: TokenKind) -> bool
 }
 
 /// Whether a symbol stands at a place.
-pub fn is_symbol(tokens: &[Token], at: usize, symbol: Symbol) -> bool
-    ensures { IsTrue result ↔ At (kinds_of tokens.now) at (Mark (symbol_of symbol)) }
+pub fn is_symbol(tokens: &Tokens, at: usize, symbol: Symbol) -> bool
+    ensures stands { IsTrue result ↔ At (kinds_of tokens.now) at (Mark (symbol_of symbol)) }
+    ensures room { OnTrue result (at + 1 < 2 ^ 64) }
 {
-    match token_at(tokens, at) {
+    match tokens.look(at, TokenClass::Symbol(symbol)) {
         Some(token) => holds_symbol(token.kind, symbol),
         None => false,
     }
 }
 
 /// Whether a reserved word stands at a place.
-pub fn is_word(tokens: &[Token], at: usize, word: Word) -> bool
-    ensures { IsTrue result ↔ At (kinds_of tokens.now) at (Reserved (word_of word)) }
+pub fn is_word(tokens: &Tokens, at: usize, word: Word) -> bool
+    ensures stands { IsTrue result ↔ At (kinds_of tokens.now) at (Reserved (word_of word)) }
+    ensures room { OnTrue result (at + 1 < 2 ^ 64) }
 {
-    match token_at(tokens, at) {
+    match tokens.look(at, TokenClass::Word(word)) {
         Some(token) => holds_word(token.kind, word),
         None => false,
     }
 }
 
 /// Whether a string stands at a place.
-pub fn is_string_at(tokens: &[Token], at: usize) -> bool
+pub fn is_string_at(tokens: &Tokens, at: usize) -> bool
     ensures { IsTrue result ↔ ((text : _) × At (kinds_of tokens.now) at (token.String text)) }
 {
-    match token_at(tokens, at) {
+    match tokens.look(at, TokenClass::String) {
         Some(token) => is_string(token.kind),
         None => false,
     }
 }
 
 /// Past a symbol, which must stand there.
-pub fn symbol(tokens: &[Token], at: usize, symbol: Symbol) -> Result<usize, Stop>
+pub fn symbol(tokens: &Tokens, at: usize, symbol: Symbol) -> Result<usize, Stop>
     ensures next { IfOk result (λ next. (next ≡ at + 1) × (next ≤ length tokens.now)) }
     ensures stands { OnOk result (At (kinds_of tokens.now) at (Mark (symbol_of symbol))) }
     ensures stop { IfErr result (λ stop. (stop ≡ Stop.Token at) × NotAt (kinds_of tokens.now) at (Mark (symbol_of symbol))) }
@@ -133,7 +129,7 @@ pub fn symbol(tokens: &[Token], at: usize, symbol: Symbol) -> Result<usize, Stop
 }
 
 /// Past a reserved word, which must stand there.
-pub fn word(tokens: &[Token], at: usize, word: Word) -> Result<usize, Stop>
+pub fn word(tokens: &Tokens, at: usize, word: Word) -> Result<usize, Stop>
     ensures next { IfOk result (λ next. (next ≡ at + 1) × (next ≤ length tokens.now)) }
     ensures stands { OnOk result (At (kinds_of tokens.now) at (Reserved (word_of word))) }
     ensures stop { IfErr result (λ stop. (stop ≡ Stop.Token at) × NotAt (kinds_of tokens.now) at (Reserved (word_of word))) }
@@ -146,31 +142,29 @@ pub fn word(tokens: &[Token], at: usize, word: Word) -> Result<usize, Stop>
 }
 
 /// A name (ISO/IEC 9075:1992, 5.4).
-pub fn name(alloc: Global, tokens: &[Token], at: usize) -> Result<(Name, usize), Stop>
+pub fn name(alloc: Global, tokens: &Tokens, at: usize) -> Result<(Name, usize), Stop>
     ensures next { IfOk result (λ r. (r.1 ≡ at + 1) × (r.1 ≤ length tokens.now)) }
     ensures derived { IfOk result (λ r. NameAt (kinds_of tokens.now) at r.1 (name_of r.0)) }
     ensures none { IfErr result (Stops NameAt (kinds_of tokens.now) at) }
 {
-    let Some(token) = token_at(tokens, at) else {
+    let Some(token) = tokens.look(at, TokenClass::Name) else {
         return Err(Stop::Token(at));
     };
     if !is_name(token.kind) {
         return Err(Stop::Token(at));
     }
+    let text = in_upper_case(alloc, token.text)?;
     let start = token.start;
-    match in_upper_case(alloc, token.text) {
-        Ok(text) => Ok((Name { text, start }, at + 1)),
-        Err(_) => Err(Stop::Memory),
-    }
+    Ok((Name { text, start }, at + 1))
 }
 
 /// A number without a point (ISO/IEC 9075:1992, 5.3, unsigned integer).
-pub fn count(tokens: &[Token], at: usize) -> Result<(u128, usize), Stop>
+pub fn count(tokens: &Tokens, at: usize) -> Result<(u128, usize), Stop>
     ensures next { IfOk result (λ r. (r.1 ≡ at + 1) × (r.1 ≤ length tokens.now)) }
     ensures derived { IfOk result (λ r. CountAt (kinds_of tokens.now) at r.1 r.0) }
     ensures none { IfErr result (Stops CountAt (kinds_of tokens.now) at) }
 {
-    let Some(token) = token_at(tokens, at) else {
+    let Some(token) = tokens.look(at, TokenClass::WholeNumber) else {
         return Err(Stop::Token(at));
     };
     let Some(number) = numeral(token.kind) else {
@@ -183,22 +177,20 @@ pub fn count(tokens: &[Token], at: usize) -> Result<(u128, usize), Stop>
 }
 
 /// A character string literal (ISO/IEC 9075:1992, 5.3).
-pub fn string(alloc: Global, tokens: &[Token], at: usize) -> Result<(StringLiteral, usize), Stop>
+pub fn string(alloc: Global, tokens: &Tokens, at: usize) -> Result<(StringLiteral, usize), Stop>
     ensures next { IfOk result (λ r. (r.1 ≡ at + 1) × (r.1 ≤ length tokens.now)) }
     ensures derived { IfOk result (λ r. StringAt (kinds_of tokens.now) at r.1 (text_of r.0)) }
     ensures none { IfErr result (Stops StringAt (kinds_of tokens.now) at) }
 {
-    let Some(token) = token_at(tokens, at) else {
+    let Some(token) = tokens.look(at, TokenClass::String) else {
         return Err(Stop::Token(at));
     };
     if !is_string(token.kind) {
         return Err(Stop::Token(at));
     }
+    let text = without_quotes(alloc, token.text)?;
     let start = token.start;
-    match without_quotes(alloc, token.text) {
-        Ok(text) => Ok((StringLiteral { text, start }, at + 1)),
-        Err(_) => Err(Stop::Memory),
-    }
+    Ok((StringLiteral { text, start }, at + 1))
 }
 
 fn in_upper_case(alloc: Global, text: &str) -> Result<String, AllocError>

@@ -1,6 +1,7 @@
 //! Statements as trees, which keep where each name and literal stands.
 
 ghost use Rattle.std.specs.Prelude.{◌^◌, ◌<◌};
+ghost use Rattle.definitions.specs.Limits.{most_digits};
 
 use sqlvalue::DeclaredType;
 
@@ -30,7 +31,7 @@ pub struct Numeral {
     pub digits: u8,
     pub scale: u8,
     pub start: usize,
-    pub ghost bounded: { units < 10 ^ 38 },
+    pub ghost bounded: { units < 10 ^ most_digits },
 }
 
 /// A character string literal without its quotes, and the offset of the opening one.

@@ -3,18 +3,20 @@
 ghost use Rattle.std.specs.Prelude.{◌≡◌, ◌<◌, ◌≤◌, ◌*◌, ◌^◌, ◌++◌, ◌||◌, ◌==◌, filter, ℕ, List, Some, Ok, Err, Bool, IsTrue, IfOk, IfErr, IfSome, IfNone, length, unwrap_or, pos};
 ghost use Rattle.std.specs.Str.Parse.{digits_value as value_of_digits};
 ghost use Rattle.std.specs.List.{list_all, position_from};
-ghost use Rattle.definitions.specs.Characters.{is_digit};
+ghost use Rattle.definitions.specs.Characters.{period, is_digit};
+ghost use Rattle.definitions.specs.Limits.{most_digits, greatest_precision};
+ghost use Rattle.definitions.specs.Refusal as refusal;
 ghost use Rattle.definitions.specs.Value as spec;
 ghost use Rattle.definitions.specs.Lexing as lexing;
 ghost use Rattle.definitions.specs.Loading.{FieldLoads, IsSign, negated};
 ghost use Rattle.sqlvalue.specs.Meaning.{type_of};
-ghost use Rattle.catalog.specs.Meaning.{field_error};
+ghost use Rattle.refusals.specs.Meaning.{field_error_of};
 ghost use Rattle.catalog.specs.Stored.{number_or_null};
 ghost use Rattle.catalog.specs.Fields.{IsEqualOf, number_of, WritesShort, WritesNone, Stores, StoresNone};
 
 use super::is_null;
-use crate::fault::FieldFault;
 use crate::number_type::{scale, size_limit};
+use refusals::FieldFault;
 use sqlvalue::SqlType;
 
 /// How many digits a stored number may be written with.
@@ -33,7 +35,7 @@ pub(crate) fn number_cell(field: &[u8], sql_type: SqlType) -> Result<Option<i64>
     requires numbers { spec.kind_of (type_of sql_type) ≡ spec.Numbers }
     requires valid { spec.IsType (type_of sql_type) }
     ensures ok { IfOk result (λ units. FieldLoads (type_of sql_type) field.now (Ok (number_or_null (type_of sql_type) units))) }
-    ensures err { IfErr result (λ f. FieldLoads (type_of sql_type) field.now (Err (field_error f))) }
+    ensures err { IfErr result (λ f. FieldLoads (type_of sql_type) field.now (Err (field_error_of f))) }
 {
     if is_null(field) {
         return Ok(None);
@@ -50,12 +52,26 @@ fn stored_units(field: &[u8], sql_type: SqlType) -> Result<i64, FieldFault>
     requires numbers { spec.kind_of (type_of sql_type) ≡ spec.Numbers }
     requires valid { spec.IsType (type_of sql_type) }
     ensures ok { IfOk result (λ units. Stores (type_of sql_type) field.now (spec.Number units (spec.scale_of (type_of sql_type)))) }
-    ensures err { IfErr result (λ f. StoresNone (type_of sql_type) field.now f) }
+    ensures err { IfErr result (λ f. StoresNone (type_of sql_type) field.now (field_error_of f)) }
 {
     let written = written_number(field)?;
     match units_in(written, sql_type) {
         Some(units) => Ok(units),
-        None => Err(FieldFault::OutOfRange),
+        None => Err(unfit_number(written, sql_type)),
+    }
+}
+
+/// Why a number does not fit into a column of a type.
+fn unfit_number(written: WrittenNumber, sql_type: SqlType) -> FieldFault
+    requires valid { spec.IsType (type_of sql_type) }
+    requires placed { written.scale ≤ most_digits }
+    ensures { field_error_of result ≡ refusal.OutOfRange }
+{
+    let to = usize::from(scale(sql_type));
+    if written.scale > to && written.digits % power_of_ten(written.scale - to) > 0 {
+        FieldFault::TooFine
+    } else {
+        FieldFault::TooGreat
     }
 }
 
@@ -67,10 +83,10 @@ fn written_number(field: &[u8]) -> Result<WrittenNumber, FieldFault>
 {
     let (negative, numeral) = split_sign(field);
     if !is_numeral(numeral) {
-        return Err(FieldFault::BadText);
+        return Err(FieldFault::NoNumber);
     }
     if digit_count(numeral) > MAX_DIGITS {
-        return Err(FieldFault::OutOfRange);
+        return Err(FieldFault::ManyDigits);
     }
     Ok(WrittenNumber {
         negative,
@@ -98,13 +114,13 @@ fn is_numeral(text: &[u8]) -> bool
 }
 
 fn has_numeral_bytes_alone(text: &[u8]) -> bool
-    ensures { result ≡ list_all (λ c. is_digit c || (c == 46)) text.now }
+    ensures { result ≡ list_all (λ c. is_digit c || (c == period)) text.now }
 {
     text.iter().all(|c| c.is_ascii_digit() || *c == b'.')
 }
 
 fn point_count(text: &[u8]) -> usize
-    ensures { result ≡ length (filter (λ c. c == 46) text.now) }
+    ensures { result ≡ length (filter (λ c. c == period) text.now) }
 {
     text.iter().filter(|c| **c == b'.').count()
 }
@@ -116,9 +132,9 @@ fn digit_count(numeral: &[u8]) -> usize
 }
 
 fn digits_value(numeral: &[u8]) -> u128
-    requires { length (lexing.digits_of numeral.now) ≤ 38 }
+    requires { length (lexing.digits_of numeral.now) ≤ most_digits }
     ensures value { result ≡ value_of_digits 10 (lexing.digits_of numeral.now) }
-    ensures bound { result < 10 ^ 38 }
+    ensures bound { result < 10 ^ most_digits }
 {
     let mut value = 0;
     for c in numeral {
@@ -140,7 +156,7 @@ fn behind_point(numeral: &[u8]) -> usize
 }
 
 fn point(numeral: &[u8]) -> Option<usize>
-    ensures place { result ≡ position_from (λ c. c == 46) 0 numeral.now }
+    ensures place { result ≡ position_from (λ c. c == period) 0 numeral.now }
     ensures within { IfSome result (λ at. at < length numeral.now) }
 {
     numeral.iter().position(|c| *c == b'.')
@@ -150,8 +166,8 @@ fn point(numeral: &[u8]) -> Option<usize>
 fn units_in(written: WrittenNumber, sql_type: SqlType) -> Option<i64>
     requires numbers { spec.kind_of (type_of sql_type) ≡ spec.Numbers }
     requires valid { spec.IsType (type_of sql_type) }
-    requires sized { written.digits < 10 ^ 38 }
-    requires placed { written.scale ≤ 38 }
+    requires sized { written.digits < 10 ^ most_digits }
+    requires placed { written.scale ≤ most_digits }
     ensures some { IfSome result (λ units. IsEqualOf (type_of sql_type) (number_of written) (spec.Number units (spec.scale_of (type_of sql_type)))) }
     ensures none { IfNone result ((w : spec.Value) → IsEqualOf (type_of sql_type) (number_of written) w → ⊥) }
 {
@@ -164,7 +180,7 @@ fn units_in(written: WrittenNumber, sql_type: SqlType) -> Option<i64>
 }
 
 fn signed(negative: bool, size: u128) -> i64
-    requires { size ≤ 10 ^ 18 }
+    requires { size ≤ 10 ^ greatest_precision }
     ensures { result ≡ negated negative (pos size) }
 {
     if negative {
@@ -176,10 +192,10 @@ fn signed(negative: bool, size: u128) -> i64
 
 /// Units at one scale as units at another, where they are whole and below a limit.
 fn rescaled(units: u128, from: usize, to: usize, limit: u128) -> Option<u128>
-    requires sized { units < 10 ^ 38 }
-    requires placed { from ≤ 38 }
-    requires kept { to ≤ 18 }
-    requires limited { limit ≤ 10 ^ 18 }
+    requires sized { units < 10 ^ most_digits }
+    requires placed { from ≤ most_digits }
+    requires kept { to ≤ greatest_precision }
+    requires limited { limit ≤ 10 ^ greatest_precision }
     ensures some { IfSome result (λ size. (size * 10 ^ from ≡ units * 10 ^ to) × (size < limit)) }
     ensures none { IfNone result ((size : ℕ) → size * 10 ^ from ≡ units * 10 ^ to → limit ≤ size) }
 {
@@ -192,8 +208,8 @@ fn rescaled(units: u128, from: usize, to: usize, limit: u128) -> Option<u128>
 
 fn scaled_up(units: u128, factor: u128, limit: u128) -> Option<u128>
     requires positive { 0 < factor }
-    requires factored { factor ≤ 10 ^ 18 }
-    requires limited { limit ≤ 10 ^ 18 }
+    requires factored { factor ≤ 10 ^ greatest_precision }
+    requires limited { limit ≤ 10 ^ greatest_precision }
     ensures some { IfSome result (λ size. (size ≡ units * factor) × (size < limit)) }
     ensures none { IfNone result (limit ≤ units * factor) }
 {
@@ -218,7 +234,7 @@ fn scaled_down(units: u128, divisor: u128, limit: u128) -> Option<u128>
 }
 
 fn power_of_ten(exponent: usize) -> u128
-    requires { exponent ≤ 38 }
+    requires { exponent ≤ most_digits }
     ensures value { result ≡ 10 ^ exponent }
     ensures positive { 0 < result }
 {

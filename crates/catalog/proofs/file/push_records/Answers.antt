@@ -2,6 +2,7 @@ use Rattle.std.proofs.Common.{rules, ◌≡◌, ◌+◌, ◌^◌, ◌<◌, ◌�
 use Rattle.std.proofs.lemmas.Result.{err_from_is_err_and}
 use Rattle.csv.specs.Records.{fields_of}
 use Rattle.definitions.specs.Loading.{RecordLoads}
+use Rattle.catalog.specs.Meaning.{record_refusal}
 use Rattle.catalog.specs.Stored.{headers}
 use Rattle.catalog.specs.declared.fault.PushFault.TheVariants as push
 use Rattle.catalog.proofs.Reading.{fresh}
@@ -47,7 +48,8 @@ pub returns-in-Err-Refused-clause-refused : goal.returns-in-Err-Refused-clause-r
 returns-in-Err-Refused-clause-refused c =
     no_record c.args.columns.now c.loop-record.columns c.args.bytes.now c.loop-record.reader c.next_record.new.reader c.loop-record.number c.args.room (fields_of c.next_record.new.fields) c.in-Err-Refused.fault c.loop-record.invariant
     (on_true c.in_ok-next_record.field-0 _ c.if-branch.true (c.in_ok-next_record.ensures).more c.args.bytes.now) (let is : c.in-Err-Refused.field-0 ≡ push.Refused c.in-Err-Refused.fault = search rules in
-    refused_is c.in-Err-Refused.field-0 c.in-Err-Refused.fault (λ r. RecordLoads (headers c.loop-record.columns) (fields_of c.next_record.new.fields) (Err r)) is (c.in-Err-Refused.ensures).refused)
+    refused_is c.in-Err-Refused.field-0 c.in-Err-Refused.fault (λ f. RecordLoads (headers c.loop-record.columns) (fields_of c.next_record.new.fields) (Err (record_refusal f))) is (c.in-Err-Refused.ensures).refused)
+    c.refused_record.result c.refused_record.ensures.fault c.refused_record.ensures.number
 
 pub returns-in-Err-Refused-clause-err : goal.returns-in-Err-Refused-clause-err
 returns-in-Err-Refused-clause-err c = partly_pushed _ c.loop-record.columns _ _ _ _ c.loop-record.invariant (c.in-Err-Refused.ensures).err

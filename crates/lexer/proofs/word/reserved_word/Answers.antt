@@ -1,3 +1,4 @@
+use Rattle.std.proofs.Common.{◌∙◌}
 use Rattle.lexer.proofs.Words.{search_begins, search_ends, search_goes_on}
 use Rattle.lexer.proofs.word.reserved_word.Goals as goal
 
@@ -7,9 +8,9 @@ loop-word-init c = search_begins c.args.text.now c.words_from-word-items.result.
 pub returns-then-eq_ignore_ascii_case : goal.returns-then-eq_ignore_ascii_case
 returns-then-eq_ignore_ascii_case c =
     search_ends c.args.text.now _ c.words_from-word-items.result.now c.loop-word.word-index _ _ c.loop-word-test.true c.loop-word.invariant
-    c.spelling.ensures.spelling c.spelling.ensures.in_upper_case c.eq_ignore_ascii_case.ensures.test c.if-eq_ignore_ascii_case.true
+    (c.as_bytes.ensures.value ∙ c.as_str.ensures.spelling) (rw c.as_bytes.ensures.value c.as_str.ensures.in_upper_case) c.eq_ignore_ascii_case.ensures.test c.if-eq_ignore_ascii_case.true
 
 pub loop-word-preserved : goal.loop-word-preserved
 loop-word-preserved c =
     search_goes_on c.args.text.now _ c.words_from-word-items.result.now c.loop-word.word-index _ _ c.loop-word-test.true c.loop-word.invariant
-    c.spelling.ensures.spelling c.spelling.ensures.in_upper_case c.eq_ignore_ascii_case.ensures.test c.if-eq_ignore_ascii_case.false
+    (c.as_bytes.ensures.value ∙ c.as_str.ensures.spelling) (rw c.as_bytes.ensures.value c.as_str.ensures.in_upper_case) c.eq_ignore_ascii_case.ensures.test c.if-eq_ignore_ascii_case.false

@@ -1,37 +1,41 @@
 use Rattle.std.proofs.Common.{◌≡◌, ◌≤◌, sym, inl, Some, length, map, arith}
 use Rattle.std.proofs.lemmas.List.{length-map}
+use Rattle.std.proofs.lemmas.Result.{err_from_is_err_and}
 use Rattle.definitions.specs.Table.{table_named}
-use Rattle.definitions.specs.Refusal as r
+use Rattle.definitions.specs.Limits.{most_items}
+use Rattle.definitions.specs.Faults as faults
 use Rattle.definitions.specs.Table as table
-use Rattle.syntax.specs.Trees.{item_of, block_of}
+use Rattle.syntax.specs.Trees.{item_of, block_of, name_of}
 use Rattle.sqlr.specs.Binding.{IsFrom}
 use Rattle.sqlr.proofs.Bound.{bound_accepted, condition_fault, found_each, rows_answered, unknown_item}
 use Rattle.sqlr.proofs.binding.bind.Goals as goal
 
 pub returns-then-len-gt-MAX_ITEMS-clause-refused : goal.returns-then-len-gt-MAX_ITEMS-clause-refused
-returns-then-len-gt-MAX_ITEMS-clause-refused c = r.many_items (omega (arith, c.if-len-gt-MAX_ITEMS.true, c.len.ensures, length-map c.args.block.now.items.items item_of))
+returns-then-len-gt-MAX_ITEMS-clause-refused c = faults.many_items (omega (arith, c.if-len-gt-MAX_ITEMS.true, c.len.ensures, length-map c.args.block.now.items.items item_of))
 
 pub returns-in_default-clause-refused : goal.returns-in_default-clause-refused
-returns-in_default-clause-refused c = r.no_table (rw c.source_name.ensures (inl (sym c.in_default.ensures.named)))
+returns-in_default-clause-refused c = faults.no_table (rw c.source_name-name.ensures (inl (sym (rw c.as_str.ensures.value at c.in_default.ensures.named))))
 
-pub returns-in-Err-clause-refused : goal.returns-in-Err-clause-refused
-returns-in-Err-clause-refused c =
-    let from : IsFrom c.args.database.now (block_of c.args.block.now) c.in-Some.table.now = record { source = _; single = c.source_name.ensures; named = sym c.in-Some.ensures.named } in
-    unknown_item _ _ _ _ from (rw c.deref.ensures.value at c.in-Err.ensures.refused)
+pub returns-in_err-columns-clause-refused : goal.returns-in_err-columns-clause-refused
+returns-in_err-columns-clause-refused c =
+    let p = err_from_is_err_and c.from_residual.result c.from_residual.ensures.1 in
+    let from : IsFrom c.args.database.now (block_of c.args.block.now) c.in-Some.table.now = record { source = _; single = c.source_name-name.ensures; named = sym (rw c.as_str.ensures.value at c.in-Some.ensures.named) } in
+    rw (p.1, p.2) (unknown_item _ _ _ _ from (rw c.deref.ensures.value at c.in_err-columns.ensures.refused))
 
-pub returns-in-Err-bind_condition-clause-refused : goal.returns-in-Err-bind_condition-clause-refused
-returns-in-Err-bind_condition-clause-refused c =
-    let from : IsFrom c.args.database.now (block_of c.args.block.now) c.in-Some.table.now = record { source = _; single = c.source_name.ensures; named = sym c.in-Some.ensures.named } in
-    condition_fault _ _ _ _ from c.in-Err-bind_condition.ensures.refused
+pub returns-in_err-condition-clause-refused : goal.returns-in_err-condition-clause-refused
+returns-in_err-condition-clause-refused c =
+    let p = err_from_is_err_and c.from_residual-in_err-condition.result c.from_residual-in_err-condition.ensures.1 in
+    let from : IsFrom c.args.database.now (block_of c.args.block.now) c.in-Some.table.now = record { source = _; single = c.source_name-name.ensures; named = sym (rw c.as_str.ensures.value at c.in-Some.ensures.named) } in
+    rw (p.1, p.2) (condition_fault _ _ _ _ from c.in_err-condition.ensures.refused)
 
 pub returns-clause-accepted : goal.returns-clause-accepted
 returns-clause-accepted c =
-    let from : IsFrom c.args.database.now (block_of c.args.block.now) c.in-Some.table.now = record { source = _; single = c.source_name.ensures; named = sym c.in-Some.ensures.named } in
-    let few : length (map item_of c.args.block.now.items.items) ≤ 64 = omega (arith, c.if-len-gt-MAX_ITEMS.false, c.len.ensures, length-map c.args.block.now.items.items item_of) in
-    bound_accepted _ _ _ _ c.requires from few (rw c.deref.ensures.value at c.in-Ok.ensures.known) c.in-Ok-bind_condition.ensures.binds
+    let from : IsFrom c.args.database.now (block_of c.args.block.now) c.in-Some.table.now = record { source = _; single = c.source_name-name.ensures; named = sym (rw c.as_str.ensures.value at c.in-Some.ensures.named) } in
+    let few : length (map item_of c.args.block.now.items.items) ≤ most_items = omega (arith, c.if-len-gt-MAX_ITEMS.false, c.len.ensures, length-map c.args.block.now.items.items item_of) in
+    bound_accepted _ _ _ _ c.requires from few (rw c.deref.ensures.value at c.in_ok-columns.ensures.known) c.in_ok-condition.ensures.binds
 
 pub returns-clause-rows : goal.returns-clause-rows
 returns-clause-rows c =
-    let named : table_named c.args.database.now c.source_name.result.now ≡ Some c.in-Some.table.now = sym c.in-Some.ensures.named in
+    let named : table_named c.args.database.now (name_of c.source_name-name.result.now) ≡ Some c.in-Some.table.now = sym (rw c.as_str.ensures.value at c.in-Some.ensures.named) in
     let valid : table.IsTable c.in-Some.table.now = found_each table.IsTable _ _ _ c.table.ensures.valid.each named in
-    rows_answered _ (block_of c.args.block.now) _ _ _ c.requires (rw c.deref.ensures.value at c.in-Ok.ensures.places) c.in-Ok-bind_condition.ensures.binds valid.typed
+    rows_answered _ (block_of c.args.block.now) _ _ _ c.requires (rw c.deref.ensures.value at c.in_ok-columns.ensures.places) c.in_ok-condition.ensures.binds valid.typed

@@ -2,7 +2,7 @@ use Rattle.std.proofs.Common.{refl, ◌+◌}
 use Rattle.std.proofs.lemmas.Result.{IfOk-weaker, IfErr-weaker}
 use Rattle.definitions.specs.Grammar as g
 use Rattle.syntax.specs.Trees.{kinds_of}
-use Rattle.syntax.proofs.Tokens.{no_type, no_end}
+use Rattle.syntax.proofs.Places.{no_type, no_end}
 use Rattle.syntax.proofs.Stopping.{stops_with, same_place, one_on, behind_more, from_next}
 use Rattle.syntax.proofs.Parts.{type_parameters, type_length}
 use Rattle.syntax.proofs.create.declared_type.Goals as goal

@@ -1,4 +1,4 @@
-use Rattle.std.proofs.Common.{sym, subst, List, map}
+use Rattle.std.proofs.Common.{refl, sym, subst, List, map}
 use Rattle.definitions.specs.Grammar as g
 use Rattle.definitions.specs.Statement as tree
 use Rattle.syntax.specs.Trees.{kinds_of, item_of, source_of, condition_of}
@@ -48,7 +48,7 @@ returns-in_err-push c =
     record {
       next = no_value _ _ _ c.from_residual-in_err-push.ensures;
       derived = no_value _ _ _ c.from_residual-in_err-push.ensures;
-      none = raised _ _ _ c.from_residual-in_err-push.ensures (without_memory g.BlockAt ts c.args.at _ c.in_err-push.ensures.memory);
+      none = raised _ _ _ c.from_residual-in_err-push.ensures (without_memory g.BlockAt ts c.args.at _ refl);
     }
 
 pub returns-in_err-condition : goal.returns-in_err-condition
@@ -66,7 +66,7 @@ returns c =
     let B : List tree.Source → Type 0 = λ xs. g.BlockAt ts c.args.at c.in_ok-condition.at (record { items = map item_of c.in_ok-items.items.items; sources = xs; condition = condition_of c.in_ok-condition.condition }) in
     record {
       next = (no_further _ _ _ (behind_more _ _ _ (one_on _ _ _ (further _ _ _ (one_on _ _ _ (same_place c.args.at) c.in_ok-at.ensures.next.0) c.in_ok-items.ensures.next.0) c.in_ok-at-2.ensures.next.0) c.in_ok-source.ensures.next.0) c.in_ok-condition.ensures.next.0, c.in_ok-condition.ensures.next.1);
-      derived = subst B (sym (pushed_first source_of _ _ _ c.in_ok-push.ensures.ok c.new-sources.ensures.items))
+      derived = subst B (sym (pushed_first source_of _ _ _ c.in_ok-push.ensures.items c.new-sources.ensures.items))
           (g.block _ _ _ _ _ _ _ c.in_ok-at.ensures.stands (rw c.in_ok-at.ensures.next.0 at c.in_ok-items.ensures.derived) c.in_ok-at-2.ensures.stands (rw c.in_ok-at-2.ensures.next.0 at c.in_ok-source.ensures.derived) c.in_ok-condition.ensures.derived);
       none = tt;
     }

@@ -1,3 +1,4 @@
+use Rattle.std.proofs.Common.{refl}
 use Rattle.definitions.specs.Grammar as g
 use Rattle.syntax.specs.Reading.{OpAt}
 use Rattle.syntax.specs.Trees.{kinds_of}
@@ -20,7 +21,7 @@ returns-in_err-left c =
     record {
       next = no_value _ _ _ c.from_residual-in_err-left.ensures;
       derived = no_value _ _ _ c.from_residual-in_err-left.ensures;
-      none = raised _ _ _ c.from_residual-in_err-left.ensures (without_memory g.ComparisonAt ts c.args.at _ c.in_err-left.ensures.memory);
+      none = raised _ _ _ c.from_residual-in_err-left.ensures (without_memory g.ComparisonAt ts c.args.at _ refl);
     }
 
 pub returns-in_err-op : goal.returns-in_err-op
@@ -47,7 +48,7 @@ returns-in_err-right c =
     record {
       next = no_value _ _ _ c.from_residual-in_err-right.ensures;
       derived = no_value _ _ _ c.from_residual-in_err-right.ensures;
-      none = raised _ _ _ c.from_residual-in_err-right.ensures (without_memory g.ComparisonAt ts c.args.at _ c.in_err-right.ensures.memory);
+      none = raised _ _ _ c.from_residual-in_err-right.ensures (without_memory g.ComparisonAt ts c.args.at _ refl);
     }
 
 pub returns : goal.returns

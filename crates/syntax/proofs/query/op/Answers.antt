@@ -2,7 +2,7 @@ use Rattle.std.proofs.Common.{refl, sym, ap, Some, ◌∙◌}
 use Rattle.syntax.specs.Reading.{OpAt}
 use Rattle.syntax.specs.Reading as reading
 use Rattle.syntax.specs.Trees.{kinds_of}
-use Rattle.syntax.proofs.Tokens.{here, nowhere, marks, not_op, not_comparison, none_mapped, some_mapped, next_within, ends_here, op_needs}
+use Rattle.syntax.proofs.Places.{here, nowhere, marks, not_op, not_comparison, none_mapped, some_mapped, next_within, ends_here, op_needs}
 use Rattle.syntax.proofs.Stopping.{same_place}
 use Rattle.syntax.proofs.query.op.Goals as goal
 

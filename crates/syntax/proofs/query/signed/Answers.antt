@@ -1,4 +1,4 @@
-use Rattle.std.proofs.Common.{ap}
+use Rattle.std.proofs.Common.{refl, ap}
 use Rattle.definitions.specs.Grammar as g
 use Rattle.definitions.specs.Statement as tree
 use Rattle.syntax.specs.Trees.{kinds_of, expr_of}
@@ -20,7 +20,7 @@ returns-in_err-operand c =
     record {
       next = no_value _ _ _ c.from_residual-in_err-operand.ensures;
       derived = no_value _ _ _ c.from_residual-in_err-operand.ensures;
-      none = raised _ _ _ c.from_residual-in_err-operand.ensures (without_memory g.UnsignedAt ts c.args.at _ c.in_err-operand.ensures.memory);
+      none = raised _ _ _ c.from_residual-in_err-operand.ensures (without_memory g.UnsignedAt ts c.args.at _ refl);
     }
 
 pub returns : goal.returns

@@ -1,7 +1,7 @@
 use Rattle.std.proofs.Common.{refl, ap, Some, ◌∙◌}
 use Rattle.definitions.specs.Grammar as g
 use Rattle.syntax.specs.Trees.{kinds_of}
-use Rattle.syntax.proofs.Tokens.{here, nowhere, numerals, not_unsigned, no_end, ends_here, unsigned_needs}
+use Rattle.syntax.proofs.Places.{here, nowhere, numerals, not_unsigned, no_end, ends_here, unsigned_needs}
 use Rattle.syntax.proofs.Stopping.{same_place}
 use Rattle.syntax.proofs.query.unsigned.Goals as goal
 

@@ -1,7 +1,7 @@
 use Rattle.std.proofs.Common.{refl, sym, ap, Some, ◌∙◌}
 use Rattle.definitions.specs.Grammar as g
 use Rattle.syntax.specs.Trees.{kinds_of}
-use Rattle.syntax.proofs.Tokens.{here, nowhere, numerals, not_count, not_whole, whole, next_within, ends_here, count_needs}
+use Rattle.syntax.proofs.Places.{here, nowhere, numerals, not_count, not_whole, whole, next_within, ends_here, count_needs}
 use Rattle.syntax.proofs.Stopping.{same_place}
 use Rattle.syntax.proofs.read.count.Goals as goal
 

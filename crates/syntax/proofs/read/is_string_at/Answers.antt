@@ -1,6 +1,6 @@
 use Rattle.std.proofs.Common.{sym, ◌∙◌}
 use Rattle.syntax.specs.Trees.{kinds_of}
-use Rattle.syntax.proofs.Tokens.{here, nowhere, string_there, is_string_there, no_string_there}
+use Rattle.syntax.proofs.Places.{here, nowhere, string_there, is_string_there, no_string_there}
 use Rattle.syntax.proofs.read.is_string_at.Goals as goal
 
 pub returns-in-Some : goal.returns-in-Some

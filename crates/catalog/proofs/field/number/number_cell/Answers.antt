@@ -14,4 +14,4 @@ returns-in-Ok-clause-ok c =
     rw to_z-of_z (stored_loads _ c.args.field.now _ (sym c.is_null.ensures ∙ c.if-is_null.false) (c.in-Ok.ensures).ok)
 
 pub returns-in-Err-clause-err : goal.returns-in-Err-clause-err
-returns-in-Err-clause-err c = refused_loads _ c.args.field.now c.in-Err.fault (sym c.is_null.ensures ∙ c.if-is_null.false) (c.in-Err.ensures).err
+returns-in-Err-clause-err c = refused_loads _ c.args.field.now _ (sym c.is_null.ensures ∙ c.if-is_null.false) (c.in-Err.ensures).err

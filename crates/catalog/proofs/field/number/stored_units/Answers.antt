@@ -13,4 +13,4 @@ returns-in-Some-clause-ok c =
     rw to_z-of_z (stored_number _ _ _ (Number c.in-Some.units (scale_of (type_of c.args.sql_type))) c.requires.numbers c.in_ok-written.ensures.ok (c.in-Some.ensures).some)
 
 pub returns-in-None-clause-err : goal.returns-in-None-clause-err
-returns-in-None-clause-err c = unfit_number _ _ _ c.requires.numbers c.in_ok-written.ensures.ok (c.in-None.ensures).none
+returns-in-None-clause-err c = rw c.unfit_number.ensures (unfit_number _ _ _ c.requires.numbers c.in_ok-written.ensures.ok (c.in-None.ensures).none)

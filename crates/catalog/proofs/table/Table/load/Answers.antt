@@ -26,17 +26,17 @@ invariant_of-self c =
 pub returns-in-Ok-clause-ok : goal.returns-in-Ok-clause-ok
 returns-in-Ok-clause-ok c = (loaded c).loads
 
-pub truncate-requires : goal.truncate-requires
-truncate-requires c = columns_long c.self.inside.columns.items c.deref_mut.result.now c.push_records.new.columns _ c.self.inside.len c.self.invariant.filled c.deref_mut.ensures.value (c.in-Err.ensures).err
+pub cut_columns-requires : goal.cut_columns-requires
+cut_columns-requires c = columns_long c.self.inside.columns.items c.deref_mut.result.now c.push_records.new.columns _ c.self.inside.len c.self.invariant.filled c.deref_mut.ensures.value (c.in-Err.ensures).err
     (c.deref_mut-in-Err.ensures.value ∙ with_items_is c.self.inside.columns c.push_records.new.columns (c.push_records.auto.columns ∙ c.deref_mut.ensures.len))
 
 -- the columns are as they were
-back : (c : goal.After-self-in-Err-1) → (with_items (with_items c.self.inside.columns c.push_records.new.columns) c.truncate.new.columns).items ≡ c.self.inside.columns.items
+back : (c : goal.After-self-in-Err-1) → (with_items (with_items c.self.inside.columns c.push_records.new.columns) c.cut_columns.new.columns).items ≡ c.self.inside.columns.items
 back c =
-    columns_back c.self.inside.columns.items c.deref_mut.result.now c.push_records.new.columns _ _ c.truncate.new.columns c.self.inside.len c.self.invariant.filled c.deref_mut.ensures.value (c.in-Err.ensures).err
+    columns_back c.self.inside.columns.items c.deref_mut.result.now c.push_records.new.columns _ _ c.cut_columns.new.columns c.self.inside.len c.self.invariant.filled c.deref_mut.ensures.value (c.in-Err.ensures).err
     (c.deref_mut-in-Err.ensures.value ∙ with_items_is c.self.inside.columns c.push_records.new.columns (c.push_records.auto.columns ∙ c.deref_mut.ensures.len))
-    c.truncate.ensures
-    (with_items_is (with_items c.self.inside.columns c.push_records.new.columns) c.truncate.new.columns (c.truncate.auto.columns ∙ c.deref_mut-in-Err.ensures.len))
+    c.cut_columns.ensures
+    (with_items_is (with_items c.self.inside.columns c.push_records.new.columns) c.cut_columns.new.columns (c.cut_columns.auto.columns ∙ c.deref_mut-in-Err.ensures.len))
 
 pub invariant_of-self-in-Err : goal.invariant_of-self-in-Err
 invariant_of-self-in-Err c = record { filled = rw (back c) c.self.invariant.filled; few = c.self.invariant.few; valid = rw (back c) c.self.invariant.valid }

@@ -10,23 +10,23 @@ use Rattle.catalog.proofs.Rows.{untyped_at, empty_filled, new_is}
 use Rattle.catalog.proofs.table.Table.new.Goals as goal
 
 -- all columns are made
-made : (c : goal.In_ok-name) → c.loop-column.made.items ≡ map empty_column (definitions_of c.args.columns.now)
+made : (c : goal.In_ok-name) → c.loop-place.made.items ≡ map empty_column (definitions_of c.args.columns.now)
 made c =
-    let all : take c.loop-column.column-index c.args.columns.now ≡ c.args.columns.now = take_all c.loop-column.column-index c.args.columns.now c.loop-column-test.false in
-    c.loop-column.invariant.made ∙ ap (λ ns. map empty_column (definitions_of ns)) all
+    let all : take c.loop-place.place c.args.columns.now ≡ c.args.columns.now = take_all c.loop-place.place c.args.columns.now c.loop-place-test.false in
+    c.loop-place.invariant.made ∙ ap (λ ns. map empty_column (definitions_of ns)) all
 
-pub returns-in_default-clause-err : goal.returns-in_default-clause-err
-returns-in_default-clause-err c = untyped_at c.args.columns.now c.loop-column.column-index _ c.loop-column-test.true (λ t. let clash : false ≡ true = (c.in_default.ensures).in_range.1 t in cc)
+pub returns-in-Err-clause-err : goal.returns-in-Err-clause-err
+returns-in-Err-clause-err c = untyped_at c.args.columns.now c.loop-place.place _ c.loop-place-test.true (λ t. let clash : false ≡ true = (c.in-Err.ensures).in_range.1 t in cc)
 
 -- and have types
 typed : (c : goal.In_ok-name) → AreTypes (definitions_of c.args.columns.now)
 typed c =
-    let all : take c.loop-column.column-index c.args.columns.now ≡ c.args.columns.now = take_all c.loop-column.column-index c.args.columns.now c.loop-column-test.false in
-    let types = c.loop-column.invariant.types in
+    let all : take c.loop-place.place c.args.columns.now ≡ c.args.columns.now = take_all c.loop-place.place c.args.columns.now c.loop-place-test.false in
+    let types = c.loop-place.invariant.types in
     rw all at types
 
 -- and are those of a table
-valid : (c : goal.In_ok-name) → IsTable (table_of (string_bytes c.in_ok-name.name) c.loop-column.made.items 0)
+valid : (c : goal.In_ok-name) → IsTable (table_of (string_bytes c.in_ok-name.name) c.loop-place.made.items 0)
 valid c =
     rw (new_is (string_bytes c.in_ok-name.name) _ _ (definitions_of c.args.columns.now) refl (made c))
     (new_is_table (string_bytes c.in_ok-name.name) (definitions_of c.args.columns.now) (omega (arith, c.requires.narrow, length-map c.args.columns.now definition_of)) c.requires.distinct (typed c))

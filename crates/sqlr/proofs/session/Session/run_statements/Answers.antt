@@ -10,19 +10,19 @@ step-requires g c = at_place IsSimpleStatement statement_of c.args.statements.no
 
 pub returns-in-Err-Memory-clause-breaks : goal.returns-in-Err-Memory-clause-breaks
 returns-in-Err-Memory-clause-breaks g c =
-    broke_undone _ _ _ _ c.args.statements.now _ _ _ _ _ _ c.statements-test.true c.statement-item.is c.statements.invariant.ran c.in-Err-Memory.ensures.kept memory_apart
+    broke_undone _ _ _ _ c.args.statements.now _ _ _ _ _ _ c.statements-test.true c.statement-item.is c.statements.invariant.ran c.in-Err-Memory.ensures.kept (memory_apart c.place_of-offset.result)
 
 pub returns-in-Err-Library-clause-breaks : goal.returns-in-Err-Library-clause-breaks
 returns-in-Err-Library-clause-breaks g c =
-    broke_undone _ _ _ _ c.args.statements.now _ _ _ _ _ _ c.statements-test.true c.statement-item.is c.statements.invariant.ran c.in-Err-Library.ensures.kept library_apart
+    broke_undone _ _ _ _ c.args.statements.now _ _ _ _ _ _ c.statements-test.true c.statement-item.is c.statements.invariant.ran c.in-Err-Library.ensures.kept (library_apart c.place_of-offset.result)
 
 pub returns-in-Err-clause-breaks : goal.returns-in-Err-clause-breaks
 returns-in-Err-clause-breaks g c =
-    broke_done _ _ _ _ c.args.statements.now _ _ _ _ _ _ c.in-Ok.printed c.statements-test.true c.statement-item.is c.statements.invariant.ran c.in-Ok.ensures.takes (rw c.deref.ensures.value at c.in-Err.ensures.fault)
+    broke_done _ _ _ _ c.args.statements.now _ _ _ _ _ _ c.in-Ok.printed c.statements-test.true c.statement-item.is c.statements.invariant.ran c.in-Ok.ensures.takes (rw (c.deref.ensures.value, c.explain.ensures.taken) at c.in-Err.ensures.fault)
 
 pub statements-preserved : goal.statements-preserved
 statements-preserved g c = record {
-  ran = rw (c.keep.ensures, next c.statements.statement-index) (one_more _ _ _ _ c.args.statements.now _ _ _ _ _ _ _ c.in-Ok.printed c.statements-test.true c.statement-item.is c.statements.invariant.ran c.in-Ok.ensures.takes (rw c.deref.ensures.value at c.in-Ok-put.ensures.ok) c.both-ended.ensures);
-  fetches = rw c.keep.ensures (omega (arith, c.statements.invariant.fetches, c.in-Ok.ensures.counted));
-  puts = omega (arith, c.statements.invariant.puts, c.in-Ok-put.ensures.counted);
+  ran = rw (next c.statements.statement-index) (one_more _ _ _ _ c.args.statements.now _ _ _ _ _ _ _ c.in-Ok.printed c.statements-test.true c.statement-item.is c.statements.invariant.ran c.in-Ok.ensures.takes (rw (c.deref.ensures.value, c.explain.ensures.taken) at c.in-Ok-put.ensures.ok) c.both-ended.ensures);
+  fetches = omega (arith, c.statements.invariant.fetches, c.in-Ok.ensures.counted);
+  puts = omega (arith, c.statements.invariant.puts, c.explain.ensures.counted, c.in-Ok-put.ensures.counted);
 }

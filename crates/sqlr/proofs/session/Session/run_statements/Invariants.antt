@@ -4,7 +4,7 @@ use Rattle.sqlr.proofs.session.Session.run_statements.Given as goal
 
 abbrev pub invariant-statements : goal.invariant-statements
 invariant-statements g l = record {
-  ran : RanTo g.L.Library.answers l.fn.self l.statements l.statement-index l.self (g.S.Sink.told l.fn.sink) (g.S.Sink.told l.sink) l.ended;
+  ran : RanTo g.L.Library.answers l.fn.self l.statements l.statement-index l.self (g.S.Sink.taken l.fn.sink) (g.S.Sink.taken l.sink) l.ended;
   fetches : g.L.Library.failures l.fn.self.library ≤ g.L.Library.failures l.self.library;
   puts : g.S.Sink.failures l.fn.sink ≤ g.S.Sink.failures l.sink;
 }

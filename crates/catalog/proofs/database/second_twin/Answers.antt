@@ -1,5 +1,5 @@
 use Rattle.catalog.proofs.Naming.{twins_here, distinct_further, distinct_here}
-use Rattle.catalog.proofs.database.has_twins.Goals as goal
+use Rattle.catalog.proofs.database.second_twin.Goals as goal
 
 pub returns-then-has_name-clause-twins : goal.returns-then-has_name-clause-twins
 returns-then-has_name-clause-twins c a =

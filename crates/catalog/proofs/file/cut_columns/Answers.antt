@@ -1,5 +1,5 @@
 use Rattle.catalog.proofs.Pushing.{cut_more}
-use Rattle.catalog.proofs.file.truncate.Goals as goal
+use Rattle.catalog.proofs.file.cut_columns.Goals as goal
 
 pub loop-column-preserved : goal.loop-column-preserved
 loop-column-preserved c =

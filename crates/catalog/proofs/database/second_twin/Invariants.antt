@@ -1,8 +1,8 @@
 use Rattle.std.proofs.Common.{drop}
 use Rattle.definitions.specs.Table.{AreDistinct}
-use Rattle.definitions.specs.Refusal.{definition_names}
+use Rattle.definitions.specs.Faults.{definition_names}
 use Rattle.catalog.specs.Meaning.{definitions_of}
-use Rattle.catalog.proofs.database.has_twins.Given as goal
+use Rattle.catalog.proofs.database.second_twin.Given as goal
 
 -- the names are distinct where those that are left are
 abbrev pub invariant-loop-i : goal.invariant-loop-i

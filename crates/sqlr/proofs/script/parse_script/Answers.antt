@@ -1,11 +1,11 @@
 use Rattle.std.proofs.Common.{refl}
 use Rattle.definitions.specs.Step as s
 use Rattle.sqlr.proofs.Scripts.{lexical_told}
-use Rattle.sqlr.proofs.script.read.Goals as goal
+use Rattle.sqlr.proofs.script.parse_script.Goals as goal
 
 pub returns-in-Err-clause-fault : goal.returns-in-Err-clause-fault
 returns-in-Err-clause-fault c = lexical_told _ _ _ c.lexical.ensures c.in-Err.ensures.fault
 
 pub returns-in-Err-Unexpected-clause-fault : goal.returns-in-Err-Unexpected-clause-fault
 returns-in-Err-Unexpected-clause-fault c =
-    s.syntax _ c.in-Err-Unexpected.at c.in-Ok.ensures.tokens (rw (c.in-Err-Unexpected.field-0-is, c.deref.ensures.value) at c.in-Err-Unexpected.ensures.fault) refl
+    s.syntax _ c.in-Err-Unexpected.unexpected.offset c.in-Ok.ensures.tokens (rw (c.in-Err-Unexpected.field-0-is, c.deref.ensures.value) at c.in-Err-Unexpected.ensures.fault) refl

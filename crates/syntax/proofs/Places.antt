@@ -15,6 +15,7 @@ use Rattle.lexer.specs.declared.token.TokenKind.{TokenKind}
 use Rattle.lexer.specs.declared.token.TokenKind.TheVariants as k
 use Rattle.lexer.specs.Meaning.{kind_of, word_of, symbol_of, quoted_text}
 use Rattle.std.specs.Prelude.{IfSome, IfNone, OnSome}
+use Rattle.std.specs.Bool.{OnTrue}
 use Rattle.definitions.specs.Statement as tree
 use Rattle.definitions.specs.Value.{SqlType}
 use Rattle.syntax.specs.declared.create.TypeWord.{TypeWord}
@@ -418,6 +419,15 @@ unsigned_needs at us to e (g.number a b u d f i j) = (_, i)
 
 pub no_word_at_end : (ts : List token.TokenKind) (at : ℕ) (k' : g.TypeWord) → slice_get ts at ≡ None → ¬ (g.TypeWordAt ts at k')
 no_word_at_end ts at k' h (x, i, j) = let z = sym h ∙ i in absurd cc
+
+pub on_true : (b : Bool) {P : Type 0} → P → OnTrue b P
+on_true true p = p
+on_true false p = tt
+
+-- and a test that holds says
+pub truly : (b : Bool) {P : Type 0} → OnTrue b P → b ≡ true → P
+truly true h e = h
+truly false h e = absurd cc
 
 pub on_some : {X : Type 0} (o : Option X) {P : Type 0} → P → OnSome o P
 on_some None p = tt

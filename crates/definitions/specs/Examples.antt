@@ -1,0 +1,2 @@
+-- Worked examples of the definitions. No claim rests on them.
+pub mod Plans

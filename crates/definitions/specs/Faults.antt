@@ -1,0 +1,74 @@
+-- Which faults a statement has over a database.
+use Rattle.std.specs.Prelude.{ℕ, ◌<◌, ◌≤◌, ◌≡◌, ◌≢◌, ◌⊎◌, List, [], ◌∷◌, Option, Some, None, length, map, option_map}
+use Rattle.definitions.specs.Limits.{most_tables, most_columns, most_items, greatest_scale}
+use Rattle.definitions.specs.Refusal.{Refusal, NameTaken, NotFound, OverLimit, ScaleTooGreat, UnknownColumn, MixedKinds, OverQueryLimit}
+use Rattle.definitions.specs.Value.{IsType, Kind, Numbers, Texts, kind_of}
+use Rattle.definitions.specs.Statement.{Name, Expr, Column, Numeral, String, Signed, Compare, Item, Source, Block, Select, ColumnDefinition, Statement, CreateTable, Load, Query}
+use Rattle.definitions.specs.Table.{Table, Database, table_named, type_named, AreDistinct}
+
+-- a literal's scale is too great somewhere in an expression (own)
+abbrev pub HasGreatScale : Expr → Type 0
+HasGreatScale (Numeral units digits scale) = greatest_scale < scale
+HasGreatScale (Signed minus e) = HasGreatScale e
+HasGreatScale (Compare op a b) = HasGreatScale a ⊎ HasGreatScale b
+HasGreatScale _ = ⊥
+
+-- an expression names a column that the table has not (6.4, syntax rule 2)
+abbrev pub NamesUnknown : Table → Expr → Type 0
+NamesUnknown t (Column n) = type_named t.columns n ≡ None
+NamesUnknown t (Signed minus e) = NamesUnknown t e
+NamesUnknown t (Compare op a b) = NamesUnknown t a ⊎ NamesUnknown t b
+NamesUnknown t _ = ⊥
+
+-- the kind of an expression's values; none where it names no column, or is a condition
+abbrev pub expr_kind : Table → Expr → Option Kind
+expr_kind t (Column n) = option_map kind_of (type_named t.columns n)
+expr_kind t (Numeral units digits scale) = Some Numbers
+expr_kind t (String codes) = Some Texts
+expr_kind t (Signed minus e) = expr_kind t e
+expr_kind t (Compare op a b) = None
+
+-- values of two kinds are compared (8.2, syntax rule 2), or a text stands under a sign (6.12, syntax rule 1)
+abbrev pub MixesKinds : Table → Expr → Type 0
+MixesKinds t (Compare op a b) =
+    MixesKinds t a ⊎ MixesKinds t b ⊎ ((k l : Kind) × (expr_kind t a ≡ Some k) × (expr_kind t b ≡ Some l) × (k ≢ l))
+MixesKinds t (Signed minus e) = MixesKinds t e ⊎ (expr_kind t e ≡ Some Texts)
+MixesKinds t _ = ⊥
+
+abbrev pub IfPresent : (Expr → Type 0) → Option Expr → Type 0
+IfPresent P None = ⊥
+IfPresent P (Some e) = P e
+
+-- some element of a list has a property
+abbrev pub AnyOf : {X : Type 0} → (X → Type 0) → List X → Type 0
+AnyOf P [] = ⊥
+AnyOf P (x ∷ xs) = P x ⊎ AnyOf P xs
+
+-- an expression of a block has a property
+abbrev pub InBlock : (Expr → Type 0) → Block → Type 0
+InBlock P b = AnyOf (λ (i : Item). P i.value) b.items ⊎ IfPresent P b.condition
+
+abbrev pub definition_names : List ColumnDefinition → List Name
+definition_names = map (λ (d : ColumnDefinition). d.name)
+
+-- the faults of a block over one table
+pub data BlockFaulty (db : Database) (b : Block) : Refusal → Type 0 where
+  no_table : AnyOf (λ (s : Source). table_named db s.table ≡ None) b.sources → BlockFaulty db b NotFound
+  great_scale : InBlock HasGreatScale b → BlockFaulty db b ScaleTooGreat
+  unknown_column : (s : Source) (t : Table) → b.sources ≡ s ∷ [] → table_named db s.table ≡ Some t → InBlock (NamesUnknown t) b → BlockFaulty db b UnknownColumn
+  mixed_kinds : (s : Source) (t : Table) → b.sources ≡ s ∷ [] → table_named db s.table ≡ Some t → InBlock (MixesKinds t) b → BlockFaulty db b MixedKinds
+  many_items : most_items < length b.items → BlockFaulty db b OverQueryLimit
+
+-- the faults that a statement has over a database, before any file is read; the limits are own
+pub data Faulty (db : Database) : Statement → Refusal → Type 0 where
+  table_taken : (name : Name) (columns : List ColumnDefinition) (t : Table) → table_named db name ≡ Some t → Faulty db (CreateTable name columns) NameTaken
+  column_twice : (name : Name) (columns : List ColumnDefinition) → ¬ (AreDistinct (definition_names columns)) → Faulty db (CreateTable name columns) NameTaken
+  many_tables : (name : Name) (columns : List ColumnDefinition) → most_tables ≤ length db → Faulty db (CreateTable name columns) OverLimit
+  many_columns : (name : Name) (columns : List ColumnDefinition) → most_columns < length columns → Faulty db (CreateTable name columns) OverLimit
+  no_type : (name : Name) (columns : List ColumnDefinition) → AnyOf (λ (d : ColumnDefinition). ¬ (IsType d.type)) columns → Faulty db (CreateTable name columns) OverLimit
+  no_table : (name : Name) (file : List ℕ) → table_named db name ≡ None → Faulty db (Load name file) NotFound
+  block : (q : Select) (r : Refusal) → BlockFaulty db q.block r → Faulty db (Query q) r
+
+-- a statement without a fault
+abbrev pub IsAccepted : Database → Statement → Type 0
+IsAccepted db s = (r : Refusal) → Faulty db s r → ⊥

@@ -1,0 +1,36 @@
+-- The limits (all own, but that there are some: ISO/IEC 9075:1992, 4.1).
+use Rattle.std.specs.Prelude.{ℕ}
+
+-- of a script's text: the characters of a name and of a string, the digits of a number
+abbrev pub most_name_characters : ℕ
+most_name_characters = 18
+
+abbrev pub most_string_characters : ℕ
+most_string_characters = 254
+
+abbrev pub most_digits : ℕ
+most_digits = 38
+
+-- of types: the precision of a NUMERIC, the length of a CHAR
+abbrev pub greatest_precision : ℕ
+greatest_precision = 18
+
+abbrev pub greatest_length : ℕ
+greatest_length = 254
+
+-- of a database: its tables, and of a table the columns and the rows
+abbrev pub most_tables : ℕ
+most_tables = 256
+
+abbrev pub most_columns : ℕ
+most_columns = 64
+
+abbrev pub most_rows : ℕ
+most_rows = 100000000
+
+-- of a query: the items of a select list, the scale of a literal
+abbrev pub most_items : ℕ
+most_items = 64
+
+abbrev pub greatest_scale : ℕ
+greatest_scale = 18

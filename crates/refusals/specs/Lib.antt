@@ -1,0 +1,2 @@
+pub use Rattle.definitions.specs.Refusal
+pub mod Meaning
