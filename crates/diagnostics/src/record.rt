@@ -3,6 +3,7 @@
 use crate::visible::VisibleBytes;
 use catalog::{Database, RecordFault, RefusedRecord, Table};
 use csv::{ByteRecord, ReaderBuilder};
+use lexer::MAX_DIGITS;
 use refusals::FieldFault;
 use sqlvalue::SqlType;
 use std::alloc::{AllocError, Global};
@@ -50,9 +51,11 @@ impl<'a> FileRecord<'a> {
 
     /// Whether a quote that is not closed made it run on over line ends to the end of the file.
     fn runs_on(&self) -> bool {
+        if self.length < self.rest.len() || !self.rest.contains(&b'\n') {
+            return false;
+        }
         let quotes = self.rest.iter().filter(|byte| **byte == b'"').count();
-        let runs_over = self.rest.contains(&b'\n');
-        self.length == self.rest.len() && runs_over && quotes % 2 == 1
+        quotes % 2 == 1
     }
 
     /// Whether its only field holds a byte.
@@ -117,9 +120,7 @@ fn write_field<W: fmt::Write>(
     match fault {
         FieldFault::NoNumber => f.write_str("is no number"),
         FieldFault::Unprintable => f.write_str("has a character that is not printable ASCII"),
-        FieldFault::ManyDigits => f.write_str(
-            "has more digits than a number can have, which is 38",
-        ),
+        FieldFault::ManyDigits => write!(f, "has more than {MAX_DIGITS} digits"),
         FieldFault::TooFine => write_too_fine(f, sql_type),
         FieldFault::TooGreat => write_too_great(f, sql_type),
         FieldFault::TooLong => write_too_long(f, sql_type),

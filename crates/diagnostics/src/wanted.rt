@@ -2,7 +2,7 @@
 
 use crate::near::Nearest;
 use crate::visible::Visible;
-use lexer::TokenKind;
+use lexer::{TokenKind, Word};
 use std::alloc::Global;
 use std::fmt::{self, Display, Formatter};
 use syntax::{TokenClass, Unexpected};
@@ -70,6 +70,18 @@ fn wants_name(unexpected: &Unexpected) -> bool {
     unexpected.wanted.classes().contains(&TokenClass::Name)
 }
 
+/// The words that begin types.
+static TYPE_WORDS: [Word; 8] = [
+    Word::Smallint,
+    Word::Integer,
+    Word::Int,
+    Word::Numeric,
+    Word::Decimal,
+    Word::Dec,
+    Word::Character,
+    Word::Char,
+];
+
 fn write_near_word<W: fmt::Write>(
     f: &mut Formatter<W>,
     alloc: Global,
@@ -81,11 +93,19 @@ fn write_near_word<W: fmt::Write>(
     };
     let mut nearest = Nearest::new(alloc, found.as_str());
     for class in unexpected.wanted.classes() {
-        if let TokenClass::Word(word) = class {
-            nearest.offer(word.as_str());
+        match class {
+            TokenClass::Word(word) => nearest.offer(word.as_str()),
+            TokenClass::Type => offer_types(&mut nearest),
+            _ => {}
         }
     }
     nearest.write_hint(f)
+}
+
+fn offer_types(nearest: &mut Nearest) {
+    for word in &TYPE_WORDS {
+        nearest.offer(word.as_str());
+    }
 }
 
 /// The token that stands at the place, as it is written.

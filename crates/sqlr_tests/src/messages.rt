@@ -4,8 +4,14 @@ use catalog::Database;
 use diagnostics::Reporter;
 use refusals::Refusal;
 use sqlr::{Cause, Refused};
+use std::alloc::{AllocError, Global};
+use std::fmt::Display;
 use std::test::Fail;
 use syntax::Name;
+
+fn text_of<D: Display + Drop>(alloc: Global, words: D) -> Result<String, AllocError> {
+    format!(in alloc; "{words}")
+}
 
 /// No test loads so many rows: the message alone is made.
 #[test]
@@ -22,7 +28,7 @@ fn too_many_rows_are_told_at_the_table(rt: HostRuntime) -> Result<(), Fail> {
     let database = Database::new(alloc);
     let mut reporter = Reporter::new(alloc, "s.sql", "LOAD T FROM 'rows.csv';");
     let report = reporter.report(&refused, &database);
-    let text = format!(in alloc; "{report}")?;
+    let text = text_of(alloc, report)?;
     let expected =
         "s.sql:1:6: error E09 42000: a table has at most 100000000 rows\nLOAD T FROM 'rows.csv';\n     ^\n";
     assert_eq!(rt; text.as_str(), expected);

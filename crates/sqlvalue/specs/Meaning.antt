@@ -1,10 +1,13 @@
 -- What the values and types of this crate stand for.
-use Rattle.std.specs.Prelude.{Bool, true, false}
+use Rattle.std.specs.Prelude.{◌<◌, ◌≤◌, ◌⊎◌, Bool, true, false}
+use Rattle.definitions.specs.Limits.{greatest_precision, greatest_length}
 use Rattle.definitions.specs.Value as spec
 use Rattle.sqlvalue.specs.declared.value.Value.{Value}
 use Rattle.sqlvalue.specs.declared.value.Value.TheVariants as v
 use Rattle.sqlvalue.specs.declared.sql_type.DeclaredType.{DeclaredType}
 use Rattle.sqlvalue.specs.declared.sql_type.DeclaredType.TheVariants as d
+use Rattle.sqlvalue.specs.declared.sql_type.TypeFault.{TypeFault}
+use Rattle.sqlvalue.specs.declared.sql_type.TypeFault.TheVariants as f
 use Rattle.sqlvalue.specs.declared.sql_type.SqlType.{SqlType}
 use Rattle.sqlvalue.specs.declared.sql_type.SqlType.TheVariants as t
 
@@ -25,6 +28,13 @@ type_of t.Smallint = spec.Smallint
 type_of t.Integer = spec.Integer
 type_of (t.Numeric precision scale) = spec.Numeric precision scale
 type_of (t.Char length) = spec.Char length
+
+-- a parameter of a type is out of range
+abbrev pub IsOutside : spec.SqlType → TypeFault → Type 0
+IsOutside (spec.Numeric precision scale) f.Precision = (precision < 1) ⊎ (greatest_precision < precision)
+IsOutside (spec.Numeric precision scale) f.Scale = precision < scale
+IsOutside (spec.Char length) f.Length = (length < 1) ⊎ (greatest_length < length)
+IsOutside _ _ = ⊥
 
 -- whether a type's values are texts
 abbrev pub is_text_type : spec.SqlType → Bool

@@ -1,9 +1,9 @@
 //! The types of columns.
 
-ghost use Rattle.std.specs.Prelude.{◌≡◌, ◌↔◌, IsOk, IfOk};
+ghost use Rattle.std.specs.Prelude.{◌≡◌, ◌↔◌, IsOk, IfOk, IfErr};
 ghost use Rattle.definitions.specs.Value as spec;
 ghost use Rattle.definitions.specs.Value.{IsType};
-ghost use Rattle.sqlvalue.specs.Meaning.{declared_of, is_text_type, type_of};
+ghost use Rattle.sqlvalue.specs.Meaning.{IsOutside, declared_of, is_text_type, type_of};
 
 use std::fmt::{self, Display, Formatter};
 
@@ -52,6 +52,7 @@ impl DeclaredType {
     pub fn sql_type(self) -> Result<SqlType, TypeFault>
         ensures in_range { IsOk result ↔ IsType (declared_of self) }
         ensures same { IfOk result (λ t. type_of t ≡ declared_of self) }
+        ensures fault { IfErr result (IsOutside (declared_of self)) }
     {
         match self {
             DeclaredType::Smallint => Ok(SqlType::Smallint),
@@ -65,6 +66,7 @@ impl DeclaredType {
 fn numeric(precision: u128, scale: u128) -> Result<SqlType, TypeFault>
     ensures in_range { IsOk result ↔ IsType (spec.Numeric precision scale) }
     ensures same { IfOk result (λ t. type_of t ≡ spec.Numeric precision scale) }
+    ensures fault { IfErr result (IsOutside (spec.Numeric precision scale)) }
 {
     if precision < 1 || precision > u128::from(MAX_PRECISION) {
         return Err(TypeFault::Precision);
@@ -81,6 +83,7 @@ fn numeric(precision: u128, scale: u128) -> Result<SqlType, TypeFault>
 fn char_of(length: u128) -> Result<SqlType, TypeFault>
     ensures in_range { IsOk result ↔ IsType (spec.Char length) }
     ensures same { IfOk result (λ t. type_of t ≡ spec.Char length) }
+    ensures fault { IfErr result (IsOutside (spec.Char length)) }
 {
     if length < 1 || length > u128::from(MAX_LENGTH) {
         return Err(TypeFault::Length);
