@@ -116,7 +116,14 @@ fn write_field<W: fmt::Write>(
     if field.is_empty() {
         return f.write_str("the field is empty");
     }
-    write!(f, "{} ", VisibleBytes(field))?;
+    match fault {
+        FieldFault::ManyDigits | FieldFault::TooFine | FieldFault::TooGreat => {
+            write!(f, "{} ", VisibleBytes(field))?;
+        }
+        FieldFault::NoNumber | FieldFault::Unprintable | FieldFault::TooLong => {
+            write!(f, "'{}' ", VisibleBytes(field))?;
+        }
+    }
     match fault {
         FieldFault::NoNumber => f.write_str("is no number"),
         FieldFault::Unprintable => f.write_str("has a character that is not printable ASCII"),

@@ -8,7 +8,6 @@ use crate::places::offset_of;
 use crate::query::{write_query, write_query_hint};
 use crate::record::{FileRecord, write_record, write_record_hint};
 use crate::text::{write_lexical, write_lexical_hint};
-use crate::visible::Visible;
 use crate::wanted::{write_unexpected, write_unexpected_hint};
 use catalog::{Database, MAX_ROWS, RefusedRecord};
 use sqlr::{Cause, Refused};
@@ -108,16 +107,14 @@ impl Report<'_> {
     fn write_problem<W: fmt::Write>(&self, f: &mut Formatter<W>, cause: &Cause) -> fmt::Result {
         match cause {
             Cause::Lexical(fault) => write_lexical(f, self.script, *fault),
-            Cause::Unexpected(unexpected) => { write_unexpected(f, self.script, unexpected) }
+            Cause::Unexpected(unexpected) => write_unexpected(f, self.script, unexpected),
             Cause::Create {
                 name,
                 columns,
                 fault,
             } => write_create(f, name, columns, *fault),
             Cause::NoTable(name) => write!(f, "there is no table {}", name.text),
-            Cause::NoFile(file) => {
-                write!(f, "there is no file '{}'", Visible(file.text.as_str()))
-            }
+            Cause::NoFile(file) => write!(f, "there is no file '{}'", file.text),
             Cause::ManyRows(_) => write!(f, "a table has at most {MAX_ROWS} rows"),
             Cause::Query(cause) => write_query(f, self.database, *cause),
             Cause::Record { .. } => Ok(()),
@@ -148,7 +145,7 @@ impl Report<'_> {
     ) -> fmt::Result {
         let record = FileRecord::new(self.alloc, bytes, refused);
         let line = record.line;
-        write!(f, "{}:{line}: ", Visible(file.text.as_str()))?;
+        write!(f, "{}:{line}: ", file.text)?;
         self.write_label(f)?;
         if let Some(table) = self.database.table(table.text.as_str()) {
             write_record(f, table, refused, &record)?;
