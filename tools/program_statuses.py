@@ -86,10 +86,11 @@ A|B
 # the byte of the line.
 FAULTY = {
     "character": (b"error E01 42000 at 28\n", b"1:29: error E01 42000: no token begins with this character\n"),
+    "levels": (b"error E06 42000 at 86\n", b"1:87: error E06 42000: more than 64 levels of parentheses, signs and NOTs are open here\n"),
     "name": (b"error E04 42000 at 7\n", b"1:8: error E04 42000: a name has at most 18 characters, and this one has 20\n"),
     "number": (b"error E03 42000 at 26\n", b"1:27: error E03 42000: a number has at most 38 digits, and this one has 40\n"),
     "string": (b"error E02 42000 at 12\n", b"1:13: error E02 42000: this string has no closing quote\n"),
-    "syntax": (b"error E05 42000 at 7\n", b"1:8: error E05 42000: expected a name, found FROM\n"),
+    "syntax": (b"error E05 42000 at 7\n", b'1:8: error E05 42000: expected ALL, DISTINCT, "*", NOT or a value, found FROM\n'),
 }
 
 # A script on standard input, and the message on its second statement.

@@ -7,6 +7,7 @@ use Rattle.std.proofs.lemmas.List.{drop_more, take_rest, length-map}
 use Rattle.definitions.specs.Limits.{most_tables, most_columns}
 use Rattle.definitions.specs.Value.{IsType}
 use Rattle.definitions.specs.Statement.{Name, ColumnDefinition, CreateTable}
+use Rattle.definitions.specs.NotYet.{IsPlainDefinition}
 use Rattle.definitions.specs.Table as table
 use Rattle.definitions.specs.Table.{Table, Database, AreDistinct, table_named, changed}
 use Rattle.definitions.specs.Refusal.{Refusal, NameTaken, OverLimit}
@@ -120,14 +121,20 @@ typed_apart [] h a = a
 typed_apart (d ∷ ds) h (inl a) = a h.0
 typed_apart (d ∷ ds) h (inr a) = typed_apart ds h.1 a
 
+-- nothing is asked of the columns
+pub unconstrained : (ns : List NewColumn) → AllByRecursion IsPlainDefinition (definitions_of ns)
+unconstrained [] = tt
+unconstrained (n ∷ ns) = (refl, unconstrained ns)
+
 -- no cause of refusal stands
 pub accepted : (db : Database) (name : Name) (ds : List ColumnDefinition) → table_named db name ≡ None → AreDistinct (definition_names ds) → length db < most_tables → length ds ≤ most_columns → AreTypes ds
-    → IsAccepted db (CreateTable name ds)
-accepted db name ds none distinct few narrow typed refusal (faults.table_taken n ds' t h) = let clash : Some t ≡ None = sym h ∙ none in cc
-accepted db name ds none distinct few narrow typed refusal (faults.column_twice n ds' h) = h distinct
-accepted db name ds none distinct few narrow typed refusal (faults.many_tables n ds' h) = omega (arith, h, few)
-accepted db name ds none distinct few narrow typed refusal (faults.many_columns n ds' h) = omega (arith, h, narrow)
-accepted db name ds none distinct few narrow typed refusal (faults.no_type n ds' h) = typed_apart ds typed h
+    → AllByRecursion IsPlainDefinition ds → IsAccepted db (CreateTable name ds)
+accepted db name ds none distinct few narrow typed plain refusal (faults.table_taken n ds' t h) = let clash : Some t ≡ None = sym h ∙ none in cc
+accepted db name ds none distinct few narrow typed plain refusal (faults.column_twice n ds' h) = h distinct
+accepted db name ds none distinct few narrow typed plain refusal (faults.many_tables n ds' h) = omega (arith, h, few)
+accepted db name ds none distinct few narrow typed plain refusal (faults.many_columns n ds' h) = omega (arith, h, narrow)
+accepted db name ds none distinct few narrow typed plain refusal (faults.no_type n ds' h) = typed_apart ds typed h
+accepted db name ds none distinct few narrow typed plain refusal (faults.not_yet s h) = h plain
 
 -- the test of names
 pub taken : (db : Database) (name : Name) (ds : List ColumnDefinition) (o : Option (Bor Table)) → option_copied o ≡ table_named db name → is_some o ≡ true → Faulty db (CreateTable name ds) NameTaken

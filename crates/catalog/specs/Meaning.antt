@@ -1,7 +1,7 @@
 -- What the arguments and faults of this crate stand for.
 use Rattle.std.specs.Prelude.{ℕ, List, [], Option, Some, None, map, slice_index_or}
 use Rattle.definitions.specs.Value as value
-use Rattle.definitions.specs.Statement.{ColumnDefinition}
+use Rattle.definitions.specs.Statement.{ColumnDefinition, Nullable}
 use Rattle.definitions.specs.Refusal as refusal
 use Rattle.definitions.specs.Table as table
 use Rattle.refusals.specs.Meaning.{field_error_of}
@@ -12,9 +12,9 @@ use Rattle.catalog.specs.declared.fault.CreateFault.TheVariants as c
 use Rattle.catalog.specs.declared.fault.RecordFault.{RecordFault}
 use Rattle.catalog.specs.declared.fault.RecordFault.TheVariants as r
 
--- the columns of a new table
+-- the columns of a new table, of which nothing is asked
 abbrev pub definition_of : NewColumn → ColumnDefinition
-definition_of n = record { name = n.name.now; type = declared_of n.declared }
+definition_of n = record { name = n.name.now; type = declared_of n.declared; constraint = Nullable }
 
 abbrev pub definitions_of : List NewColumn → List ColumnDefinition
 definitions_of = map definition_of

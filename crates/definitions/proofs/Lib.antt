@@ -1,4 +1,5 @@
 pub mod Lexing
+pub mod Alike
 pub mod Grammar
 pub mod Loading
 pub mod Ranking

@@ -1,13 +1,14 @@
 -- Whole scripts and their texts, and what a refusal leaves.
-use Rattle.std.proofs.Common.{◌≡◌, ◌∙◌, refl, sym, ap, subst, inl, inr, ℕ, List, [], ◌∷◌, Some, arith}
+use Rattle.std.proofs.Common.{◌≡◌, ◌∙◌, refl, sym, ap, subst, inl, inr, ℕ, List, [], ◌∷◌, Some, None, false, arith}
 use Rattle.std.specs.Prelude.{codes, pos}
 use Rattle.std.specs.Fmt.{digits}
 use Rattle.definitions.specs.Value.{Null, Number, Text, Integer, Char}
-use Rattle.definitions.specs.Refusal.{OpenString}
+use Rattle.definitions.specs.Refusal.{OpenString, Unexpected}
 use Rattle.definitions.specs.Statement as s
 use Rattle.definitions.specs.Statement.{Select, Statement, Query}
 use Rattle.definitions.specs.Grammar as g
 use Rattle.definitions.specs.Table.{Table, Database, table_named}
+use Rattle.definitions.specs.NotYet.{CanRun}
 use Rattle.definitions.specs.Faults as faults
 use Rattle.definitions.specs.Faults.{IsAccepted, Faulty}
 use Rattle.definitions.specs.Answer.{answer}
@@ -16,7 +17,7 @@ use Rattle.definitions.specs.Step.{State, Answering, Step, Run, Ended, Well, Fau
 use Rattle.std.proofs.lemmas.List.Sorted.{sum_by-IsPermutation}
 use Rattle.std.specs.Prelude.{cond}
 use Rattle.definitions.specs.Laws.{SelectPrintsAnswer, PrintsAnswer}
-use Rattle.definitions.proofs.Examples.{open_string_at_7, select_from_fails_at_7}
+use Rattle.definitions.proofs.Examples.{open_string_at_7, load_from_fails_at_5}
 
 -- an empty script prints nothing
 pub empty_script : {L : Type 0} (answers : Answering L) (s : State L) → Run answers s [] s [] Well
@@ -26,17 +27,17 @@ pub open_string_line : {L : Type 0} (answers : Answering L) (s : State L) → Ru
 unfolding digits
 open_string_line answers s = step.fault (step.lexical (record { refusal = OpenString; at = 7 }) open_string_at_7 refl) refl refl
 
-pub syntax_line : {L : Type 0} (answers : Answering L) (s : State L) → Run answers s (codes "SELECT FROM T;") s (codes "error E05 42000 at 7\n") Faulted
+pub syntax_line : {L : Type 0} (answers : Answering L) (s : State L) → Run answers s (codes "LOAD FROM T;") s (codes "error E05 42000 at 5\n") Faulted
 unfolding digits
-syntax_line answers s = step.fault (step.syntax _ 7 (
-  codes "SELECT" ∷ codes " " ∷ codes "FROM" ∷ codes " " ∷ codes "T" ∷ codes ";" ∷ [],
+syntax_line answers s = step.fault (step.syntax _ Unexpected 5 (
+  codes "LOAD" ∷ codes " " ∷ codes "FROM" ∷ codes " " ∷ codes "T" ∷ codes ";" ∷ [],
   (codes " FROM T;", refl, refl, refl, (codes "FROM T;", refl, refl, refl, (codes " T;", refl, refl, refl, (codes "T;", refl, refl, refl, (codes ";", refl, refl, refl, ([], refl, refl, refl, refl)))))),
   refl,
 )
-    select_from_fails_at_7 refl) refl refl
+    load_from_fails_at_5 refl) refl refl
 
 abbrev first : List s.Source → s.Source
-first [] = record { table = [] }
+first [] = record { table = []; correlation = None }
 first (x ∷ xs) = x
 
 -- the table of three rows, and the query for those with A > 5
@@ -48,7 +49,12 @@ three = record {
 }
 
 abbrev above_five : Select
-above_five = record { block = record { items = record { value = s.Column (codes "B") } ∷ record { value = s.Column (codes "A") } ∷ []; sources = record { table = codes "T" } ∷ []; condition = Some (s.Compare s.GreaterThan (s.Column (codes "A")) (s.Numeral 5 1 0)) } }
+above_five = record {
+  block = s.Specification false (s.Listed (s.AddItem (s.Column (record { qualifier = None; name = codes "B" })) None (s.AddItem (s.Column (record { qualifier = None; name = codes "A" })) None s.NoItem)))
+      (record { table = codes "T"; correlation = None } ∷ [])
+      (s.Present (s.Compare s.GreaterThan (s.Column (record { qualifier = None; name = codes "A" })) (s.Numeral 5 1 0))) [] s.Absent;
+  order = [];
+}
 
 pub one_answer : answer three above_five.block ≡ (Text (codes "x  ") ∷ Number (pos 7) 0 ∷ []) ∷ []
 one_answer = refl
@@ -68,13 +74,17 @@ of_one_kind (inr (inl h)) = h
 of_one_kind (inr (inr (inl h))) = h
 of_one_kind (inr (inr (inr (k, l, a, b, n)))) = n cc
 
-only_three : (so : s.Source) (t : Table) → above_five.block.sources ≡ so ∷ [] → table_named (three ∷ []) so.table ≡ Some t → three ≡ t
+only_three : (so : s.Source) (t : Table) → s.block_sources above_five.block ≡ so ∷ [] → table_named (three ∷ []) so.table ≡ Some t → three ≡ t
 only_three so t e n =
-    let k : record { table = codes "T" } ≡ so = ap (λ xs. first xs) e in
+    let k : record { table = codes "T"; correlation = None } ≡ so = ap (λ xs. first xs) e in
     let m : table_named (three ∷ []) (codes "T") ≡ Some t = ap (λ (x : s.Source). table_named (three ∷ []) x.table) k ∙ n in
     cc
 
+can_run : CanRun (Query above_five)
+can_run = ((((refl, refl), ((refl, refl), tt)), refl, (refl, tt)), refl)
+
 accepted : IsAccepted (three ∷ []) (Query above_five)
+accepted f (faults.not_yet s h) = h can_run
 accepted f (faults.block q f' (faults.no_table (inl h))) = cc
 accepted f (faults.block q f' (faults.no_table (inr h))) = h
 accepted f (faults.block q f' (faults.great_scale (inl (inl h)))) = h

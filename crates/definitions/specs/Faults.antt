@@ -3,7 +3,8 @@ use Rattle.std.specs.Prelude.{ℕ, ◌<◌, ◌≤◌, ◌≡◌, ◌≢◌, ◌
 use Rattle.definitions.specs.Limits.{most_tables, most_columns, most_items, greatest_scale}
 use Rattle.definitions.specs.Refusal.{Refusal, NameTaken, NotFound, OverLimit, ScaleTooGreat, UnknownColumn, MixedKinds, OverQueryLimit}
 use Rattle.definitions.specs.Value.{IsType, Kind, Numbers, Texts, kind_of}
-use Rattle.definitions.specs.Statement.{Name, Expr, Column, Numeral, String, Signed, Compare, Item, Source, Block, Select, ColumnDefinition, Statement, CreateTable, Load, Query}
+use Rattle.definitions.specs.Statement.{Name, Expr, Column, Numeral, String, Signed, Compare, Item, Source, Block, block_items, block_sources, block_condition, Select, ColumnDefinition, Statement, CreateTable, Load, Query}
+use Rattle.definitions.specs.NotYet.{CanRun}
 use Rattle.definitions.specs.Table.{Table, Database, table_named, type_named, AreDistinct}
 
 -- a literal's scale is too great somewhere in an expression (own)
@@ -15,18 +16,18 @@ HasGreatScale _ = ⊥
 
 -- an expression names a column that the table has not (6.4, syntax rule 2)
 abbrev pub NamesUnknown : Table → Expr → Type 0
-NamesUnknown t (Column n) = type_named t.columns n ≡ None
+NamesUnknown t (Column reference) = type_named t.columns reference.name ≡ None
 NamesUnknown t (Signed minus e) = NamesUnknown t e
 NamesUnknown t (Compare op a b) = NamesUnknown t a ⊎ NamesUnknown t b
 NamesUnknown t _ = ⊥
 
 -- the kind of an expression's values; none where it names no column, or is a condition
 abbrev pub expr_kind : Table → Expr → Option Kind
-expr_kind t (Column n) = option_map kind_of (type_named t.columns n)
+expr_kind t (Column reference) = option_map kind_of (type_named t.columns reference.name)
 expr_kind t (Numeral units digits scale) = Some Numbers
 expr_kind t (String codes) = Some Texts
 expr_kind t (Signed minus e) = expr_kind t e
-expr_kind t (Compare op a b) = None
+expr_kind t _ = None
 
 -- values of two kinds are compared (8.2, syntax rule 2), or a text stands under a sign (6.12, syntax rule 1)
 abbrev pub MixesKinds : Table → Expr → Type 0
@@ -46,20 +47,20 @@ AnyOf P (x ∷ xs) = P x ⊎ AnyOf P xs
 
 -- an expression of a block has a property
 abbrev pub InBlock : (Expr → Type 0) → Block → Type 0
-InBlock P b = AnyOf (λ (i : Item). P i.value) b.items ⊎ IfPresent P b.condition
+InBlock P b = AnyOf (λ (i : Item). P i.value) (block_items b) ⊎ IfPresent P (block_condition b)
 
 abbrev pub definition_names : List ColumnDefinition → List Name
 definition_names = map (λ (d : ColumnDefinition). d.name)
 
 -- the faults of a block over one table
 pub data BlockFaulty (db : Database) (b : Block) : Refusal → Type 0 where
-  no_table : AnyOf (λ (s : Source). table_named db s.table ≡ None) b.sources → BlockFaulty db b NotFound
+  no_table : AnyOf (λ (s : Source). table_named db s.table ≡ None) (block_sources b) → BlockFaulty db b NotFound
   great_scale : InBlock HasGreatScale b → BlockFaulty db b ScaleTooGreat
-  unknown_column : (s : Source) (t : Table) → b.sources ≡ s ∷ [] → table_named db s.table ≡ Some t → InBlock (NamesUnknown t) b → BlockFaulty db b UnknownColumn
-  mixed_kinds : (s : Source) (t : Table) → b.sources ≡ s ∷ [] → table_named db s.table ≡ Some t → InBlock (MixesKinds t) b → BlockFaulty db b MixedKinds
-  many_items : most_items < length b.items → BlockFaulty db b OverQueryLimit
+  unknown_column : (s : Source) (t : Table) → block_sources b ≡ s ∷ [] → table_named db s.table ≡ Some t → InBlock (NamesUnknown t) b → BlockFaulty db b UnknownColumn
+  mixed_kinds : (s : Source) (t : Table) → block_sources b ≡ s ∷ [] → table_named db s.table ≡ Some t → InBlock (MixesKinds t) b → BlockFaulty db b MixedKinds
+  many_items : most_items < length (block_items b) → BlockFaulty db b OverQueryLimit
 
--- the faults that a statement has over a database, before any file is read; the limits are own
+-- the faults that a statement has over a database, before any file is read; the limits are own, and so is what can't be run yet
 pub data Faulty (db : Database) : Statement → Refusal → Type 0 where
   table_taken : (name : Name) (columns : List ColumnDefinition) (t : Table) → table_named db name ≡ Some t → Faulty db (CreateTable name columns) NameTaken
   column_twice : (name : Name) (columns : List ColumnDefinition) → ¬ (AreDistinct (definition_names columns)) → Faulty db (CreateTable name columns) NameTaken
@@ -67,6 +68,7 @@ pub data Faulty (db : Database) : Statement → Refusal → Type 0 where
   many_columns : (name : Name) (columns : List ColumnDefinition) → most_columns < length columns → Faulty db (CreateTable name columns) OverLimit
   no_type : (name : Name) (columns : List ColumnDefinition) → AnyOf (λ (d : ColumnDefinition). ¬ (IsType d.type)) columns → Faulty db (CreateTable name columns) OverLimit
   no_table : (name : Name) (file : List ℕ) → table_named db name ≡ None → Faulty db (Load name file) NotFound
+  not_yet : (s : Statement) → ¬ (CanRun s) → Faulty db s OverQueryLimit
   block : (q : Select) (r : Refusal) → BlockFaulty db q.block r → Faulty db (Query q) r
 
 -- a statement without a fault

@@ -11,7 +11,7 @@ use Rattle.definitions.specs.Refusal.{FieldError}
 use Rattle.definitions.specs.Loading.{FieldLoads}
 use Rattle.definitions.specs.Token.{Token, TokenKind}
 use Rattle.definitions.specs.Lexing.{LexFault, Reads, quoted}
-use Rattle.definitions.specs.Statement.{Select, Source, Statement, Query}
+use Rattle.definitions.specs.Statement.{Select, Source, Statement, Query, block_items, block_sources}
 use Rattle.definitions.specs.Table.{Row, Table, Database, table_named}
 use Rattle.definitions.specs.Answer.{answer}
 use Rattle.definitions.specs.Step.{Answering, State, Step, Well}
@@ -56,9 +56,9 @@ pub record PrintsAnswer (db : Database) (q : Select) (text : List ℕ) : Type 0 
   pub source : Source
   pub table : Table
   pub rows : List Row
-  pub single : q.block.sources ≡ source ∷ []
+  pub single : block_sources q.block ≡ source ∷ []
   pub named : table_named db source.table ≡ Some table
-  pub is : text ≡ table_text (map item_name q.block.items) rows
+  pub is : text ≡ table_text (map item_name (block_items q.block)) rows
   pub as_often : (test : Row → Bool) → count_by test rows ≡ count_by test (answer table q.block)
 
 -- what is printed for a query that is not refused is its answer

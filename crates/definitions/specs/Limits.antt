@@ -11,6 +11,10 @@ most_string_characters = 254
 abbrev pub most_digits : ℕ
 most_digits = 38
 
+-- the levels that parentheses, signs and NOTs may open
+abbrev pub most_levels : ℕ
+most_levels = 64
+
 -- of types: the precision of a NUMERIC, the length of a CHAR
 abbrev pub greatest_precision : ℕ
 greatest_precision = 18

@@ -1,5 +1,5 @@
--- Statements as trees.
-use Rattle.std.specs.Prelude.{ℕ, Bool, List, Option}
+-- Statements as trees. Parentheses leave no trace in them, and the operands of one line stand in one list.
+use Rattle.std.specs.Prelude.{ℕ, Bool, List, [], ◌∷◌, Option, Some, None}
 use Rattle.definitions.specs.Value.{SqlType}
 
 -- a name in upper case
@@ -15,39 +15,165 @@ pub data Op : Type 0 where
   LessOrEquals : Op
   GreaterOrEquals : Op
 
--- conditions and values in one; a numeral has its units, how many digits it is written with, and its scale (6.3, 6.4, 6.11, 8.2)
-pub data Expr : Type 0 where
-  Column : (name : Name) → Expr
-  Numeral : (units digits scale : ℕ) → Expr
-  String : (codes : List ℕ) → Expr
-  Signed : (minus : Bool) → Expr → Expr
-  Compare : Op → Expr → Expr → Expr
+-- the operators that join the operands of a line (8.12, 6.12)
+pub data LineOperator : Type 0 where
+  Or : LineOperator
+  And : LineOperator
+  Plus : LineOperator
+  Minus : LineOperator
+  Times : LineOperator
+  Divided : LineOperator
 
--- a result column (7.9)
-pub record Item : Type 0 where
-  pub value : Expr
+-- the quantifiers of a comparison with a subquery; SOME is ANY (8.7)
+pub data Quantifier : Type 0 where
+  All : Quantifier
+  Any : Quantifier
 
--- a table of FROM (6.3)
+-- the set functions (6.5)
+pub data SetFunction : Type 0 where
+  Count : SetFunction
+  Sum : SetFunction
+  Avg : SetFunction
+  Min : SetFunction
+  Max : SetFunction
+
+-- a column, with the name of its table if it is written (6.4)
+pub record ColumnReference : Type 0 where
+  pub qualifier : Option Name
+  pub name : Name
+
+-- a table of FROM, with its correlation name if it has one (6.3)
 pub record Source : Type 0 where
   pub table : Name
+  pub correlation : Option Name
 
--- a query block (7.9, 7.4, 7.6)
-pub record Block : Type 0 where
-  pub items : List Item
-  pub sources : List Source
-  pub condition : Option Expr
+mutual
+  -- values and conditions in one; a numeral has its units, how many digits it is written with, and its scale (5.3, 6.2 to 6.5, 6.11, 6.12, 8.1 to 8.12)
+  pub data Expr : Type 0 where
+    Column : (reference : ColumnReference) → Expr
+    Numeral : (units digits scale : ℕ) → Expr
+    String : (codes : List ℕ) → Expr
+    Signed : (minus : Bool) (operand : Expr) → Expr
+    Line : (first : Expr) (others : Operands) → Expr
+    Not : (operand : Expr) → Expr
+    Compare : (op : Op) (left right : Expr) → Expr
+    CompareAll : (op : Op) (quantifier : Quantifier) (left : Expr) (query : Block) → Expr
+    IsNull : (negated : Bool) (value : Expr) → Expr
+    Between : (negated : Bool) (value low high : Expr) → Expr
+    Like : (negated : Bool) (value : Expr) (pattern : List ℕ) → Expr
+    InList : (negated : Bool) (value : Expr) (members : Members) → Expr
+    InQuery : (negated : Bool) (value : Expr) (query : Block) → Expr
+    Exists : (query : Block) → Expr
+    Scalar : (query : Block) → Expr
+    CountRows : Expr
+    Function : (function : SetFunction) (distinct : Bool) (argument : Expr) → Expr
 
--- a query
+  -- the operands behind the first of a line, each with its operator
+  pub data Operands : Type 0 where
+    NoOperand : Operands
+    Operand : (operator : LineOperator) (operand : Expr) (others : Operands) → Operands
+
+  -- the members of an IN list (8.4; NULL among them is own)
+  pub data Members : Type 0 where
+    NoMember : Members
+    NullMember : (others : Members) → Members
+    Member : (value : Expr) (others : Members) → Members
+
+  -- the items of a select list, each with its AS name if it has one (7.9)
+  pub data Items : Type 0 where
+    NoItem : Items
+    AddItem : (value : Expr) (alias : Option Name) (others : Items) → Items
+
+  -- a select list: an asterisk or items (7.9)
+  pub data SelectList : Type 0 where
+    Asterisk : SelectList
+    Listed : (items : Items) → SelectList
+
+  -- the condition of WHERE or HAVING, if there is one (7.6, 7.8)
+  pub data Condition : Type 0 where
+    Absent : Condition
+    Present : (condition : Expr) → Condition
+
+  -- a query block (7.9, 7.3, 7.4, 7.6 to 7.8)
+  pub data Block : Type 0 where
+    Specification : (distinct : Bool) (list : SelectList) (sources : List Source) (where' : Condition) (groups : List ColumnReference) (having : Condition) → Block
+
+-- an item of a select list
+pub record Item : Type 0 where
+  pub value : Expr
+  pub alias : Option Name
+
+abbrev pub listed : Items → List Item
+listed NoItem = []
+listed (AddItem value alias others) = record { value = value; alias = alias } ∷ listed others
+
+-- the items of a block; none where it has an asterisk
+abbrev pub block_items : Block → List Item
+block_items (Specification distinct (Listed items) sources where' groups having) = listed items
+block_items (Specification distinct Asterisk sources where' groups having) = []
+
+abbrev pub block_sources : Block → List Source
+block_sources (Specification distinct list sources where' groups having) = sources
+
+abbrev pub condition_expr : Condition → Option Expr
+condition_expr Absent = None
+condition_expr (Present e) = Some e
+
+abbrev pub block_condition : Block → Option Expr
+block_condition (Specification distinct list sources where' groups having) = condition_expr where'
+
+-- what a key of ORDER BY names: a result column or its position (13.1)
+pub data KeyName : Type 0 where
+  ByName : (name : Name) → KeyName
+  ByPosition : (position : ℕ) → KeyName
+
+pub record Key : Type 0 where
+  pub named : KeyName
+  pub descending : Bool
+
+-- a query with its order (13.1)
 pub record Select : Type 0 where
   pub block : Block
+  pub order : List Key
+
+-- what is asked of a column's values: NOT NULL alone, or with UNIQUE or PRIMARY KEY, or nothing (11.4, 11.7)
+pub data Constraint : Type 0 where
+  Nullable : Constraint
+  NotNull : Constraint
+  Unique : Constraint
+  PrimaryKey : Constraint
 
 -- a column of CREATE TABLE (11.4)
 pub record ColumnDefinition : Type 0 where
   pub name : Name
   pub type : SqlType
+  pub constraint : Constraint
 
--- CREATE TABLE is 11.3, SELECT is 7.9; LOAD is own
+-- a number with a sign: its units, how many digits it is written with, and its scale (5.3)
+pub record Bound : Type 0 where
+  pub minus : Bool
+  pub units : ℕ
+  pub digits : ℕ
+  pub scale : ℕ
+
+-- the least and the greatest key of an index (own)
+pub record Range : Type 0 where
+  pub low : Bound
+  pub high : Bound
+
+-- the figures of an index (own)
+pub record IndexFigures : Type 0 where
+  pub keys : ℕ
+  pub pages : ℕ
+  pub clustered : Bool
+  pub range : Option Range
+
+-- CREATE TABLE is 11.3, a query 13.1; the others are own
 pub data Statement : Type 0 where
   CreateTable : (name : Name) (columns : List ColumnDefinition) → Statement
+  CreateIndex : (unique : Bool) (table : Name) (columns : List Name) → Statement
   Load : (table : Name) (file : List ℕ) → Statement
+  SetTable : (table : Name) (rows pages : ℕ) → Statement
+  SetIndex : (table : Name) (columns : List Name) (figures : IndexFigures) → Statement
   Query : (select : Select) → Statement
+  Explain : (select : Select) → Statement

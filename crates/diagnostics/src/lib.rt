@@ -7,6 +7,7 @@ mod create;
 mod excerpt;
 mod lines;
 mod near;
+mod not_yet;
 mod places;
 mod query;
 mod record;

@@ -1,10 +1,11 @@
 //! Where causes stand in the script.
 
 use crate::create::name_at_fault;
+use crate::not_yet::offset_not_yet;
 use crate::query::offset_of_query;
 use lexer::LexFault;
 use sqlr::Cause;
-use syntax::Expr;
+use syntax::{ColumnReference, Expr};
 
 /// The byte of the script that a cause is about. A missing token is told behind the one before it.
 pub(crate) fn offset_of(cause: &Cause) -> usize {
@@ -14,6 +15,8 @@ pub(crate) fn offset_of(cause: &Cause) -> usize {
             Some(_) => unexpected.offset,
             None => unexpected.behind,
         },
+        Cause::TooDeep { offset, .. } => *offset,
+        Cause::NotYet(statement) => offset_not_yet(statement),
         Cause::Create {
             name,
             columns,
@@ -35,13 +38,32 @@ fn lexical_offset(fault: LexFault) -> usize {
     }
 }
 
-/// Where an expression begins, by the name or the literal that stands first in it.
+/// Where an expression begins, by the name, the literal or the word that stands first in it.
 pub(crate) fn start_of(expr: &Expr) -> usize {
     match expr {
-        Expr::Column(name) => name.start,
+        Expr::Column(reference) => start_of_column(reference),
         Expr::Numeral(numeral) => numeral.start,
         Expr::String(string) => string.start,
-        Expr::Signed { operand, .. } => start_of(operand),
-        Expr::Compare { left, .. } => start_of(left),
+        Expr::Signed { operand: first, .. }
+        | Expr::Line { first, .. }
+        | Expr::Compare { left: first, .. }
+        | Expr::CompareAll { left: first, .. }
+        | Expr::IsNull { value: first, .. }
+        | Expr::Between { value: first, .. }
+        | Expr::Like { value: first, .. }
+        | Expr::InList { value: first, .. }
+        | Expr::InQuery { value: first, .. } => start_of(first),
+        Expr::Not { start, .. }
+        | Expr::Exists { start, .. }
+        | Expr::Scalar { start, .. }
+        | Expr::CountRows { start }
+        | Expr::Function { start, .. } => *start,
+    }
+}
+
+fn start_of_column(reference: &ColumnReference) -> usize {
+    match &reference.qualifier {
+        Some(qualifier) => qualifier.start,
+        None => reference.name.start,
     }
 }

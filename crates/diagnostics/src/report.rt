@@ -4,11 +4,12 @@ use crate::create::write_create;
 use crate::excerpt::write_excerpt;
 use crate::lines::{Lines, Place};
 use crate::near::write_near_table;
+use crate::not_yet::{write_not_yet, write_not_yet_hint};
 use crate::places::offset_of;
 use crate::query::{write_query, write_query_hint};
 use crate::record::{FileRecord, write_record, write_record_hint};
 use crate::text::{write_lexical, write_lexical_hint};
-use crate::wanted::{write_unexpected, write_unexpected_hint};
+use crate::wanted::{write_too_deep, write_unexpected, write_unexpected_hint};
 use catalog::{Database, MAX_ROWS, RefusedRecord};
 use sqlr::{Cause, Refused};
 use std::alloc::Global;
@@ -108,6 +109,8 @@ impl Report<'_> {
         match cause {
             Cause::Lexical(fault) => write_lexical(f, self.script, *fault),
             Cause::Unexpected(unexpected) => write_unexpected(f, self.script, unexpected),
+            Cause::TooDeep { .. } => write_too_deep(f),
+            Cause::NotYet(statement) => write_not_yet(f, statement),
             Cause::Create {
                 name,
                 columns,
@@ -127,6 +130,7 @@ impl Report<'_> {
             Cause::Unexpected(unexpected) => {
                 write_unexpected_hint(f, self.alloc, self.script, unexpected)
             }
+            Cause::NotYet(statement) => write_not_yet_hint(f, statement),
             Cause::NoTable(name) => {
                 write_near_table(f, self.alloc, self.database, name.text.as_str())
             }

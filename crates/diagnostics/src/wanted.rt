@@ -5,21 +5,39 @@ use crate::visible::Visible;
 use lexer::{TokenKind, Word};
 use std::alloc::Global;
 use std::fmt::{self, Display, Formatter};
-use syntax::{TokenClass, Unexpected};
+use syntax::{MAX_LEVELS, TokenClass, Unexpected};
 
-/// A class of tokens as people call it.
+/// A class of tokens as people call it, and whether it is the last of a list.
 #[derive(Clone, Copy)]
-struct Called(TokenClass);
+struct Called {
+    class: TokenClass,
+    is_last: bool,
+}
+
+impl Called {
+    /// What stands before it in a list.
+    fn separator(&self) -> &'static str {
+        if self.is_last && !matches!(self.class, TokenClass::Quantifier) {
+            " or "
+        } else {
+            ", "
+        }
+    }
+}
 
 impl Display for Called {
     fn fmt<W: fmt::Write>(&self, f: &mut Formatter<W>) -> fmt::Result {
-        match self.0 {
+        match self.class {
             TokenClass::Name => f.write_str("a name"),
             TokenClass::Number => f.write_str("a number"),
             TokenClass::WholeNumber => f.write_str("a whole number"),
             TokenClass::String => f.write_str("a string"),
             TokenClass::Type => f.write_str("a type"),
-            TokenClass::Comparison => f.write_str("a comparison"),
+            TokenClass::Value => f.write_str("a value"),
+            TokenClass::Quantifier if self.is_last => f.write_str("ALL, ANY or SOME"),
+            TokenClass::Quantifier => f.write_str("ALL, ANY, SOME"),
+            TokenClass::Arithmetic => f.write_str("an arithmetic operator"),
+            TokenClass::Operator => f.write_str("an operator"),
             TokenClass::Word(word) => f.write_str(word.as_str()),
             TokenClass::Symbol(symbol) => write!(f, "\"{}\"", symbol.as_str()),
         }
@@ -34,17 +52,38 @@ pub(crate) fn write_unexpected<W: fmt::Write>(
 ) -> fmt::Result {
     f.write_str("expected ")?;
     let classes = unexpected.wanted.classes();
+    let mut is_first = true;
     for (place, class) in classes.iter().enumerate() {
-        if place > 0 {
-            let is_last = place + 1 == classes.len();
-            f.write_str(if is_last { " or " } else { ", " })?;
+        if is_taken_in(*class, classes) {
+            continue;
         }
-        write!(f, "{}", Called(*class))?;
+        let called = Called {
+            class: *class,
+            is_last: place + 1 == classes.len(),
+        };
+        if !is_first {
+            f.write_str(called.separator())?;
+        }
+        is_first = false;
+        write!(f, "{called}")?;
     }
     match unexpected.found {
         Some(_) => write!(f, ", found {}", Visible(token_text(script, unexpected))),
         None => f.write_str(", found the end of the script"),
     }
+}
+
+/// Whether another class that could have stood there takes a class in, so that one name tells both.
+fn is_taken_in(class: TokenClass, classes: &[TokenClass]) -> bool {
+    matches!(class, TokenClass::Arithmetic) && classes.contains(&TokenClass::Operator)
+}
+
+/// That too many levels are open.
+pub(crate) fn write_too_deep<W: fmt::Write>(f: &mut Formatter<W>) -> fmt::Result {
+    write!(
+        f,
+        "more than {MAX_LEVELS} levels of parentheses, signs and NOTs are open here"
+    )
 }
 
 /// That a reserved word is no name, or a word that is near the one that stands there.
@@ -66,8 +105,10 @@ pub(crate) fn write_unexpected_hint<W: fmt::Write>(
     }
 }
 
+/// Whether a name could have stood there, be it as a value.
 fn wants_name(unexpected: &Unexpected) -> bool {
-    unexpected.wanted.classes().contains(&TokenClass::Name)
+    let classes = unexpected.wanted.classes();
+    classes.contains(&TokenClass::Name) || classes.contains(&TokenClass::Value)
 }
 
 /// The words that begin types.
@@ -82,6 +123,28 @@ static TYPE_WORDS: [Word; 8] = [
     Word::Char,
 ];
 
+/// The words that begin values.
+static VALUE_WORDS: [Word; 7] = [
+    Word::Count,
+    Word::Sum,
+    Word::Avg,
+    Word::Min,
+    Word::Max,
+    Word::Exists,
+    Word::Not,
+];
+
+/// The words that go on behind values.
+static OPERATOR_WORDS: [Word; 5] = [
+    Word::Is,
+    Word::Not,
+    Word::Between,
+    Word::Like,
+    Word::In,
+];
+
+static QUANTIFIER_WORDS: [Word; 3] = [Word::All, Word::Any, Word::Some];
+
 fn write_near_word<W: fmt::Write>(
     f: &mut Formatter<W>,
     alloc: Global,
@@ -95,15 +158,18 @@ fn write_near_word<W: fmt::Write>(
     for class in unexpected.wanted.classes() {
         match class {
             TokenClass::Word(word) => nearest.offer(word.as_str()),
-            TokenClass::Type => offer_types(&mut nearest),
+            TokenClass::Type => offer(&mut nearest, &TYPE_WORDS),
+            TokenClass::Value => offer(&mut nearest, &VALUE_WORDS),
+            TokenClass::Operator => offer(&mut nearest, &OPERATOR_WORDS),
+            TokenClass::Quantifier => offer(&mut nearest, &QUANTIFIER_WORDS),
             _ => {}
         }
     }
     nearest.write_hint(f)
 }
 
-fn offer_types(nearest: &mut Nearest) {
-    for word in &TYPE_WORDS {
+fn offer(nearest: &mut Nearest, words: &[Word]) {
+    for word in words {
         nearest.offer(word.as_str());
     }
 }

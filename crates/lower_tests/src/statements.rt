@@ -4,14 +4,14 @@ use lexer::lex;
 use sqlvalue::DeclaredType;
 use std::alloc::Global;
 use std::test::Fail;
-use syntax::{Expr, Name, Numeral, Op, Statement, SyntaxFault, parse};
+use syntax::{Expr, Item, Name, Numeral, Op, SelectList, Statement, SyntaxFault, parse};
 
 /// Scripts, each with the offset of the first token with which no script goes on, worked out by
 /// hand from the grammar.
 static FAULTS: [(&str, usize); 60] = [
     ("SELECT FROM T;", 7),
     ("SELECT A FROM T", 15),
-    ("SELECT A FROM T U V;", 16),
+    ("SELECT A FROM T U V;", 18),
     ("SELECT A FROM T WHERE A = ;", 26),
     ("SELECT A FROM T WHERE A = 1 = 2;", 28),
     ("FROM T;", 0),
@@ -44,28 +44,28 @@ static FAULTS: [(&str, usize); 60] = [
     ("LOAD T FROM f;", 12),
     ("LOAD T FROM 'f' 'g';", 16),
     ("LOAD T FROM 'f'", 15),
-    ("SELECT * FROM T;", 7),
+    ("SELECT *, A FROM T;", 8),
     ("SELECT ;", 7),
     ("SELECT A;", 8),
     ("SELECT A, FROM T;", 10),
     ("SELECT A B FROM T;", 9),
-    ("SELECT A.B FROM T;", 8),
-    ("SELECT 5 FROM T;", 7),
-    ("SELECT DISTINCT A FROM T;", 7),
+    ("SELECT A.B.C FROM T;", 10),
+    ("SELECT 5 5 FROM T;", 9),
+    ("SELECT DISTINCT ALL A FROM T;", 16),
     ("SELECT A FROM ;", 14),
-    ("SELECT A FROM T, U;", 15),
-    ("SELECT A FROM T ORDER BY A;", 16),
+    ("SELECT A FROM T, ;", 17),
+    ("SELECT A FROM T ORDER A;", 22),
     ("SELECT A FROM T WHERE ;", 22),
-    ("SELECT A FROM T WHERE 5 = A;", 22),
-    ("SELECT A FROM T WHERE (A = 1);", 22),
-    ("SELECT A FROM T WHERE A;", 23),
+    ("SELECT A FROM T WHERE 5 = = A;", 26),
+    ("SELECT A FROM T WHERE (A = 1;", 28),
+    ("SELECT A FROM T WHERE A NOT;", 27),
     ("SELECT A FROM T WHERE A 5;", 24),
-    ("SELECT A FROM T WHERE A IS NULL;", 24),
-    ("SELECT A FROM T WHERE A = B;", 26),
+    ("SELECT A FROM T WHERE A IS 5;", 27),
+    ("SELECT A FROM T WHERE A = B C;", 28),
     ("SELECT A FROM T WHERE A = -;", 27),
-    ("SELECT A FROM T WHERE A = - -1;", 28),
-    ("SELECT A FROM T WHERE A = +'x';", 27),
-    ("SELECT A FROM T WHERE A <> 1 AND A = 2;", 29),
+    ("SELECT A FROM T WHERE A = - -;", 29),
+    ("SELECT A FROM T WHERE A = +'x' 'y';", 31),
+    ("SELECT A FROM T WHERE A <> 1 AND ;", 33),
     ("SELECT A FROM T WHERE A = 1;;", 28),
     ("SELECT A FROM T; SELECT FROM T;", 24),
     ("-- é\nSELECT FROM T;", 13),
@@ -88,6 +88,7 @@ fn faults_stand_where_no_script_goes_on(rt: HostRuntime) {
                 *offset,
                 "the fault of {script}"
             ),
+            Err(SyntaxFault::TooDeep { .. }) => assert!(rt; false, "{script} is flat"),
             Err(SyntaxFault::Memory) => assert!(rt; false, "{script} has room"),
             Ok(_) => assert!(rt; false, "{script} has a fault"),
         }
@@ -127,8 +128,16 @@ fn placed(name: &Name) -> (&str, usize) {
 /// The name of a column.
 fn column(value: &Expr) -> Option<(&str, usize)> {
     match value {
-        Expr::Column(name) => Some(placed(name)),
+        Expr::Column(reference) => Some(placed(&reference.name)),
         _ => None,
+    }
+}
+
+/// The items of a select list.
+fn items(list: &SelectList) -> &[Item] {
+    match list {
+        SelectList::Items(items) => items,
+        SelectList::Asterisk { .. } => &[],
     }
 }
 
@@ -186,9 +195,10 @@ fn select_has_its_columns_and_table(rt: HostRuntime) -> Result<(), Fail> {
     let Statement::Query(select) = &statements[0] else {
         panic!(rt; "a SELECT")
     };
-    assert_eq!(rt; select.block.items.len(), 2);
-    assert_eq!(rt; column(&select.block.items[0].value), Some(("A", 7)));
-    assert_eq!(rt; column(&select.block.items[1].value), Some(("B2", 10)));
+    let items = items(&select.block.list);
+    assert_eq!(rt; items.len(), 2);
+    assert_eq!(rt; column(&items[0].value), Some(("A", 7)));
+    assert_eq!(rt; column(&items[1].value), Some(("B2", 10)));
     assert_eq!(rt; select.block.sources.len(), 1);
     assert_eq!(rt; placed(&select.block.sources[0].table), ("T", 18));
     assert!(rt; select.block.condition.is_none());
@@ -201,7 +211,14 @@ fn comparison(statement: &Statement) -> Option<(&Expr, Op, &Expr)> {
         return None;
     };
     match &select.block.condition {
-        Some(Expr::Compare { op, left, right }) => Some((&**left, *op, &**right)),
+        Some(
+            Expr::Compare {
+                op,
+                left,
+                right,
+                ..
+            },
+        ) => Some((&**left, *op, &**right)),
         _ => None,
     }
 }
@@ -210,7 +227,7 @@ fn comparison(statement: &Statement) -> Option<(&Expr, Op, &Expr)> {
 fn number(literal: &Expr) -> Option<(Option<bool>, Numeral)> {
     match literal {
         Expr::Numeral(numeral) => Some((None, *numeral)),
-        Expr::Signed { minus, operand } => match &**operand {
+        Expr::Signed { minus, operand, .. } => match &**operand {
             Expr::Numeral(numeral) => Some((Some(*minus), *numeral)),
             _ => None,
         },

@@ -1,4 +1,6 @@
-pub mod Simple
+pub mod Elements
+pub mod NotYet
+pub mod Comparing
 pub mod Scripts
 pub mod Bound
 pub mod Lines

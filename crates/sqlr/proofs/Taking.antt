@@ -1,8 +1,11 @@
 -- What a statement's call gives is a step of the definitions.
-use Rattle.std.proofs.Common.{ℕ, ◌≡◌, ◌≢◌, ◌∙◌, ◌++◌, refl, sym, ap, List, [], ◌∷◌, Option, Some, None, Result, Ok, Err, IfOk, IfSome, Bor, arith}
+use Rattle.std.proofs.Common.{ℕ, ◌<◌, ◌≡◌, ◌≢◌, ◌∙◌, ◌++◌, refl, sym, ap, ap₂, suc, length, take, get_or, List, [], ◌∷◌, Option, Some, None, Result, Ok, Err, IfOk, IfSome, Bor, arith}
+use Rattle.std.proofs.lemmas.List.{map-append}
 use Rattle.std.proofs.lemmas.List.Sorted.{IsPermutation-refl}
 use Rattle.std.specs.Prelude.{true, false, is_some}
 use Rattle.std.specs.Option.{option_copied}
+use Rattle.std.specs.List.{AllByRecursion}
+use Rattle.definitions.specs.NotYet.{IsPlainDefinition}
 use Rattle.definitions.specs.Statement as tree
 use Rattle.definitions.specs.Statement.{Name, Statement, ColumnDefinition, Block}
 use Rattle.definitions.specs.Table.{Table, Database, table_named, new_table}
@@ -14,13 +17,17 @@ use Rattle.definitions.specs.Step as step
 use Rattle.definitions.specs.Step.{Answering, State, Step}
 use Rattle.catalog.specs.Loads.{LoadsNamed, RefusesNamed}
 use Rattle.catalog.specs.Meaning as catalog
+use Rattle.catalog.specs.declared.table.NewColumn.{NewColumn}
 use Rattle.catalog.specs.declared.fault.LoadFault.TheVariants as l
 use Rattle.catalog.specs.declared.fault.RefusedRecord.{RefusedRecord}
+use Rattle.syntax.specs.declared.tree.ColumnDefinition as syntax
+use Rattle.syntax.specs.Trees.{constraint_of, definition_of, definitions_of, name_of}
 use Rattle.sqlr.specs.declared.ended.Ended.TheVariants as e
 use Rattle.sqlr.specs.declared.outcome.Printed.{Printed}
 use Rattle.sqlr.specs.declared.outcome.StepFault.{StepFault}
 use Rattle.sqlr.specs.Selecting.{PrintsTable}
 use Rattle.sqlr.specs.Sessions.{Takes, TakesBytes}
+use Rattle.sqlr.proofs.Elements.{at_place, front}
 
 -- ---- the table of a name
 
@@ -52,10 +59,19 @@ pub table_created : {L : Type 0} (answers : Answering L) (old new : State L) (na
     → new ≡ record old { database = old.database ++ new_table name columns ∷ [] } → p.text.items ≡ done_text → p.ended ≡ e.Well → Takes answers old (tree.CreateTable name columns) new p
 table_created answers old new name columns p a n t d = (step.Well, step.created name columns refl a n t refl, d)
 
+-- the columns so far, and one more
+pub one_column : (ds : List syntax.ColumnDefinition) (i : ℕ) (d : syntax.ColumnDefinition) (ns : List NewColumn) (n : NewColumn) → i < length ds → d ≡ get_or ds i d → AllByRecursion IsPlainDefinition (definitions_of ds)
+    → n.name.now ≡ name_of d.name → n.declared ≡ d.declared → catalog.definitions_of ns ≡ definitions_of (take i ds) → catalog.definitions_of (ns ++ n ∷ []) ≡ definitions_of (take (suc i) ds)
+one_column ds i d ns n l e all name declared h =
+    let plain : constraint_of d.constraint ≡ tree.Nullable = at_place IsPlainDefinition definition_of ds i d all l e in
+    let same : catalog.definition_of n ≡ definition_of d = rw (name, declared, plain) refl in
+    map-append catalog.definition_of ns (n ∷ []) ∙ ap₂ (λ (xs ys : List ColumnDefinition). xs ++ ys) h (ap (λ (x : ColumnDefinition). x ∷ []) same) ∙ front definition_of ds i d l e
+
 -- ---- LOAD
 
 load_accepted : (db : Database) (name : Name) (file : List ℕ) → table_named db name ≢ None → faults.IsAccepted db (tree.Load name file)
 load_accepted db name file h f (faults.no_table n g e) = h e
+load_accepted db name file h f (faults.not_yet s n) = n tt
 
 pub no_file_told : {L : Type 0} (answers : Answering L) (old new : State L) (library : L) (name : Name) (file : List ℕ) (result : Result Printed StepFault) → table_named old.database name ≢ None → answers old.library file None library
     → new ≡ record old { library = library } → IfOk result (λ (p : Printed). p.text.items ≡ refusal_text r.NoFile) → IfOk result (λ (p : Printed). p.ended ≡ e.Faulted) → IfOk result (Takes answers old (tree.Load name file) new)
@@ -107,6 +123,6 @@ limit_told db db' name bytes (Err f) h n x d = tt
 
 -- ---- SELECT
 
-pub answer_printed : {L : Type 0} (answers : Answering L) (s : State L) (b : Block) (p : Printed) → PrintsTable s.database b p.text.items → p.ended ≡ e.Well → Takes answers s (tree.Query (record { block = b })) s p
+pub answer_printed : {L : Type 0} (answers : Answering L) (s : State L) (b : Block) (p : Printed) → PrintsTable s.database b p.text.items → p.ended ≡ e.Well → Takes answers s (tree.Query (record { block = b; order = [] })) s p
 answer_printed answers s b p h d =
-    (step.Well, step.query (record { block = b }) h.from.source h.table (answer h.table b) refl h.accepted h.from.single h.from.named (IsPermutation-refl _) refl h.is refl, d)
+    (step.Well, step.query (record { block = b; order = [] }) h.from.source h.table (answer h.table b) refl h.accepted h.from.single h.from.named (IsPermutation-refl _) refl h.is refl, d)

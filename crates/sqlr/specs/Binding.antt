@@ -1,8 +1,8 @@
 -- What a bound query stands for.
 use Rattle.std.specs.Prelude.{ℕ, ◌≡◌, ◌<◌, ⊤, List, [], ◌∷◌, Bool, true, false, Option, Some, None, length, map, filter, option_map, unwrap_or, slice_index_or, if◌then◌else◌, All, IfSome}
-use Rattle.definitions.specs.Value.{Value, Null, Text, compare, SqlType, Char, Texts, Numbers}
+use Rattle.definitions.specs.Value.{Value, Null, Text, compare, Texts, Numbers}
 use Rattle.definitions.specs.Statement as tree
-use Rattle.definitions.specs.Statement.{Expr, Item, Source, Block, Query}
+use Rattle.definitions.specs.Statement.{Expr, Item, Source, Block, Query, block_sources}
 use Rattle.definitions.specs.Table.{Column, Row, Table, Database, table_named}
 use Rattle.definitions.specs.Refusal as r
 use Rattle.definitions.specs.Faults as faults
@@ -83,7 +83,7 @@ BindsCondition t _ _ = ⊥
 -- the table that a query reads
 pub record IsFrom (db : Database) (b : Block) (t : Table) : Type 0 where
   pub source : Source
-  pub single : b.sources ≡ source ∷ []
+  pub single : block_sources b ≡ source ∷ []
   pub named : table_named db source.table ≡ Some t
 
 abbrev pub is_text : Value → Bool

@@ -1,28 +1,29 @@
 //! What a query names, found in the database and judged.
 
-ghost use Rattle.std.specs.Prelude.{◌≡◌, ◌<◌, ◌≤◌, ◌∷◌, [], All, Some, length, map, pos, IsNone, IfOk, IfErr, IfSome, OnOk};
+ghost use Rattle.std.specs.Prelude.{◌≡◌, ◌<◌, ◌≤◌, ◌∷◌, [], All, Some, None, length, map, pos, IsNone, IfOk, IfErr, IfSome, OnOk};
 ghost use Rattle.std.specs.List.{AllByRecursion};
 ghost use Rattle.definitions.specs.Answer as answer;
 ghost use Rattle.definitions.specs.Printing.{expr_name};
 ghost use Rattle.definitions.specs.Limits.{greatest_scale};
 ghost use Rattle.definitions.specs.Faults as faults;
 ghost use Rattle.definitions.specs.Refusal as refusal;
-ghost use Rattle.definitions.specs.Statement.{Query, Signed};
+ghost use Rattle.definitions.specs.Statement.{Query, Signed, block_items, block_sources, condition_expr};
+ghost use Rattle.definitions.specs.NotYet.{IsPlainBlock, IsColumn, IsColumnItem, IsNumeral, IsLiteral, IsComparison, IsWhere};
 ghost use Rattle.definitions.specs.Value.{Number};
 ghost use Rattle.catalog.specs.Places.{IsColumnPlace};
 ghost use Rattle.sqlvalue.specs.Meaning.{value_of};
-ghost use Rattle.syntax.specs.Trees.{block_of, condition_of, expr_of, item_of, name_of, source_of};
+ghost use Rattle.syntax.specs.Trees.{block_of, condition_of, expr_of, item_of, name_of};
 ghost use Rattle.sqlr.specs.declared.binding.BindFault.TheVariants as bind_fault;
 ghost use Rattle.sqlr.specs.Binding as spec;
 ghost use Rattle.sqlr.specs.Binding.{IsPlaced, ArePlaces, Binds, BindsCondition, IsExprFault, IsFaultless, IsFrom, IsLiteralValue, bind_refusal, rows_of};
 ghost use Rattle.sqlr.specs.Meaning.{query_refusal};
-ghost use Rattle.sqlr.specs.Simple.{IsSimple, IsSingle, IsColumn, IsColumnItem, IsNumeral, IsLiteral, IsComparison, IsCondition};
 
 use crate::cause::QueryCause;
+use crate::not_yet::bare;
 use catalog::{Database, Table};
 use sqlvalue::{Num, Value};
 use std::alloc::{AllocError, AllocFailed, Global};
-use syntax::{Block, Expr, Item, Name, Numeral, Op};
+use syntax::{Block, Expr, Item, Name, Numeral, Op, SelectList};
 
 /// How many items a select list may have (own).
 pub const MAX_ITEMS: usize = 64;
@@ -83,24 +84,25 @@ pub fn bind<'d, 'q>(
     database: &'d Database,
     block: &'q Block,
 ) -> Result<Bound<'d, 'q>, BindFault<'q>>
-    requires { IsSimple (block_of block.now) }
+    requires { IsPlainBlock (block_of block.now) }
     ensures placed { IfOk result IsPlaced }
-    ensures accepted { IfOk result (λ b. faults.IsAccepted database.now (Query (record { block = block_of block.now }))) }
+    ensures accepted { IfOk result (λ b. faults.IsAccepted database.now (Query (record { block = block_of block.now; order = [] }))) }
     ensures table { IfOk result (λ b. IsFrom database.now (block_of block.now) b.table.now) }
     ensures rows { IfOk result (λ b. rows_of b b.table.now.rows ≡ answer.answer b.table.now (block_of block.now)) }
     ensures refused { IfErr result (λ f. IfSome (bind_refusal f) (faults.BlockFaulty database.now (block_of block.now))) }
 {
     let name = source_name(block);
-    if block.items.len() > MAX_ITEMS {
+    let items = items(block);
+    if items.len() > MAX_ITEMS {
         return Err(BindFault::Refused(QueryCause::ManyItems {
-            items: block.items.len(),
+            items: items.len(),
             table: name,
         }));
     }
     let Some(table) = database.table(name.text.as_str()) else {
         return Err(BindFault::Refused(QueryCause::NoTable(name)));
     };
-    let columns = item_columns(alloc, table, name, &block.items)?;
+    let columns = item_columns(alloc, table, name, items)?;
     let condition = bind_condition(table, name, &block.condition)?;
     Ok(Bound {
         table,
@@ -111,13 +113,23 @@ pub fn bind<'d, 'q>(
 
 /// The name of the table that a query reads.
 fn source_name(block: &Block) -> &Name
-    requires { IsSingle (map source_of block.now.sources.items) }
-    ensures { map source_of block.now.sources.items ≡ record { table = name_of result.now } ∷ [] }
+    requires { IsPlainBlock (block_of block.now) }
+    ensures { block_sources (block_of block.now) ≡ record { table = name_of result.now; correlation = None } ∷ [] }
 {
     let [source] = block.sources.as_slice() else {
         unreachable!()
     };
     &source.table
+}
+
+/// The items of a select list; an asterisk is none.
+pub fn items(block: &Block) -> &[Item]
+    ensures { map item_of result.now ≡ block_items (block_of block.now) }
+{
+    match &block.list {
+        SelectList::Items(items) => items,
+        SelectList::Asterisk { .. } => &[],
+    }
 }
 
 /// The places of the columns of a select list.
@@ -151,10 +163,10 @@ fn column_place(table: &Table, expr: &Expr) -> Option<usize>
     ensures known { IfSome result (λ place. faults.NamesUnknown table.now (expr_of expr.now) → ⊥) }
     ensures unknown { IsNone result → faults.NamesUnknown table.now (expr_of expr.now) }
 {
-    let Expr::Column(name) = expr else {
+    let Expr::Column(reference) = bare(expr) else {
         unreachable!()
     };
-    table.column(name.text.as_str())
+    table.column(reference.name.text.as_str())
 }
 
 /// That a table has no column of a name.
@@ -162,10 +174,13 @@ fn no_column<'a>(table: &'a Name, expr: &'a Expr) -> QueryCause<'a>
     requires { IsColumn (expr_of expr.now) }
     ensures { query_refusal result ≡ refusal.UnknownColumn }
 {
-    let Expr::Column(column) = expr else {
+    let Expr::Column(reference) = bare(expr) else {
         unreachable!()
     };
-    QueryCause::NoColumn { table, column }
+    QueryCause::NoColumn {
+        table,
+        column: &reference.name,
+    }
 }
 
 fn bind_condition<'a>(
@@ -173,10 +188,10 @@ fn bind_condition<'a>(
     name: &'a Name,
     condition: &'a Option<Expr>,
 ) -> Result<Option<Comparison<'a>>, QueryCause<'a>>
-    requires { IsCondition (condition_of condition.now) }
+    requires { IsWhere (condition_of condition.now) }
     ensures within { IfOk result (λ bound. IfSome bound (λ c. c.column < length table.now.columns)) }
-    ensures binds { IfOk result (BindsCondition table.now (condition_of condition.now)) }
-    ensures refused { IfErr result (λ f. faults.IfPresent (λ e. IsExprFault table.now e (query_refusal f)) (condition_of condition.now)) }
+    ensures binds { IfOk result (BindsCondition table.now (condition_expr (condition_of condition.now))) }
+    ensures refused { IfErr result (λ f. faults.IfPresent (λ e. IsExprFault table.now e (query_refusal f)) (condition_expr (condition_of condition.now))) }
 {
     let Some(condition) = condition else {
         return Ok(None);
@@ -198,7 +213,13 @@ fn bind_comparison<'a>(
     ensures faultless { OnOk result (IsFaultless table.now (expr_of expr.now)) }
     ensures refused { IfErr result (λ f. IsExprFault table.now (expr_of expr.now) (query_refusal f)) }
 {
-    let Expr::Compare { op, left, right } = expr else {
+    let Expr::Compare {
+        op,
+        left,
+        right,
+        ..
+    } = bare(expr)
+    else {
         unreachable!()
     };
     let Some(column) = column_place(table, left) else {
@@ -222,12 +243,12 @@ fn mixed_kinds<'a>(table: &'a Name, expr: &'a Expr, literal: &'a Expr) -> QueryC
     requires { IsColumn (expr_of expr.now) }
     ensures { query_refusal result ≡ refusal.MixedKinds }
 {
-    let Expr::Column(column) = expr else {
+    let Expr::Column(reference) = bare(expr) else {
         unreachable!()
     };
     QueryCause::MixedKinds {
         table,
-        column,
+        column: &reference.name,
         literal,
     }
 }
@@ -247,10 +268,10 @@ fn literal_value(expr: &Expr) -> Option<Value<'_>>
     ensures value { IfSome result (λ v. IsLiteralValue (expr_of expr.now) (value_of v)) }
     ensures great { IsNone result → faults.HasGreatScale (expr_of expr.now) }
 {
-    match expr {
+    match bare(expr) {
         Expr::Numeral(numeral) => number(*numeral, false),
         Expr::String(literal) => Some(Value::Text(literal.text.as_str())),
-        Expr::Signed { minus, operand } => signed_value(*minus, operand),
+        Expr::Signed { minus, operand, .. } => signed_value(*minus, operand),
         _ => unreachable!(),
     }
 }
@@ -260,7 +281,7 @@ fn signed_value<'a>(minus: bool, operand: &Expr) -> Option<Value<'a>>
     ensures value { IfSome result (λ v. IsLiteralValue (Signed minus (expr_of operand.now)) (value_of v)) }
     ensures great { IsNone result → faults.HasGreatScale (expr_of operand.now) }
 {
-    let Expr::Numeral(numeral) = operand else {
+    let Expr::Numeral(numeral) = bare(operand) else {
         unreachable!()
     };
     number(*numeral, minus)

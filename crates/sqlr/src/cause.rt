@@ -7,7 +7,7 @@ ghost use Rattle.sqlr.specs.Meaning.{query_refusal};
 use catalog::{CreateFault, RefusedRecord};
 use lexer::LexFault;
 use refusals::Refusal;
-use syntax::{ColumnDefinition, Expr, Name, StringLiteral, Unexpected};
+use syntax::{ColumnDefinition, Expr, Name, Statement, StringLiteral, Unexpected};
 
 /// A refusal and its cause.
 #[derive(Drop)]
@@ -24,6 +24,13 @@ pub enum Cause<'a> {
     Lexical(LexFault),
     /// Its tokens are no statements.
     Unexpected(Unexpected),
+    /// More than 64 levels are open with the token at a byte of the script, which has so many bytes.
+    TooDeep {
+        offset: usize,
+        length: usize,
+    },
+    /// A statement can't be run so far.
+    NotYet(&'a Statement),
     /// A table is not made.
     Create {
         name: &'a Name,

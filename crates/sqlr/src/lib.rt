@@ -5,6 +5,7 @@ mod binding;
 mod cause;
 mod ended;
 mod library;
+mod not_yet;
 mod outcome;
 mod printing;
 mod script;

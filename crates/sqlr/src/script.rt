@@ -40,6 +40,13 @@ pub fn parse_script(alloc: Global, script: &str) -> Result<Vec<Statement>, Scrip
             },
             offset: unexpected.offset,
         }),
+        Err(SyntaxFault::TooDeep { offset, length }) => Err(ScriptFault::Refused {
+            refused: Refused {
+                refusal: Refusal::TooDeep,
+                cause: Cause::TooDeep { offset, length },
+            },
+            offset,
+        }),
         Err(SyntaxFault::Memory) => Err(ScriptFault::Memory),
     }
 }

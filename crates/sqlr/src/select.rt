@@ -3,14 +3,15 @@
 ghost use Rattle.std.specs.Prelude.{◌≡◌, ◌<◌, ◌++◌, [], All, IfOk, IfErr, IfSome, OnOk, length, filter, map, slice_index_or};
 ghost use Rattle.definitions.specs.Answer as spec;
 ghost use Rattle.definitions.specs.Printing.{fields_line, item_name, row_line, table_text};
+ghost use Rattle.definitions.specs.NotYet.{IsPlainBlock};
 ghost use Rattle.definitions.specs.Faults as faults;
 ghost use Rattle.sqlvalue.specs.Meaning.{value_of};
 ghost use Rattle.syntax.specs.Trees.{op_of, block_of, item_of};
 ghost use Rattle.sqlr.specs.Binding.{IsPlaced, keeps, is_true, row_of, bind_refusal, values_at};
 ghost use Rattle.sqlr.specs.Selecting.{PrintsTable};
-ghost use Rattle.sqlr.specs.Simple.{IsSimple, IsColumnItem};
 
-use crate::binding::{BindFault, Bound, Comparison, bind};
+use crate::binding::{BindFault, Bound, Comparison, bind, items};
+use crate::not_yet::bare;
 use crate::printing::{write_decimal, write_value};
 use catalog::{Database, Table};
 use sqlvalue::compare;
@@ -24,14 +25,14 @@ pub fn select<'q>(
     database: &Database,
     block: &'q Block,
 ) -> Result<Vec<u8>, BindFault<'q>>
-    requires { IsSimple (block_of block.now) }
+    requires { IsPlainBlock (block_of block.now) }
     ensures prints { IfOk result (λ text. PrintsTable database.now (block_of block.now) text.items) }
     ensures refused { IfErr result (λ f. IfSome (bind_refusal f) (faults.BlockFaulty database.now (block_of block.now))) }
 {
     let bound = bind(alloc, database, block)?;
     let rows = answer_rows(alloc, &bound)?;
     let mut out = Vec::new(alloc);
-    write_table(&mut out, &bound, &block.items, &rows)?;
+    write_table(&mut out, &bound, items(block), &rows)?;
     Ok(out)
 }
 
@@ -87,8 +88,8 @@ fn write_header(out: &mut Vec<u8>, items: &[Item]) -> Result<(), AllocError>
 fn name_of(item: &Item) -> &str
     ensures { result.now ≡ item_name (item_of item.now) }
 {
-    match &item.value {
-        Expr::Column(name) => name.text.as_str(),
+    match bare(&item.value) {
+        Expr::Column(reference) => reference.name.text.as_str(),
         _ => "",
     }
 }

@@ -2,21 +2,22 @@
 
 ghost use Rattle.std.specs.Prelude.{◌≡◌, ◌≢◌, ◌≤◌, [], None, map, IfOk, IfErr, OnErr};
 ghost use Rattle.std.specs.List.{AllByRecursion};
+ghost use Rattle.definitions.specs.NotYet.{IsPlain, IsPlainDefinition};
 ghost use Rattle.definitions.specs.Printing.{fault_text};
 ghost use Rattle.definitions.specs.Statement as tree;
 ghost use Rattle.definitions.specs.Step.{AreStatements};
 ghost use Rattle.definitions.specs.Table.{table_named};
 ghost use Rattle.refusals.specs.Meaning.{refusal_of};
 ghost use Rattle.catalog.specs.Meaning as catalog;
-ghost use Rattle.syntax.specs.Trees.{block_of, definitions_of, name_of, statement_of, statements_of, text_of};
+ghost use Rattle.syntax.specs.Trees.{definitions_of, name_of, select_of, statement_of, statements_of, text_of};
 ghost use Rattle.sqlr.specs.declared.outcome.StepFault.TheVariants as fault;
 ghost use Rattle.sqlr.specs.Sessions.{BreaksIn, BreaksLine, BreaksOff, IsBlamed, IsBoth, IsLibraryBlamed, IsSinkBlamed, Prints, Runs, RunsAll, Takes, TakesBytes};
-ghost use Rattle.sqlr.specs.Simple.{IsSimple, IsSimpleStatement};
 
 use crate::binding::BindFault;
 use crate::cause::{Cause, Refused};
 use crate::ended::{Ended, RunFault};
 use crate::library::{FetchFault, Fetched, Library};
+use crate::not_yet::can_run;
 use crate::outcome::{Printed, StepFault, done, refused, refused_record};
 use crate::printing::{LOADED_ROOM, write_fault, write_loaded};
 use crate::script::{ScriptFault, parse_script};
@@ -26,7 +27,7 @@ use catalog::{Database, LoadFault, NewColumn};
 use refusals::Refusal;
 use std::alloc::{AllocError, Global};
 use std::marker::Model;
-use syntax::{Block, ColumnDefinition, Name, Statement, StringLiteral};
+use syntax::{ColumnDefinition, Name, Select, Statement, StringLiteral};
 
 /// A database, and the library that LOAD finds its files in.
 #[derive(Drop)]
@@ -111,7 +112,6 @@ impl<L: Library> Session<L> {
         statements: &[Statement],
         sink: &mut S,
     ) -> Result<Ended, RunFault>
-        requires { AllByRecursion IsSimpleStatement (statements_of statements.now) }
         ensures runs { IfOk result (RunsAll L.answers self.old (statements_of statements.now) self.new (S.taken sink.old) (S.taken sink.new)) }
         ensures breaks { IfErr result (BreaksIn L.answers self.old (statements_of statements.now) self.new (S.taken sink.old) (S.taken sink.new)) }
         ensures library { IfErr result (IsLibraryBlamed (L.failures self.old.library) (L.failures self.new.library)) }
@@ -137,16 +137,20 @@ impl<L: Library> Session<L> {
 
     /// Runs a statement. One that breaks off has changed nothing in the database.
     fn step<'a>(&mut self, statement: &'a Statement) -> Result<Printed<'a>, StepFault>
-        requires { IsSimpleStatement (statement_of statement.now) }
         ensures takes { IfOk result (Takes L.answers self.old (statement_of statement.now) self.new) }
         ensures kept { OnErr result (self.new.database ≡ self.old.database) }
         ensures blamed { IfErr result (IsBlamed (L.failures self.old.library) (L.failures self.new.library)) }
         ensures counted { L.failures self.old.library ≤ L.failures self.new.library }
     {
+        if !can_run(statement) {
+            let cause = Cause::NotYet(statement);
+            return refused(self.alloc, Refusal::OverQueryLimit, cause);
+        }
         match statement {
             Statement::CreateTable { name, columns } => self.create_table(name, columns),
             Statement::Load { table, file } => self.load(table, file),
-            Statement::Query(query) => self.query(&query.block),
+            Statement::Query(query) => self.query(query),
+            _ => unreachable!(),
         }
     }
 
@@ -155,6 +159,7 @@ impl<L: Library> Session<L> {
         name: &'a Name,
         columns: &'a [ColumnDefinition],
     ) -> Result<Printed<'a>, StepFault>
+        requires { AllByRecursion IsPlainDefinition (definitions_of columns.now) }
         ensures takes { IfOk result (Takes L.answers self.old (tree.CreateTable (name_of name.now) (definitions_of columns.now)) self.new) }
         ensures kept { OnErr result (self.new.database ≡ self.old.database) }
         ensures memory { IfErr result (λ f. f ≡ fault.Memory) }
@@ -234,12 +239,12 @@ impl<L: Library> Session<L> {
         }
     }
 
-    fn query<'a>(&self, block: &'a Block) -> Result<Printed<'a>, StepFault>
-        requires { IsSimple (block_of block.now) }
-        ensures takes { IfOk result (Takes L.answers self.now (tree.Query (record { block = block_of block.now })) self.now) }
+    fn query<'a>(&self, query: &'a Select) -> Result<Printed<'a>, StepFault>
+        requires { IsPlain (select_of query.now) }
+        ensures takes { IfOk result (Takes L.answers self.now (tree.Query (select_of query.now)) self.now) }
         ensures memory { IfErr result (λ f. f ≡ fault.Memory) }
     {
-        match select(self.alloc, &self.database, block) {
+        match select(self.alloc, &self.database, &query.block) {
             Ok(text) => Ok(done(text)),
             Err(BindFault::Refused(cause)) => {
                 refused(self.alloc, cause.refusal(), Cause::Query(cause))
@@ -262,11 +267,14 @@ fn explain<S: Sink>(sink: &mut S, refused: &Option<Refused>, database: &Database
 /// Where a statement names its table, or LOAD its file: the offset in the script.
 fn place_of(statement: &Statement) -> usize {
     match statement {
-        Statement::CreateTable { name, .. } => name.start,
+        Statement::CreateTable { name: table, .. }
+        | Statement::CreateIndex { table, .. }
+        | Statement::SetTable { table, .. }
+        | Statement::SetIndex { table, .. } => table.start,
         Statement::Load { file, .. } => file.start,
-        Statement::Query(query) => match query.block.sources.first() {
+        Statement::Query(query) | Statement::Explain(query) => match query.block.sources.first() {
             Some(source) => source.table.start,
-            None => 0,
+            None => query.block.start,
         },
     }
 }
@@ -281,11 +289,12 @@ fn both(first: Ended, second: Ended) -> Ended
     }
 }
 
-/// The columns of a new table.
+/// The columns of a new table, of whose values nothing is asked.
 fn new_columns<'a>(
     alloc: Global,
     definitions: &'a [ColumnDefinition],
 ) -> Result<Vec<NewColumn<'a>>, AllocError>
+    requires { AllByRecursion IsPlainDefinition (definitions_of definitions.now) }
     ensures { IfOk result (λ columns. catalog.definitions_of columns.items ≡ definitions_of definitions.now) }
 {
     let mut columns = Vec::new(alloc);

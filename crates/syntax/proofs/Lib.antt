@@ -1,6 +1,9 @@
-pub mod Locality
-pub mod Places
-pub mod Quotes
-pub mod Stopping
-pub mod Parts
-pub mod Scripts
+mod Tokens
+mod Quotes
+pub mod Views
+mod Stopping
+mod Outcomes
+mod Lists
+mod Opening
+mod Lines
+mod Scripts

@@ -1,78 +1,24 @@
--- A script, statement by statement.
-use Rattle.std.proofs.Common.{◌≡◌, ◌∙◌, refl, sym, ap, ℕ, ◌+◌, ◌<◌, ◌≤◌, List, [], ◌∷◌, ◌++◌, Option, Some, None, length, arith, append_assoc, append-nil, subst, zero, suc, take, add-one, inl, inr}
-use Rattle.std.specs.Prelude.{slice_get, ⊤, MatchOption}
+-- Scripts, statement by statement; and where one stops, the text has a syntax fault.
+use Rattle.std.proofs.Common.{◌≡◌, ◌∙◌, refl, sym, ap, subst, ℕ, zero, suc, ◌+◌, ◌-◌, ◌<◌, ◌≤◌, length, take, List, [], ◌∷◌, ◌++◌, Option, Some, None, Result, Ok, Err, arith, add-one, append_assoc, append-nil}
+use Rattle.std.specs.Prelude.{slice_get}
+use Rattle.definitions.specs.Limits.{most_levels}
+use Rattle.definitions.specs.Refusal as refusal
 use Rattle.definitions.specs.Token.{TokenKind, Mark, Semicolon}
 use Rattle.definitions.specs.Statement.{Statement}
+use Rattle.definitions.specs.Rule.{At, NotAt}
 use Rattle.definitions.specs.Grammar as g
-use Rattle.definitions.proofs.Grammar.{begins_with, past_end}
-use Rattle.syntax.specs.declared.fault.Stop.{Stop}
-use Rattle.syntax.specs.declared.fault.Stop.TheVariants as s
+use Rattle.definitions.specs.Grammar.{within}
+use Rattle.definitions.proofs.Grammar.{statement_alike, within_alike, no_token_there}
 use Rattle.lexer.specs.declared.token.Token.{Token}
 use Rattle.lexer.specs.Meaning.{token_of, tokens_of}
+use Rattle.syntax.specs.declared.fault.Stop.{Stop}
+use Rattle.syntax.specs.declared.fault.Stop.TheVariants as s
+use Rattle.syntax.specs.declared.fault.SyntaxFault.{SyntaxFault}
+use Rattle.syntax.specs.declared.fault.SyntaxFault.TheVariants as f
 use Rattle.syntax.specs.Trees.{kinds_of}
-use Rattle.syntax.specs.Reading.{Agree, Stops, StopsScript, start_or, stop_offset}
-use Rattle.syntax.proofs.Locality.{same_statement}
-
--- the statements so far, with any rest, are the whole
-abbrev pub Extends : List TokenKind → ℕ → List Statement → Type 0
-Extends ts at xs = (ys : List Statement) → g.ScriptAt ts at ys → g.ScriptAt ts 0 (xs ++ ys)
-
--- every script that begins so has a rest there
-abbrev pub Reaches : List TokenKind → ℕ → Type 0
-Reaches ts at = (us : List TokenKind) (n : ℕ) → at ≤ n → Agree ts us n → (xs : List Statement) → g.ScriptAt us 0 xs → (ys : List Statement) × g.ScriptAt us at ys
-
-pub none_extends : (ts : List TokenKind) → Extends ts 0 []
-none_extends ts ys d = d
-
-pub none_reaches : (ts : List TokenKind) → Reaches ts 0
-none_reaches ts us n l a xs d = (xs, d)
-
-pub next_extends : (ts : List TokenKind) (at end after : ℕ) (xs : List Statement) (x : Statement) → Extends ts at xs → g.StatementAt ts at end x → g.At ts end (Mark Semicolon) → after ≡ end + 1 → Extends ts after (xs ++ x ∷ [])
-next_extends ts at end after xs x so d c e ys r = rw append_assoc (so (x ∷ ys) (g.next at end x ys d c (rw e at r)))
-
--- a script that goes on goes on behind its next statement
-step : (ts us : List TokenKind) (n : ℕ) → Agree ts us n → (at end after : ℕ) (x : Statement) (ys : List Statement) → at < length ts → after ≤ n → at ≤ end → g.StatementAt ts at end x → after ≡ end + 1 → g.ScriptAt us at ys → (zs : List Statement) × g.ScriptAt us after zs
-step ts us n a at end after x ys i l b d e (g.end p q) = absurd (past_end us _ (sym (ap (λ k. slice_get us k) q) ∙ a at (omega (arith, e, l, b)) ∙ begins_with ts at end x d))
-step ts us n a at end after x ys i l b d e (g.next p m y rest h c r) =
-    let t = same_statement ts us n a _ _ _ _ _ (omega (arith, e, l)) d h in (rest, rw (e, t.0) r)
-
-pub next_reaches : (ts : List TokenKind) (at end after : ℕ) (x : Statement) → at < length ts → at ≤ end → Reaches ts at → g.StatementAt ts at end x → after ≡ end + 1 → Reaches ts after
-next_reaches ts at end after x i b so d e us n l a xs h =
-    let q = so us n (omega (arith, e, l, b)) a xs h in step ts us n a at end after x q.0 i l b d e q.1
-
-pub at_end : (ts : List TokenKind) (at : ℕ) (xs : List Statement) → at ≡ length ts → Extends ts at xs → g.ScriptAt ts 0 xs
-at_end ts at xs e so = let P : List Statement → Type 0 = λ zs. g.ScriptAt ts 0 zs in subst P (append-nil xs) (so [] (g.end at e))
-
--- where the next statement stops, or no semicolon follows it, the script stops
-through : (ts us : List TokenKind) (n : ℕ) → Agree ts us n → (at : ℕ) (ys : List Statement) → at < length ts → at ≤ n → (k : TokenKind) → slice_get ts at ≡ Some k → g.ScriptAt us at ys → (to : ℕ) × (x : Statement) × g.StatementAt us at to x
-through ts us n a at ys i l k h (g.end p q) = absurd (past_end us k (ap (λ m. slice_get us m) (sym q) ∙ a at l ∙ h))
-through ts us n a at ys i l k h (g.next p m y rest d c r) = (m, y, d)
-
-token_there : (ts : List TokenKind) (at : ℕ) → at < length ts → (k : TokenKind) × (slice_get ts at ≡ Some k)
-token_there [] at h = absurd (omega (arith, h))
-token_there (t ∷ ts) zero h = (t, refl)
-token_there (t ∷ ts) (suc at) h = token_there ts at (omega (arith, h))
-
-pub statement_stops : (ts : List TokenKind) (at : ℕ) (stop : Stop) → at < length ts → Reaches ts at → Stops g.StatementAt ts at stop → StopsScript ts 0 stop
-statement_stops ts at (s.Token n) i so h =
-    (omega arith, λ us a xs d. let q = so us n h.0 a xs d in let t = token_there ts at i in let z = through ts us n a at q.0 i h.0 t.0 t.1 q.1 in h.1 us a z.0 z.1 z.2)
-statement_stops ts at s.Memory i so h = tt
-
-semicolon : (ts us : List TokenKind) (n : ℕ) → Agree ts us n → (at end : ℕ) (x : Statement) (ys : List Statement) → at < length ts → end ≤ n → at ≤ end → g.StatementAt ts at end x → g.ScriptAt us at ys → g.At us end (Mark Semicolon)
-semicolon ts us n a at end x ys i l b d (g.end p q) = absurd (past_end us _ (ap (λ m. slice_get us m) (sym q) ∙ a at (omega (arith, l, b)) ∙ begins_with ts at end x d))
-semicolon ts us n a at end x ys i l b d (g.next p m y rest h c r) = let t = same_statement ts us n a _ _ _ _ _ l d h in rw t.0 c
-
-pub semicolon_stops : (ts : List TokenKind) (at end : ℕ) (x : Statement) (stop : Stop) → at < length ts → at ≤ end → Reaches ts at → g.StatementAt ts at end x → (stop ≡ s.Token end) × g.NotAt ts end (Mark Semicolon) → StopsScript ts 0 stop
-semicolon_stops ts at end x (s.Token n) i b so d h =
-    let e : n ≡ end = cc (h.0) in
-    (omega arith, λ us a xs f. let q = so us n (omega (arith, e, b)) a xs f in h.1 (sym (a end (omega (arith, e))) ∙ semicolon ts us n a at end x q.0 i (omega (arith, e)) b d q.1))
-semicolon_stops ts at end x s.Memory i b so d h = tt
-
-pub script_without_memory : (ts : List TokenKind) (at : ℕ) (stop : Stop) → stop ≡ s.Memory → StopsScript ts at stop
-script_without_memory ts at (s.Token n) e = absurd cc
-script_without_memory ts at s.Memory e = tt
-
--- ---- the fault of a script
+use Rattle.syntax.specs.Reading.{Place, IsNext, Agree, Nowhere, Stops, Outcome, ScriptIn, ParsesScript, IsSyntaxFault, TellsStop, viewed, opened, start_or}
+use Rattle.syntax.specs.Reading as r
+use Rattle.syntax.proofs.Stopping.{stops_as}
 
 agrees : (xs more : List TokenKind) (n k : ℕ) (y : TokenKind) → k ≤ n → slice_get xs n ≡ Some y → slice_get (take (suc n) xs ++ more) k ≡ slice_get xs k
 agrees [] more n k y l h = absurd cc
@@ -80,24 +26,152 @@ agrees (x ∷ xs) more n zero y l h = refl
 agrees (x ∷ xs) more zero (suc k) y l h = absurd (omega (arith, l))
 agrees (x ∷ xs) more (suc n) (suc k) y l h = agrees xs more n k y (omega (arith, l)) h
 
-got : (ts : List Token) (n : ℕ) (t : Token) → Some t ≡ slice_get ts n → slice_get (tokens_of ts) n ≡ Some (token_of t)
+got : (ts : List Token) (n : ℕ) (t : Token) → slice_get ts n ≡ Some t → slice_get (tokens_of ts) n ≡ Some (token_of t)
 got [] n t e = absurd cc
 got (x ∷ xs) zero t e = let h : t ≡ x = cc in ap (λ z. Some (token_of z)) (sym h)
 got (x ∷ xs) (suc n) t e = got xs n t e
 
-got_kind : (ts : List Token) (n : ℕ) (t : Token) → Some t ≡ slice_get ts n → (k : TokenKind) × (slice_get (kinds_of ts) n ≡ Some k)
+got_kind : (ts : List Token) (n : ℕ) (t : Token) → slice_get ts n ≡ Some t → (k : TokenKind) × (slice_get (kinds_of ts) n ≡ Some k)
 got_kind [] n t e = absurd cc
 got_kind (x ∷ xs) zero t e = (_, refl)
 got_kind (x ∷ xs) (suc n) t e = got_kind xs n t e
 
-fails_at : (ts : List Token) (end n : ℕ) (o : Option Token) → o ≡ slice_get ts n → StopsScript (kinds_of ts) 0 (s.Token n) → g.SyntaxFails (tokens_of ts) end (start_or end o)
-fails_at ts end n (Some t) e h =
-    let k = got_kind ts n t e in
-    inl (n, token_of t, got ts n t e, refl, λ more xs d. h.1 (take (n + 1) (kinds_of ts) ++ more) (λ j l. rw add-one (agrees (kinds_of ts) more n j k.0 l k.1)) xs d)
-fails_at ts end n None e h = inr (refl, λ xs d. h.1 (kinds_of ts) (λ j l. refl) xs d)
+got_none : (ts : List Token) (n : ℕ) → slice_get ts n ≡ None → slice_get (kinds_of ts) n ≡ None
+got_none [] n e = refl
+got_none (x ∷ xs) zero e = absurd cc
+got_none (x ∷ xs) (suc n) e = got_none xs n e
 
-pub script_fails : (ts : List Token) (end : ℕ) (stop : Stop) (offset : Option ℕ) → offset ≡ stop_offset ts end stop → StopsScript (kinds_of ts) 0 stop → MatchOption offset ⊤ (g.SyntaxFails (tokens_of ts) end)
-script_fails ts end (s.Token n) (Some offset) e h = let f : start_or end (slice_get ts n) ≡ offset = cc in subst (λ x. g.SyntaxFails (tokens_of ts) end x) f (fails_at ts end n (slice_get ts n) refl h)
-script_fails ts end (s.Token n) None e h = absurd cc
-script_fails ts end s.Memory (Some offset) e h = absurd cc
-script_fails ts end s.Memory None e h = tt
+-- what is read nowhere where the tokens agree is begun by none
+begins_none : (m : ℕ) (ts : List TokenKind) (n : ℕ) (k : TokenKind) → slice_get ts n ≡ Some k → ((us : List TokenKind) → Agree ts us n → Nowhere (ScriptIn m) us 0) → g.BeginsNone m (take (n + 1) ts)
+begins_none m ts n k e nw more xs d =
+    let us = take (n + 1) ts ++ more in nw us (λ j l. rw add-one (agrees ts more n j k l e)) (length us) xs (refl, d)
+
+-- the fault of a stop
+unexpected : (ts : List Token) (end n : ℕ) (o : Option Token) → slice_get ts n ≡ o → ((us : List TokenKind) → Agree (kinds_of ts) us n → (m : ℕ) → Nowhere (ScriptIn m) us 0) → g.SyntaxFails (tokens_of ts) end refusal.Unexpected (start_or end o)
+unexpected ts end n (Some t) e nw =
+    let k = got_kind ts n t e in
+    g.at_token refusal.Unexpected _ n (token_of t) (got ts n t e) refl (λ m. begins_none m (kinds_of ts) n k.0 k.1 (λ us a. nw us a m))
+unexpected ts end n None e nw = g.at_end refusal.Unexpected _ refl refl (λ m xs d. nw (kinds_of ts) (λ j l. refl) m (length (kinds_of ts)) xs (refl, d))
+
+too_deep : (ts : List Token) (end n : ℕ) (o : Option Token) (k : TokenKind) → slice_get ts n ≡ o → slice_get (kinds_of ts) n ≡ Some k → opened (kinds_of ts) 0 + most_levels < opened (kinds_of ts) (n + 1)
+    → ((us : List TokenKind) → Agree (kinds_of ts) us n → Nowhere (ScriptIn most_levels) us 0) → g.SyntaxFails (tokens_of ts) end refusal.TooDeep (start_or end o)
+too_deep ts end n (Some t) k e h c nw = g.at_token refusal.TooDeep _ n (token_of t) (got ts n t e) refl (omega (arith, c), begins_none most_levels (kinds_of ts) n k h nw)
+too_deep ts end n None k e h c nw = absurd (let q = sym (got_none ts n e) ∙ h in cc)
+
+moved : (tokens : _) (end at at' : ℕ) (x : refusal.Refusal) → at' ≡ at → g.SyntaxFails tokens end x at → g.SyntaxFails tokens end x at'
+moved tokens end at at' x e h = rw e h
+
+pub script_fails : (ts : List Token) (end : ℕ) (stop : Stop) (fault : SyntaxFault) → Stops ScriptIn (kinds_of ts) most_levels most_levels 0 stop → TellsStop ts end stop fault → IsSyntaxFault (tokens_of ts) end fault
+script_fails ts end (s.Token n) (f.Unexpected u) (r.at_token n' l nw) e = moved _ _ _ _ _ e (unexpected ts end n (slice_get ts n) refl nw)
+script_fails ts end (s.Deep n) (f.TooDeep offset len) (r.too_deep n' k l y c nw) e = moved _ _ _ _ _ e (too_deep ts end n (slice_get ts n) k refl y c nw)
+script_fails ts end s.Memory f.Memory r.for_memory e = tt
+script_fails ts end (s.Token n) (f.TooDeep offset len) h e = absurd e
+script_fails ts end (s.Token n) f.Memory h e = absurd e
+script_fails ts end (s.Deep n) (f.Unexpected u) h e = absurd e
+script_fails ts end (s.Deep n) f.Memory h e = absurd e
+script_fails ts end s.Memory (f.Unexpected u) h e = absurd e
+script_fails ts end s.Memory (f.TooDeep offset len) h e = absurd e
+
+-- ---- statement by statement
+
+next_in : (m : ℕ) (us : List TokenKind) (i j to : ℕ) (xs : List Statement) → i ≡ j → g.ScriptAt m us j xs → g.ScriptAt m us i xs
+next_in m us i j to xs e d = rw e d
+
+there : (ts us : List TokenKind) (n at : ℕ) (k : TokenKind) → Agree ts us n → at ≤ n → At ts at k → At us at k
+there ts us n at k a l h = a at l ∙ h
+
+-- where the statement at the place of a token is read nowhere, the script is
+pub nowhere_statement : (ts us : List TokenKind) (n at m : ℕ) (k : TokenKind) → Agree ts us n → at ≤ n → At ts at k → Nowhere (g.StatementOf (within m)) us at → Nowhere (ScriptIn m) us at
+nowhere_statement ts us n at m k a l h nw to xs (e, g.end p q) = absurd (no_token_there us _ k q (there ts us n _ k a l h))
+nowhere_statement ts us n at m k a l h nw to xs (e, g.next p i x rest d c r) = nw _ _ d
+
+-- where no semicolon stands behind it, or the script behind that is read nowhere
+pub nowhere_semicolon : (ts us : List TokenKind) (n at end l m : ℕ) (k : TokenKind) (x : Statement) → Agree ts us n → at ≤ n → end ≤ n → At ts at k → g.StatementOf (within l) ts at end x → NotAt ts end (Mark Semicolon) → Nowhere (ScriptIn m) us at
+nowhere_semicolon ts us n at end l m k x a h i t d gone to xs (e, g.end p q) = absurd (no_token_there us _ k q (there ts us n _ k a h t))
+nowhere_semicolon ts us n at end l m k x a h i t d gone to xs (e, g.next p j y rest f c r) =
+    let q = (statement_alike (within_alike l m)).same ts us n a _ _ _ _ _ i d f in gone (sym (a end i) ∙ at_place us j end q.0 c)
+  where
+    at_place : (us : List TokenKind) (j end : ℕ) → end ≡ j → At us j (Mark Semicolon) → At us end (Mark Semicolon)
+    at_place us j end e c = rw e c
+
+pub nowhere_script : (ts us : List TokenKind) (n at end p l m : ℕ) (k : TokenKind) (x : Statement) → Agree ts us n → at ≤ n → end ≤ n → p ≡ end + 1 → At ts at k → g.StatementOf (within l) ts at end x → Nowhere (ScriptIn m) us p → Nowhere (ScriptIn m) us at
+nowhere_script ts us n at end p l m k x a h i b t d nw to xs (e, g.end p' q) = absurd (no_token_there us _ k q (there ts us n _ k a h t))
+nowhere_script ts us n at end p l m k x a h i b t d nw to xs (e, g.next p' j y rest f c r) =
+    let q = (statement_alike (within_alike l m)).same ts us n a _ _ _ _ _ i d f in nw to rest (e, next_in m us p (j + 1) to rest (b ∙ ap (λ z. z + 1) q.0) r)
+
+-- ---- from place to place
+
+-- the statements so far, and behind them whatever the rest comes to
+abbrev pub Scripts : (p q : Place) → List Statement → Type 0
+Scripts p q xs = (q.tokens ≡ p.tokens) × ((o : Result (List Statement) Stop) → ParsesScript q o → ParsesScript p (viewed (λ ys. xs ++ ys) o))
+
+pub script_begins : (p : Place) → Scripts p p []
+script_begins p = (refl, λ o rest. same o rest)
+  where
+    same : (o : Result (List Statement) Stop) → ParsesScript p o → ParsesScript p (viewed (λ ys. [] ++ ys) o)
+    same (Ok ys) h = h
+    same (Err stop) h = h
+
+kind_there : (ts : List TokenKind) (at : ℕ) → at < length ts → (k : TokenKind) × At ts at k
+kind_there [] at l = absurd (omega (arith, l))
+kind_there (t ∷ ts) zero l = (t, refl)
+kind_there (t ∷ ts) (suc at) l = kind_there ts at (omega (arith, l))
+
+-- the statement at a place is stopped
+pub statement_fails : (p q : Place) (stop : Stop) → p.at < length p.tokens → Outcome (λ m. g.StatementOf (within m)) most_levels most_levels p q (Err stop) → ParsesScript p (Err stop)
+statement_fails p q stop l (r.stopped x st) =
+    let k = kind_there p.tokens p.at l in
+    stops_script (λ m us n h ag nw. nowhere_statement p.tokens us n p.at m k.0 ag h k.1 nw) stop st
+  where
+    stops_script : ((m : ℕ) (us : List TokenKind) (n : ℕ) → p.at ≤ n → Agree p.tokens us n → Nowhere (g.StatementOf (within m)) us p.at → Nowhere (ScriptIn m) us p.at) → (stop : Stop) → Stops (λ m. g.StatementOf (within m)) p.tokens most_levels most_levels p.at stop → Stops ScriptIn p.tokens most_levels most_levels p.at stop
+    stops_script needs (s.Token n) (r.at_token n' h nw) = r.at_token n h (λ us ag m. needs m us n h ag (nw us ag m))
+    stops_script needs (s.Deep n) (r.too_deep n' k h y c nw) = r.too_deep n k h y c (λ us ag. needs most_levels us n h ag (nw us ag))
+    stops_script needs s.Memory r.for_memory = r.for_memory
+
+-- no semicolon stands behind it
+pub semicolon_fails : (p q t : Place) (x : Statement) (stop : Stop) → p.at < length p.tokens → Outcome (λ m. g.StatementOf (within m)) most_levels most_levels p q (Ok x) → NotAt q.tokens q.at (Mark Semicolon) × (stop ≡ s.Token q.at) → ParsesScript p (Err stop)
+semicolon_fails p q t x stop l (r.read y e d) h =
+    let k = kind_there p.tokens p.at l in
+    let rises : p.at ≤ q.at = (statement_alike (within_alike most_levels most_levels)).rises p.tokens p.at q.at x d in
+    let gone : NotAt p.tokens q.at (Mark Semicolon) = subst (λ ts. NotAt ts q.at (Mark Semicolon)) e h.0 in
+    subst (λ z. ParsesScript p (Err z)) (sym h.1) (r.at_token q.at rises (λ us ag m. nowhere_semicolon p.tokens us q.at p.at q.at most_levels m k.0 x ag rises (omega arith) k.1 d gone))
+
+-- a statement with its semicolon, and the script behind it
+next_script : (p q t : Place) (x : Statement) → p.at < length p.tokens → Outcome (λ m. g.StatementOf (within m)) most_levels most_levels p q (Ok x) → At q.tokens q.at (Mark Semicolon) × IsNext q t → (o : Result (List Statement) Stop) → ParsesScript t o → ParsesScript p (viewed (λ ys. x ∷ ys) o)
+next_script p q t x l (r.read y e d) at (Ok ys) rest =
+    let d₁ : g.ScriptAt most_levels p.tokens (q.at + 1) ys = subst (λ i. g.ScriptAt most_levels p.tokens i ys) at.1.at (subst (λ ts. g.ScriptAt most_levels ts t.at ys) (at.1.tokens ∙ e) rest) in
+    g.next p.at q.at x ys d (subst (λ ts. At ts q.at (Mark Semicolon)) e at.0) d₁
+next_script p q t x l (r.read y e d) at (Err stop) rest =
+    let k = kind_there p.tokens p.at l in
+    let rises : p.at ≤ q.at = (statement_alike (within_alike most_levels most_levels)).rises p.tokens p.at q.at x d in
+    stops_as ScriptIn ScriptIn p.tokens most_levels most_levels p.at t.at stop (omega (arith, rises, at.1.at))
+    (λ m us n h ag nw. nowhere_script p.tokens us n p.at q.at t.at most_levels m k.0 x ag (omega (arith, h, rises, at.1.at)) (omega (arith, h, at.1.at)) at.1.at k.1 d nw)
+    (subst (λ ts. Stops ScriptIn ts most_levels most_levels t.at stop) (at.1.tokens ∙ e) rest)
+
+assoc : (xs : List Statement) (x : Statement) (o : Result (List Statement) Stop) → viewed (λ ys. xs ++ ys) (viewed (λ ys. x ∷ ys) o) ≡ viewed (λ ys. (xs ++ x ∷ []) ++ ys) o
+assoc xs x (Ok ys) = ap Ok (sym (append_assoc xs (x ∷ []) ys))
+assoc xs x (Err stop) = refl
+
+pub script_goes_on : (p q q' t : Place) (xs : List Statement) (x : Statement) → Scripts p q xs → q.at < length q.tokens → Outcome (λ m. g.StatementOf (within m)) most_levels most_levels q q' (Ok x) → At q'.tokens q'.at (Mark Semicolon) × IsNext q' t → Scripts p t (xs ++ x ∷ [])
+script_goes_on p q q' t xs x inv l (r.read y e d) at =
+    (at.1.tokens ∙ e ∙ inv.0, λ o rest. subst (λ z. ParsesScript p z) (assoc xs x o) (inv.1 (viewed (λ ys. x ∷ ys) o) (next_script q q' t x l (r.read x e d) at o rest)))
+
+pub script_ends : (p q : Place) (xs : List Statement) → Scripts p q xs → q.at ≡ length q.tokens → ParsesScript p (Ok xs)
+script_ends p q xs inv e = subst (λ zs. ParsesScript p (Ok zs)) (append-nil xs) (inv.1 (Ok []) (g.end q.at e))
+
+-- fewer tokens are left behind a statement
+pub fewer : (q q' t : Place) (x : Statement) → q.at < length q.tokens → Outcome (λ m. g.StatementOf (within m)) most_levels most_levels q q' (Ok x) → At q'.tokens q'.at (Mark Semicolon) × IsNext q' t → length t.tokens - t.at < length q.tokens - q.at
+fewer q q' t x l (r.read y e d) at =
+    let rises : q.at ≤ q'.at = (statement_alike (within_alike most_levels most_levels)).rises q.tokens q.at q'.at x d in
+    let n : length t.tokens ≡ length q.tokens = ap length (at.1.tokens ∙ e) in
+    omega (arith, rises, n, at.1.at, l)
+
+-- where a statement of the rest fails, the script does
+pub script_fails_at : (p q : Place) (xs : List Statement) (stop : Stop) → Scripts p q xs → ParsesScript q (Err stop) → ParsesScript p (Err stop)
+script_fails_at p q xs stop inv h = inv.1 (Err stop) h
+
+pub answered : {A : Type 0} (p : Place) (f : A → List Statement) (result : Result A Stop) (stop : Stop) → result ≡ Err stop → ParsesScript p (Err stop) → ParsesScript p (viewed f result)
+answered p f result stop e h = subst (λ x. ParsesScript p (viewed f x)) (sym e) h
+
+pub for_memory : (p : Place) (stop : Stop) → stop ≡ s.Memory → ParsesScript p (Err stop)
+for_memory p stop e = subst (λ x. ParsesScript p (Err x)) (sym e) r.for_memory

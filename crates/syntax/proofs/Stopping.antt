@@ -1,125 +1,123 @@
 -- Where a part of a rule stops, the rule stops.
-use Rattle.std.proofs.Common.{◌≡◌, ◌∙◌, refl, sym, ap, subst, ℕ, ◌+◌, ◌<◌, ◌≤◌, List, [], ◌∷◌, ◌++◌, arith, append_assoc, map}
-use Rattle.std.specs.Prelude.{Result, Ok, Err, IfOk, IfErr, IsErr, IsErrAnd}
-use Rattle.definitions.specs.Token.{TokenKind, Mark, Comma}
-use Rattle.definitions.specs.Grammar as g
+use Rattle.std.proofs.Common.{◌≡◌, ◌∙◌, refl, sym, ap, ℕ, zero, suc, ◌+◌, ◌≤◌, List, [], ◌∷◌, Option, Some, None, arith}
+use Rattle.std.specs.Prelude.{slice_get}
+use Rattle.definitions.specs.Token.{TokenKind}
+use Rattle.definitions.specs.Rule.{Rule, At, NotAt, Never, Gives, Past, Sees, If, Reads, Then, Repeats}
+use Rattle.definitions.specs.Rule as g
+use Rattle.definitions.specs.Grammar.{opens}
+use Rattle.definitions.proofs.Alike.{Alike, moved}
 use Rattle.syntax.specs.declared.fault.Stop.{Stop}
-use Rattle.syntax.specs.declared.fault.Stop.TheVariants as s
-use Rattle.syntax.specs.Reading.{Agree, Stops}
-use Rattle.syntax.proofs.Locality.{Same}
+use Rattle.syntax.specs.Reading.{Agree, Nowhere, Stops, opened}
+use Rattle.syntax.specs.Reading as r
 
--- whatever the rule derives, a part of it stands at a place
-abbrev pub Through : {X Y : Type 0} → (List TokenKind → ℕ → ℕ → X → Type 0) → (List TokenKind → ℕ → ℕ → Y → Type 0) → List TokenKind → (at p : ℕ) → Type 0
-Through {X} {Y} whole part ts at p = (us : List TokenKind) (n : ℕ) → p ≤ n → Agree ts us n → (to : ℕ) (x : X) → whole us at to x → (to' : ℕ) × (y : Y) × part us p to' y
+-- ---- counting the tokens that can open a level
 
--- or a token does
-abbrev pub ThroughToken : {X : Type 0} → (List TokenKind → ℕ → ℕ → X → Type 0) → List TokenKind → (at p : ℕ) → TokenKind → Type 0
-ThroughToken {X} whole ts at p k = (us : List TokenKind) (n : ℕ) → p ≤ n → Agree ts us n → (to : ℕ) (x : X) → whole us at to x → g.At us p k
+pub opened_rises : (ts : List TokenKind) (a b : ℕ) → a ≤ b → opened ts a ≤ opened ts b
+opened_rises [] zero b h = omega arith
+opened_rises [] (suc a) zero h = absurd (omega (arith, h))
+opened_rises [] (suc a) (suc b) h = omega arith
+opened_rises (t ∷ ts) zero b h = omega arith
+opened_rises (t ∷ ts) (suc a) (suc b) h = omega (arith, opened_rises ts a b (omega (arith, h)))
+opened_rises (t ∷ ts) (suc a) zero h = absurd (omega (arith, h))
 
-pub stops_with : {X Y : Type 0} (whole : List TokenKind → ℕ → ℕ → X → Type 0) (part : List TokenKind → ℕ → ℕ → Y → Type 0) (ts : List TokenKind) (at p : ℕ) (stop : Stop) → at ≤ p → Through whole part ts at p → Stops part ts p stop → Stops whole ts at stop
-stops_with whole part ts at p (s.Token n) h through k = (omega (arith, h, k.0), λ us agree to x d. let q = through us n k.0 agree to x d in k.1 us agree q.0 q.1 q.2)
-stops_with whole part ts at p s.Memory h through k = tt
+next_is : (a : ℕ) → suc a + 1 ≡ suc (a + 1)
+next_is a = omega arith
 
-at_token : {X : Type 0} (whole : List TokenKind → ℕ → ℕ → X → Type 0) (ts : List TokenKind) (at p : ℕ) (k : TokenKind) (stop : Stop) → at ≤ p → ThroughToken whole ts at p k → stop ≡ s.Token p → g.NotAt ts p k → Stops whole ts at stop
-at_token whole ts at p k (s.Token n) h through e gone =
-    let m : n ≡ p = cc in
-    (omega (arith, h, m), λ us agree to x d. gone (sym (agree p (omega (arith, m))) ∙ through us n (omega (arith, m)) agree to x d))
-at_token whole ts at p k s.Memory h through e gone = tt
+pub opened_by : (ts : List TokenKind) (at : ℕ) (k : TokenKind) → At ts at k → opens k ≡ 1 → opened ts (at + 1) ≡ opened ts at + 1
+opened_by [] at k h e = absurd cc
+opened_by (t ∷ ts) zero k h e = let f : t ≡ k = cc in let q : opens t ≡ 1 = rw f e in omega (arith, q)
+opened_by (t ∷ ts) (suc at) k h e = rw (next_is at) (let q = opened_by ts at k h e in omega (arith, q))
 
-pub stops_at : {X : Type 0} (whole : List TokenKind → ℕ → ℕ → X → Type 0) (ts : List TokenKind) (at p : ℕ) (k : TokenKind) (stop : Stop) → at ≤ p → ThroughToken whole ts at p k → (stop ≡ s.Token p) × g.NotAt ts p k → Stops whole ts at stop
-stops_at whole ts at p k stop h through gone = at_token whole ts at p k stop h through gone.0 gone.1
+taken : {A X : Type 0} (b : A → Rule X) (us : List TokenKind) (i j : ℕ) (z z' : A) (y : X) → z ≡ z' → b z' us i j y → b z us i j y
+taken b us i j z z' y e k = rw e k
 
-pub without_memory : {X : Type 0} (whole : List TokenKind → ℕ → ℕ → X → Type 0) (ts : List TokenKind) (at : ℕ) (stop : Stop) → stop ≡ s.Memory → Stops whole ts at stop
-without_memory whole ts at (s.Token n) e = absurd cc
-without_memory whole ts at s.Memory e = tt
+one_of : {A : Type 0} (o p : Option A) (x y : A) → o ≡ p → o ≡ Some x → p ≡ Some y → x ≡ y
+one_of o p x y e h k = cc
 
--- ---- places behind one another
+none_of : {A : Type 0} (o p : Option A) (x : A) → o ≡ p → o ≡ Some x → p ≡ None → ⊥
+none_of o p x e h k = cc
 
-pub same_place : (a : ℕ) → a ≤ a
-same_place a = omega arith
+goes_on : {A X : Type 0} (says : Option TokenKind → Option A) (b : A → Rule X) (us : List TokenKind) (i i' j : ℕ) (ys : List X) → i ≡ i' → Repeats says b us i' j ys → Repeats says b us i j ys
+goes_on says b us i i' j ys e k = rw e k
 
-pub one_on : (a b c : ℕ) → a ≤ b → c ≡ b + 1 → a ≤ c
-one_on a b c h e = omega (arith, h, e)
+moved_to : {X : Type 0} (a : Rule X) (us : List TokenKind) (p q j : ℕ) (y : X) → p ≡ q → a us q j y → a us p j y
+moved_to a us p q j y e d = rw e d
 
-pub further : (a b c : ℕ) → a ≤ b → b < c → a ≤ c
-further a b c h l = omega (arith, h, l)
+-- ---- what a rule does not read: the rule is put together of such as read nothing
 
-pub behind_one : (a b c : ℕ) → a ≤ b → c ≡ b + 1 → a < c
-behind_one a b c h e = omega (arith, h, e)
+pub nowhere_past : {X : Type 0} {k : TokenKind} {a : Rule X} (us : List TokenKind) (at p : ℕ) → p ≡ at + 1 → Nowhere a us p → Nowhere (Past k a) us at
+nowhere_past {a = a} us at p e nw to x (g.past i j y h d) = nw j y (moved_to a us p (i + 1) j y e d)
 
-pub behind_more : (a b c : ℕ) → a ≤ b → b < c → a < c
-behind_more a b c h l = omega (arith, h, l)
+pub nowhere_sees : {X : Type 0} {k : TokenKind} {a c : Rule X} (ts us : List TokenKind) (n at : ℕ) → Agree ts us n → at ≤ n → At ts at k → Nowhere a us at → Nowhere (Sees k a c) us at
+nowhere_sees ts us n at e l h nw to x (g.sees i j y w d) = nw _ _ d
+nowhere_sees ts us n at e l h nw to x (g.misses i j y w d) = absurd (w (e at l ∙ h))
 
-pub two_on : (a b c : ℕ) → b ≡ a + 1 → c ≡ b + 1 → c ≡ a + 2
-two_on a b c e f = omega (arith, e, f)
+pub nowhere_misses : {X : Type 0} {k : TokenKind} {a c : Rule X} (ts us : List TokenKind) (n at : ℕ) → Agree ts us n → at ≤ n → NotAt ts at k → Nowhere c us at → Nowhere (Sees k a c) us at
+nowhere_misses ts us n at e l h nw to x (g.misses i j y w d) = nw _ _ d
+nowhere_misses ts us n at e l h nw to x (g.sees i j y w d) = absurd (h (sym (e at l) ∙ w))
 
-pub no_further : (a b c : ℕ) → a < b → b ≤ c → a < c
-no_further a b c h l = omega (arith, h, l)
+-- a token that is not there
+pub nowhere_past_none : {X : Type 0} {k : TokenKind} {a : Rule X} (ts us : List TokenKind) (n at : ℕ) → Agree ts us n → at ≤ n → NotAt ts at k → Nowhere (Past k a) us at
+nowhere_past_none ts us n at e l h to x (g.past i j y w d) = h (sym (e at l) ∙ w)
 
-pub from_next : (a b : ℕ) → a + 1 ≤ b → a < b
-from_next a b h = omega (arith, h)
+pub nowhere_reads : {A X : Type 0} {says : Option TokenKind → Option A} {a : A → Rule X} {c : Rule X} (ts us : List TokenKind) (n at p : ℕ) (v : A) → p ≡ at + 1 → Agree ts us n → at ≤ n → says (slice_get ts at) ≡ Some v → Nowhere (a v) us p → Nowhere (Reads says a c) us at
+nowhere_reads {says = says} {a = a} ts us n at p v q e l h nw to x (g.reads i j z y w d) = nw j y (moved_to (a v) us p (i + 1) j y q (taken a us _ _ v z y (one_of (says (slice_get ts at)) (says (slice_get us at)) v z (ap says (sym (e at l))) h w) d))
+nowhere_reads {says = says} ts us n at p v q e l h nw to x (g.reads_not i j y w d) = absurd (none_of (says (slice_get ts at)) (says (slice_get us at)) v (ap says (sym (e at l))) h w)
 
--- ---- what a `?` hands on
+pub nowhere_reads_not : {A X : Type 0} {says : Option TokenKind → Option A} {a : A → Rule X} {c : Rule X} (ts us : List TokenKind) (n at : ℕ) → Agree ts us n → at ≤ n → says (slice_get ts at) ≡ None → Nowhere c us at → Nowhere (Reads says a c) us at
+nowhere_reads_not ts us n at e l h nw to x (g.reads_not i j y w d) = nw _ _ d
+nowhere_reads_not {says = says} ts us n at e l h nw to x (g.reads i j z y w d) = absurd (none_of (says (slice_get us at)) (says (slice_get ts at)) z (ap says (e at l)) w h)
 
--- its fault, of which a clause speaks
-pub raised : {T : Type 0} (r : Result T Stop) (stop : Stop) (P : Stop → Type 0) → IsErr r × IsErrAnd r (λ e. e ≡ stop) → P stop → IfErr r P
-raised (Ok x) stop P h p = tt
-raised (Err e) stop P h p = subst P (sym h.1) p
+pub nowhere_never : {X : Type 0} (us : List TokenKind) (at : ℕ) → Nowhere (Never {X = X}) us at
+nowhere_never us at to x h = elim h [ ]
 
--- and no value
-pub no_value : {T : Type 0} (r : Result T Stop) (stop : Stop) (P : T → Type 0) → IsErr r × IsErrAnd r (λ e. e ≡ stop) → IfOk r P
-no_value (Ok x) stop P h = absurd h.1
-no_value (Err e) stop P h = tt
+pub nowhere_first : {A X : Type 0} {a : Rule A} {b : A → Rule X} (us : List TokenKind) (at : ℕ) → Nowhere a us at → Nowhere (Then a b) us at
+nowhere_first us at nw to x (g.then i m j z y h d) = nw _ _ h
 
--- ---- lists, of which a further element begins at a place
+pub nowhere_next : {A X : Type 0} {a a' : Rule A} {b : A → Rule X} (ts us : List TokenKind) (n at mid : ℕ) (v : A) → Agree ts us n → mid ≤ n → Alike a a' → a ts at mid v → Nowhere (b v) us mid → Nowhere (Then a' b) us at
+nowhere_next {b = b} ts us n at mid v e l same d nw to x (g.then i m j z y h k) =
+    let q = same.same ts us n e _ _ _ _ _ l d h in nw _ _ (moved b us mid m _ v z _ q.0 q.1 k)
 
-module _ {X : Type 0} (rule : List TokenKind → ℕ → ℕ → X → Type 0) where
-  -- the elements so far, with any list that begins there, are the whole
-  abbrev pub Extends : List TokenKind → (at next : ℕ) → List X → Type 0
-  Extends ts at next xs = (to : ℕ) (ys : List X) → g.ListAt (rule ts) ts next to ys → g.ListAt (rule ts) ts at to (xs ++ ys)
+pub nowhere_joined : {A X : Type 0} {says : Option TokenKind → Option A} {a : A → Rule X} (ts us : List TokenKind) (n at p : ℕ) (v : A) → p ≡ at + 1 → Agree ts us n → at ≤ n → says (slice_get ts at) ≡ Some v → Nowhere (a v) us p → Nowhere (Repeats says a) us at
+nowhere_joined {says = says} {a = a} ts us n at p v q e l h nw to x (g.over i j w d) = absurd (none_of (says (slice_get ts at)) (says (slice_get us at)) v (ap says (sym (e at l))) h w)
+nowhere_joined {says = says} {a = a} ts us n at p v q e l h nw to x (g.more i m j z y ys w d o) = nw m y (moved_to (a v) us p (i + 1) m y q (taken a us _ _ v z y (one_of (says (slice_get ts at)) (says (slice_get us at)) v z (ap says (sym (e at l))) h w) d))
 
-  -- every list that begins so goes on there
-  abbrev pub Reaches : List TokenKind → (at next : ℕ) → Type 0
-  Reaches ts at next = (us : List TokenKind) (n : ℕ) → next ≤ n → Agree ts us n → (to : ℕ) (xs : List X) → g.ListAt (rule us) us at to xs → (ys : List X) × g.ListAt (rule us) us next to ys
+pub nowhere_repeats : {A X : Type 0} {says : Option TokenKind → Option A} {b : Rule X} {a' : A → Rule X} (ts us : List TokenKind) (n at p mid : ℕ) (v : A) (y : X) → p ≡ at + 1 → Agree ts us n → at ≤ n → mid ≤ n → says (slice_get ts at) ≡ Some v
+    → Alike b (a' v) → b ts p mid y → Nowhere (Repeats says a') us mid → Nowhere (Repeats says a') us at
+nowhere_repeats {says = says} ts us n at p mid v y q e l l' h same d nw to x (g.over i j w o) = absurd (none_of (says (slice_get ts at)) (says (slice_get us at)) v (ap says (sym (e at l))) h w)
+nowhere_repeats {says = says} {a' = a'} ts us n at p mid v y q e l l' h same d nw to x (g.more i m j z u ys w k o) =
+    let k' = moved_to (a' v) us p (i + 1) m u q (taken a' us _ _ v z u (one_of (says (slice_get ts at)) (says (slice_get us at)) v z (ap says (sym (e at l))) h w) k) in
+    let t = same.same ts us n e p mid m y u l' d k' in nw j ys (goes_on says a' us mid m j ys t.0 o)
 
-  pub none_extends : (ts : List TokenKind) (at : ℕ) (xs : List X) → xs ≡ [] → Extends ts at at xs
-  none_extends ts at xs e to ys d = rw e d
+-- ---- the step from a part that stops to the whole
 
-  pub none_reaches : (ts : List TokenKind) (at : ℕ) → Reaches ts at at
-  none_reaches ts at us n l a to xs d = (xs, d)
+pub stops_as : {X Y : Type 0} (whole : ℕ → Rule X) (part : ℕ → Rule Y) (ts : List TokenKind) (levels least at p : ℕ) (stop : Stop) → at ≤ p
+    → ((m : ℕ) (us : List TokenKind) (n : ℕ) → p ≤ n → Agree ts us n → Nowhere (part m) us p → Nowhere (whole m) us at)
+    → Stops part ts levels least p stop → Stops whole ts levels least at stop
+stops_as whole part ts levels least at p stop h needs (r.at_token n l nw) = r.at_token n (omega (arith, h, l)) (λ us agree m. needs m us n l agree (nw us agree m))
+stops_as whole part ts levels least at p stop h needs (r.too_deep n v l y c nw) = r.too_deep n v (omega (arith, h, l)) y (omega (arith, c, opened_rises ts at p h)) (λ us agree. needs levels us n l agree (nw us agree))
+stops_as whole part ts levels least at p stop h needs r.for_memory = r.for_memory
 
-  pub next_extends : (ts : List TokenKind) (at next end : ℕ) (xs : List X) (x : X) → Extends ts at next xs → rule ts next end x → g.At ts end (Mark Comma) → Extends ts at (end + 1) (xs ++ x ∷ [])
-  next_extends ts at next end xs x so h c to ys d = rw append_assoc (so to (x ∷ ys) (g.more next end to x ys h c d))
+-- the part takes the levels below, from the same place
+pub stops_lower : {X Y : Type 0} (whole : ℕ → Rule X) (part : ℕ → Rule Y) (ts : List TokenKind) (below at : ℕ) (stop : Stop)
+    → ((us : List TokenKind) (n : ℕ) → at ≤ n → Agree ts us n → Nowhere (whole zero) us at)
+    → ((m : ℕ) (us : List TokenKind) (n : ℕ) → at ≤ n → Agree ts us n → Nowhere (part m) us at → Nowhere (whole (suc m)) us at)
+    → Stops part ts below below at stop → Stops whole ts (suc below) below at stop
+stops_lower whole part ts below at stop none needs (r.at_token n l nw) = r.at_token n l (λ us agree m. by_levels m us agree (λ i. nw us agree i))
+  where
+    by_levels : (m : ℕ) (us : List TokenKind) → Agree ts us n → ((i : ℕ) → Nowhere (part i) us at) → Nowhere (whole m) us at
+    by_levels zero us agree f = none us n l agree
+    by_levels (suc m) us agree f = needs m us n l agree (f m)
+stops_lower whole part ts below at stop none needs (r.too_deep n v l y c nw) = r.too_deep n v l y c (λ us agree. needs below us n l agree (nw us agree))
+stops_lower whole part ts below at stop none needs r.for_memory = r.for_memory
 
-  behind : Same rule → (ts us : List TokenKind) (n : ℕ) → Agree ts us n → (next end to : ℕ) (x : X) (ys : List X) → end + 1 ≤ n → rule ts next end x → g.At ts end (Mark Comma) → g.ListAt (rule us) us next to ys → (zs : List X) × g.ListAt (rule us) us (end + 1) to zs
-  behind same ts us n a next end to x ys l h c (g.last i j z k gone) =
-      let e = (same ts us n a _ _ _ _ _ (omega (arith, l)) h k).0 in absurd (gone (rw e at (a end (omega (arith, l)) ∙ c)))
-  behind same ts us n a next end to x ys l h c (g.more i m j z zs k d m') =
-      let e = (same ts us n a _ _ _ _ _ (omega (arith, l)) h k).0 in (zs, rw e m')
+-- ---- what is read, its places by equations
 
-  pub next_reaches : Same rule → (ts : List TokenKind) (at next end : ℕ) (x : X) → next < end → Reaches ts at next → rule ts next end x → g.At ts end (Mark Comma) → Reaches ts at (end + 1)
-  next_reaches same ts at next end x b so h c us n l a to xs d =
-      let q = so us n (omega (arith, b, l)) a to xs d in behind same ts us n a next end to x q.0 l h c q.1
+pub past_made : {X : Type 0} {k : TokenKind} {a : Rule X} (ts : List TokenKind) (at p to : ℕ) (x : X) → p ≡ at + 1 → At ts at k → a ts p to x → Past k a ts at to x
+past_made ts at p to x e h d = g.past at to x h (rw (← e) d)
 
-  pub all_extends : (ts : List TokenKind) (at next end : ℕ) (xs : List X) (x : X) → Extends ts at next xs → rule ts next end x → g.NotAt ts end (Mark Comma) → g.ListAt (rule ts) ts at end (xs ++ x ∷ [])
-  all_extends ts at next end xs x so h gone = so end (x ∷ []) (g.last next end x h gone)
+pub reads_made : {A X : Type 0} {says : Option TokenKind → Option A} {a : A → Rule X} {c : Rule X} (ts : List TokenKind) (at p to : ℕ) (v : A) (x : X) → p ≡ at + 1 → says (slice_get ts at) ≡ Some v → a v ts p to x → Reads says a c ts at to x
+reads_made ts at p to v x e h d = g.reads at to v x h (rw (← e) d)
 
-  first_of : (us : List TokenKind) (at to : ℕ) (xs : List X) → g.ListAt (rule us) us at to xs → (to' : ℕ) × (y : X) × rule us at to' y
-  first_of us at to xs (g.last i j z k gone) = (j, z, k)
-  first_of us at to xs (g.more i m j z zs k c l) = (m, z, k)
-
-  -- and an element stands there
-  pub through_next : (ts : List TokenKind) (at next : ℕ) → Reaches ts at next → Through (λ ts. g.ListAt (rule ts) ts) rule ts at next
-  through_next ts at next so us n l a to xs d = let q = so us n l a to xs d in first_of us next to q.0 q.1
-
--- ---- lists that grow by one element
-
-pub map_push : {A X : Type 0} (f : A → X) (xs : List A) (x : A) → map f (xs ++ x ∷ []) ≡ map f xs ++ f x ∷ []
-map_push f [] x = refl
-map_push f (y ∷ xs) x = ap (λ ys. f y ∷ ys) (map_push f xs x)
-
-pub pushed : {A X : Type 0} (f : A → X) (old new : List A) (x : A) → new ≡ old ++ x ∷ [] → map f new ≡ map f old ++ f x ∷ []
-pushed f old new x e = ap (λ ys. map f ys) e ∙ map_push f old x
-
-pub pushed_first : {A X : Type 0} (f : A → X) (old new : List A) (x : A) → new ≡ old ++ x ∷ [] → old ≡ [] → map f new ≡ f x ∷ []
-pushed_first f old new x e h = pushed f old new x e ∙ ap (λ ys. map f ys ++ f x ∷ []) h
+pub gives_here : {X : Type 0} (ts : List TokenKind) (at : ℕ) (x : X) → Gives x ts at at x
+gives_here ts at x = g.gives at at x refl refl

@@ -16,23 +16,29 @@ pub enum TokenClass {
     String,
     /// The word of a type.
     Type,
-    /// A comparison operator.
-    Comparison,
+    /// A value: a literal, a column, a function, a sign or a parenthesis.
+    Value,
+    /// ALL, ANY or SOME before a subquery.
+    Quantifier,
+    /// `+`, `-`, `*` or `/` behind a value.
+    Arithmetic,
+    /// A comparison or the word of a predicate behind a value.
+    Operator,
     Word(Word),
     Symbol(Symbol),
 }
 
-/// How many classes are kept for a place.
-const MOST: usize = 8;
+/// How many classes are kept for a place: eight, and one that another takes in (`Arithmetic` beside `Operator`).
+const MOST: usize = 9;
 
 /// The classes of tokens that could have stood at a place, in the order in which the rules looked
-/// for them: each once, and of more than eight the first eight.
+/// for them: each once, and of more than nine the first nine.
 #[derive(Clone, Copy, PartialEq, Eq)]
 pub struct Wanted {
     /// The classes, and behind the first `count` nothing of meaning.
     classes: [TokenClass; MOST],
     count: usize,
-    ghost bounded: { count ≤ 8 },
+    ghost bounded: { count ≤ 9 },
 }
 
 impl Wanted {

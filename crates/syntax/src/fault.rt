@@ -1,10 +1,11 @@
 //! Syntax faults.
 
-ghost use Rattle.std.specs.Prelude.{◌≡◌};
+ghost use Rattle.std.specs.Prelude.{◌≡◌, slice_get};
+ghost use Rattle.syntax.specs.Reading.{TellsStop, start_or};
 ghost use Rattle.syntax.specs.declared.fault.Stop.TheVariants as stops;
 
 use crate::class::Wanted;
-use lexer::TokenKind;
+use lexer::{Token, TokenKind};
 use std::alloc::{AllocError, AllocFailed};
 use std::fmt;
 use thiserror::Error;
@@ -15,6 +16,9 @@ pub enum SyntaxFault {
     /// No script goes on with what stands at a place.
     #[error("no script goes on with what stands at byte {offset}", offset = .0.offset)]
     Unexpected(Unexpected),
+    /// More than 64 levels of parentheses, signs and NOTs are open at a byte of the script.
+    #[error("more than 64 levels are open at byte {offset}")]
+    TooDeep { offset: usize, length: usize },
     #[error("out of memory")]
     Memory,
 }
@@ -42,10 +46,12 @@ impl fmt::Debug for Unexpected {
     }
 }
 
-/// The same fault while the tokens are read: the place of the token in their list.
+/// Where the tokens stop being read: at the place of the token with which nothing goes on, or of the one that
+/// opens a level too many.
 #[derive(Clone, Copy)]
 pub enum Stop {
     Token(usize),
+    Deep(usize),
     Memory,
 }
 
@@ -62,5 +68,56 @@ impl<T: Drop> From<AllocFailed<T>> for Stop {
 
     fn from(_error: AllocFailed<T>) -> Stop {
         Stop::Memory
+    }
+}
+
+/// The fault that a stop in some tokens is, in a script of `end` bytes, where the rules looked for some
+/// classes of tokens.
+pub fn fault_of(tokens: &[Token], end: usize, stop: Stop, wanted: Wanted) -> SyntaxFault
+    ensures { TellsStop tokens.now end stop result }
+{
+    match stop {
+        Stop::Token(at) => SyntaxFault::Unexpected(unexpected_at(tokens, end, at, wanted)),
+        Stop::Deep(at) => {
+            let deep = unexpected_at(tokens, end, at, wanted);
+            SyntaxFault::TooDeep {
+                offset: deep.offset,
+                length: deep.length,
+            }
+        }
+        Stop::Memory => SyntaxFault::Memory,
+    }
+}
+
+fn unexpected_at(tokens: &[Token], end: usize, at: usize, wanted: Wanted) -> Unexpected
+    ensures { result.offset ≡ start_or end (slice_get tokens.now at) }
+{
+    let behind = offset_behind(tokens, at);
+    match tokens.get(at) {
+        Some(token) => Unexpected {
+            offset: token.start,
+            found: Some(token.kind),
+            length: token.text.len(),
+            behind,
+            wanted,
+        },
+        None => Unexpected {
+            offset: end,
+            found: None,
+            length: 0,
+            behind,
+            wanted,
+        },
+    }
+}
+
+/// The offset of the byte behind the token before a place, or 0 where there is none.
+fn offset_behind(tokens: &[Token], at: usize) -> usize {
+    let Some(before) = at.checked_sub(1) else {
+        return 0;
+    };
+    match tokens.get(before) {
+        Some(token) => token.start.saturating_add(token.text.len()),
+        None => 0,
     }
 }

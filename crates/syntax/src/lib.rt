@@ -2,18 +2,22 @@
 #![tactic(auto)]
 
 mod class;
-mod create;
+mod cursor;
+mod element;
+mod expr;
 mod fault;
+mod leaf;
 mod parser;
 mod query;
-mod read;
-mod tokens;
+mod statement;
+mod text;
 mod tree;
 
 pub use class::{TokenClass, Wanted};
 pub use fault::{SyntaxFault, Unexpected};
-pub use parser::parse;
+pub use parser::{MAX_LEVELS, parse};
 pub use tree::{
-    Block, ColumnDefinition, Expr, Item, Name, Numeral, Op, Select, Source, Statement,
-    StringLiteral,
+    Block, Bound, ColumnDefinition, ColumnReference, Constraint, Count, Expr, IndexFigures, Item,
+    Key, KeyName, LineOperator, Name, Numeral, Op, Operand, Quantifier, Range, Select, SelectList,
+    SetFunction, Source, Statement, StringLiteral,
 };

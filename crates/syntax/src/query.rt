@@ -1,187 +1,234 @@
-//! SELECT.
+//! Query blocks and their order.
 
-ghost use Rattle.std.specs.Prelude.{◌≡◌, ◌+◌, ◌≤◌, ◌<◌, [], ◌∷◌, length, map, IfOk, IfErr, IfSome, IfNone, OnSome, option_map};
-ghost use Rattle.definitions.specs.Statement as tree;
-ghost use Rattle.definitions.specs.Grammar.{BlockAt, ListAt, ItemAt, SourceAt, WhereAt, ComparisonAt, LiteralAt, UnsignedAt};
+ghost use Rattle.std.specs.Prelude.{◌≡◌, map, option_map};
+ghost use Rattle.definitions.specs.Token.{Reserved};
+ghost use Rattle.definitions.specs.Word as spec;
 ghost use Rattle.definitions.specs.Grammar as grammar;
-ghost use Rattle.lexer.specs.Meaning.{symbol_of};
-ghost use Rattle.syntax.specs.Trees.{kinds_of, block_of, item_of, source_of, expr_of, condition_of, numeral_of, op_of};
-ghost use Rattle.syntax.specs.Reading.{Stops, OpAt};
+ghost use Rattle.definitions.specs.Grammar.{within};
+ghost use Rattle.lexer.specs.Meaning.{word_of};
+ghost use Rattle.syntax.specs.Trees.{block_of, column_of, condition_of, item_of, key_of, key_name_of, list_of, name_of, select_of, source_of};
+ghost use Rattle.syntax.specs.Reading.{Given, Parses, ParsesFlat, viewed};
 
 use crate::class::TokenClass;
+use crate::cursor::Cursor;
+use crate::element::Element;
 use crate::fault::Stop;
-use crate::read::{is_string_at, is_symbol, is_word, mark, name, numeral, string, word};
-use crate::tokens::Tokens;
-use crate::tree::{Block, Expr, Item, Numeral, Op, Source};
+use crate::leaf::LineKind;
+use crate::tree::{
+    Block, ColumnReference, Expr, Item, Key, KeyName, Name, Select, SelectList, Source,
+};
 use lexer::{Symbol, Word};
-use std::alloc::Global;
 
-/// `SELECT item { "," item } FROM source [ WHERE condition ]` (ISO/IEC 9075:1992, 7.9).
-pub fn block(alloc: Global, tokens: &Tokens, at: usize) -> Result<(Block, usize), Stop>
-    ensures next { IfOk result (λ r. (at < r.1) × (r.1 ≤ length tokens.now)) }
-    ensures derived { IfOk result (λ r. BlockAt (kinds_of tokens.now) at r.1 (block_of r.0)) }
-    ensures none { IfErr result (Stops BlockAt (kinds_of tokens.now) at) }
-{
-    let at = word(tokens, at, Word::Select)?;
-    let (items, at) = items(alloc, tokens, at)?;
-    let at = word(tokens, at, Word::From)?;
-    let (source, at) = source(alloc, tokens, at)?;
-    let mut sources = Vec::new(alloc);
-    sources.push(source)?;
-    let (condition, at) = condition(alloc, tokens, at)?;
-    Ok((
-        Block {
-            items,
+impl Cursor<'_, '_> {
+    /// A query block (ISO/IEC 9075:1992, 7.9).
+    #[cycle(expressions)]
+    pub fn block(&mut self, levels: u8) -> Result<Block, Stop>
+        ensures { Parses (λ m. grammar.BlockOf (within m)) levels self.old self.new (viewed block_of result) }
+    {
+        let start = self.start();
+        self.expect_word(Word::Select)?;
+        let distinct = self.distinct();
+        let list = self.select_list(levels)?;
+        self.expect_word(Word::From)?;
+        let sources = self.list::<Source>()?;
+        let condition = self.condition(Word::Where, levels)?;
+        let groups = self.groups()?;
+        let having = self.condition(Word::Having, levels)?;
+        Ok(Block {
+            start,
+            distinct,
+            list,
             sources,
             condition,
-        },
-        at,
-    ))
-}
+            groups,
+            having,
+        })
+    }
 
-fn items(alloc: Global, tokens: &Tokens, at: usize) -> Result<(Vec<Item>, usize), Stop>
-    ensures next { IfOk result (λ r. (at < r.1) × (r.1 ≤ length tokens.now)) }
-    ensures derived { IfOk result (λ r. ListAt (ItemAt (kinds_of tokens.now)) (kinds_of tokens.now) at r.1 (map item_of r.0.items)) }
-    ensures none { IfErr result (Stops (λ ts. ListAt (ItemAt ts) ts) (kinds_of tokens.now) at) }
-{
-    let mut items = Vec::new(alloc);
-    let mut next = at;
-    'more: loop {
-        let (item, after) = item(alloc, tokens, next)?;
-        items.push(item)?;
-        if !is_symbol(tokens, after, Symbol::Comma) {
-            return Ok((items, after));
+    /// `[ ALL | DISTINCT ]`, whether DISTINCT (ISO/IEC 9075:1992, 6.5 and 7.9).
+    pub fn distinct(&mut self) -> bool
+        ensures { Given grammar.DistinctAt self.old self.new result }
+    {
+        if self.eat_word(Word::All) {
+            return false;
         }
-        next = after + 1;
+        self.eat_word(Word::Distinct)
+    }
+
+    /// `"*" | item { "," item }` (ISO/IEC 9075:1992, 7.9).
+    #[cycle(expressions)]
+    fn select_list(&mut self, levels: u8) -> Result<SelectList, Stop>
+        ensures { Parses (λ m. grammar.SelectListOf (within m)) levels self.old self.new (viewed list_of result) }
+    {
+        let start = self.start();
+        if self.eat_symbol(Symbol::Asterisk) {
+            return Ok(SelectList::Asterisk { start });
+        }
+        let items = self.items(levels)?;
+        Ok(SelectList::Items(items))
+    }
+
+    #[cycle(expressions)]
+    fn items(&mut self, levels: u8) -> Result<Vec<Item>, Stop>
+        ensures { Parses (λ m. grammar.ListOf (grammar.ItemOf (within m))) levels self.old self.new (viewed (λ (xs : _). map item_of xs.items) result) }
+    {
+        let mut items = Vec::new(self.alloc);
+        let first = self.item(levels)?;
+        items.push(first)?;
+        'items: loop {
+            if !self.eat_symbol(Symbol::Comma) {
+                break;
+            }
+            let item = self.item(levels)?;
+            items.push(item)?;
+        }
+        Ok(items)
+    }
+
+    /// `expr [ AS name ]` (ISO/IEC 9075:1992, 7.9).
+    #[cycle(expressions)]
+    fn item(&mut self, levels: u8) -> Result<Item, Stop>
+        ensures { Parses (λ m. grammar.ItemOf (within m)) levels self.old self.new (viewed item_of result) }
+    {
+        let value = self.line(LineKind::Disjunction, levels)?;
+        let alias = self.alias()?;
+        Ok(Item { value, alias })
+    }
+
+    /// `[ AS name ]`.
+    fn alias(&mut self) -> Result<Option<Name>, Stop>
+        ensures { ParsesFlat (grammar.Optional (Reserved spec.As) grammar.NameAt) self.old self.new (viewed (option_map name_of) result) }
+    {
+        if !self.eat_word(Word::As) {
+            return Ok(None);
+        }
+        let name = self.name(TokenClass::Name)?;
+        Ok(Some(name))
+    }
+
+    /// `[ word expr ]`, the word being WHERE or HAVING (ISO/IEC 9075:1992, 7.6 and 7.8).
+    #[cycle(expressions)]
+    fn condition(&mut self, word: Word, levels: u8) -> Result<Option<Expr>, Stop>
+        ensures { Parses (λ m. grammar.ConditionOf (within m) (word_of word)) levels self.old self.new (viewed condition_of result) }
+    {
+        if !self.eat_word(word) {
+            return Ok(None);
+        }
+        let condition = self.line(LineKind::Disjunction, levels)?;
+        Ok(Some(condition))
+    }
+
+    /// `[ GROUP BY column { "," column } ]` (ISO/IEC 9075:1992, 7.7).
+    fn groups(&mut self) -> Result<Vec<ColumnReference>, Stop>
+        ensures { ParsesFlat grammar.GroupsAt self.old self.new (viewed (λ (xs : _). map column_of xs.items) result) }
+    {
+        if !self.eat_word(Word::Group) {
+            return Ok(Vec::new(self.alloc));
+        }
+        self.expect_word(Word::By)?;
+        self.list::<ColumnReference>()
+    }
+
+    /// A query: `block [ ORDER BY key { "," key } ]` (ISO/IEC 9075:1992, 13.1).
+    pub fn select(&mut self, levels: u8) -> Result<Select, Stop>
+        ensures { Parses (λ m. grammar.SelectOf (within m)) levels self.old self.new (viewed select_of result) }
+    {
+        let block = self.block(levels)?;
+        let order = self.order()?;
+        Ok(Select { block, order })
+    }
+
+    fn order(&mut self) -> Result<Vec<Key>, Stop>
+        ensures { ParsesFlat grammar.OrderAt self.old self.new (viewed (λ (xs : _). map key_of xs.items) result) }
+    {
+        if !self.eat_word(Word::Order) {
+            return Ok(Vec::new(self.alloc));
+        }
+        self.expect_word(Word::By)?;
+        self.list::<Key>()
+    }
+
+    /// `name | count`.
+    fn key_name(&mut self) -> Result<KeyName, Stop>
+        ensures { ParsesFlat grammar.KeyNameAt self.old self.new (viewed key_name_of result) }
+    {
+        if let Some(name) = self.take_name(TokenClass::Name)? {
+            return Ok(KeyName::Name(name));
+        }
+        let position = self.count()?;
+        Ok(KeyName::Position(position))
+    }
+
+    /// `[ ASC | DESC ]`, whether DESC.
+    fn descending(&mut self) -> bool
+        ensures { Given grammar.DirectionAt self.old self.new result }
+    {
+        if self.eat_word(Word::Asc) {
+            return false;
+        }
+        self.eat_word(Word::Desc)
     }
 }
 
-fn item(alloc: Global, tokens: &Tokens, at: usize) -> Result<(Item, usize), Stop>
-    ensures next { IfOk result (λ r. (at < r.1) × (r.1 ≤ length tokens.now)) }
-    ensures derived { IfOk result (λ r. ItemAt (kinds_of tokens.now) at r.1 (item_of r.0)) }
-    ensures none { IfErr result (Stops ItemAt (kinds_of tokens.now) at) }
-{
-    let (name, at) = name(alloc, tokens, at)?;
-    let value = Expr::Column(name);
-    Ok((Item { value }, at))
-}
+impl Element for Source {
+    ghost use Rattle.definitions.specs.Statement.{Source};
+    ghost use Rattle.definitions.specs.Grammar.{SourceAt};
+    ghost use Rattle.definitions.proofs.Grammar.{source_alike};
+    ghost use Rattle.syntax.specs.Trees.{source_of};
 
-fn source(alloc: Global, tokens: &Tokens, at: usize) -> Result<(Source, usize), Stop>
-    ensures next { IfOk result (λ r. (at < r.1) × (r.1 ≤ length tokens.now)) }
-    ensures derived { IfOk result (λ r. SourceAt (kinds_of tokens.now) at r.1 (source_of r.0)) }
-    ensures none { IfErr result (Stops SourceAt (kinds_of tokens.now) at) }
-{
-    let (table, at) = name(alloc, tokens, at)?;
-    Ok((Source { table }, at))
-}
+    ghost Tree = { Source };
 
-/// `[ WHERE condition ]` (ISO/IEC 9075:1992, 7.6).
-fn condition(alloc: Global, tokens: &Tokens, at: usize) -> Result<(Option<Expr>, usize), Stop>
-    requires { at ≤ length tokens.now }
-    ensures next { IfOk result (λ r. (at ≤ r.1) × (r.1 ≤ length tokens.now)) }
-    ensures derived { IfOk result (λ r. WhereAt (kinds_of tokens.now) at r.1 (condition_of r.0)) }
-    ensures none { IfErr result (Stops WhereAt (kinds_of tokens.now) at) }
-{
-    if !is_word(tokens, at, Word::Where) {
-        return Ok((None, at));
-    }
-    let (comparison, at) = comparison(alloc, tokens, at + 1)?;
-    Ok((Some(comparison), at))
-}
+    ghost rule = { SourceAt };
 
-/// `name op literal` (ISO/IEC 9075:1992, 8.2).
-fn comparison(alloc: Global, tokens: &Tokens, at: usize) -> Result<(Expr, usize), Stop>
-    ensures next { IfOk result (λ r. (at < r.1) × (r.1 ≤ length tokens.now)) }
-    ensures derived { IfOk result (λ r. ComparisonAt (kinds_of tokens.now) at r.1 (expr_of r.0)) }
-    ensures none { IfErr result (Stops ComparisonAt (kinds_of tokens.now) at) }
-{
-    let (column, at) = name(alloc, tokens, at)?;
-    let left = Box::new(alloc, Expr::Column(column))?;
-    let (op, at) = op(tokens, at)?;
-    let (literal, at) = literal(alloc, tokens, at)?;
-    let right = Box::new(alloc, literal)?;
-    Ok((Expr::Compare { op, left, right }, at))
-}
+    ghost reads_one_way = { source_alike };
 
-/// A comparison operator (ISO/IEC 9075:1992, 8.2).
-fn op(tokens: &Tokens, at: usize) -> Result<(Op, usize), Stop>
-    ensures next { IfOk result (λ r. (r.1 ≡ at + 1) × (r.1 ≤ length tokens.now)) }
-    ensures derived { IfOk result (λ r. OpAt (kinds_of tokens.now) at r.1 (op_of r.0)) }
-    ensures none { IfErr result (Stops OpAt (kinds_of tokens.now) at) }
-{
-    let Some(token) = tokens.look(at, TokenClass::Comparison) else {
-        return Err(Stop::Token(at));
-    };
-    let Some(symbol) = mark(token.kind) else {
-        return Err(Stop::Token(at));
-    };
-    let Some(op) = comparison_op(symbol) else {
-        return Err(Stop::Token(at));
-    };
-    Ok((op, at + 1))
-}
+    ghost tree_of = { source_of };
 
-fn comparison_op(symbol: Symbol) -> Option<Op>
-    ensures { option_map op_of result ≡ grammar.op_of (symbol_of symbol) }
-{
-    match symbol {
-        Symbol::Equals => Some(Op::Equals),
-        Symbol::NotEquals => Some(Op::NotEquals),
-        Symbol::LessThan => Some(Op::LessThan),
-        Symbol::GreaterThan => Some(Op::GreaterThan),
-        Symbol::LessOrEquals => Some(Op::LessOrEquals),
-        Symbol::GreaterOrEquals => Some(Op::GreaterOrEquals),
-        _ => None,
+    /// `name [ name ]` (ISO/IEC 9075:1992, 6.3).
+    fn read(cursor: &mut Cursor) -> Result<Source, Stop> {
+        let table = cursor.name(TokenClass::Name)?;
+        let correlation = cursor.take_name(TokenClass::Name)?;
+        Ok(Source { table, correlation })
     }
 }
 
-/// `string | [ "+" | "-" ] number` (ISO/IEC 9075:1992, 5.3).
-fn literal(alloc: Global, tokens: &Tokens, at: usize) -> Result<(Expr, usize), Stop>
-    ensures next { IfOk result (λ r. (at < r.1) × (r.1 ≤ length tokens.now)) }
-    ensures derived { IfOk result (λ r. LiteralAt (kinds_of tokens.now) at r.1 (expr_of r.0)) }
-    ensures none { IfErr result (Stops LiteralAt (kinds_of tokens.now) at) }
-{
-    if is_symbol(tokens, at, Symbol::Plus) {
-        signed(alloc, tokens, at + 1, false)
-    } else if is_symbol(tokens, at, Symbol::Minus) {
-        signed(alloc, tokens, at + 1, true)
-    } else if is_string_at(tokens, at) {
-        let (text, at) = string(alloc, tokens, at)?;
-        Ok((Expr::String(text), at))
-    } else {
-        let (number, at) = unsigned(tokens, at)?;
-        Ok((Expr::Numeral(number), at))
+impl Element for ColumnReference {
+    ghost use Rattle.definitions.specs.Statement.{ColumnReference};
+    ghost use Rattle.definitions.specs.Grammar.{ReferenceAt};
+    ghost use Rattle.definitions.proofs.Grammar.{reference_alike};
+    ghost use Rattle.syntax.specs.Trees.{column_of};
+
+    ghost Tree = { ColumnReference };
+
+    ghost rule = { ReferenceAt };
+
+    ghost reads_one_way = { reference_alike };
+
+    ghost tree_of = { column_of };
+
+    fn read(cursor: &mut Cursor) -> Result<ColumnReference, Stop> {
+        cursor.column_reference(TokenClass::Name)
     }
 }
 
-/// A number behind its sign.
-fn signed(alloc: Global, tokens: &Tokens, at: usize, minus: bool) -> Result<(Expr, usize), Stop>
-    ensures next { IfOk result (λ r. (at < r.1) × (r.1 ≤ length tokens.now)) }
-    ensures derived { IfOk result (λ r. (e : _) × UnsignedAt (kinds_of tokens.now) at r.1 e × (expr_of r.0 ≡ tree.Signed minus e)) }
-    ensures none { IfErr result (Stops UnsignedAt (kinds_of tokens.now) at) }
-{
-    let (number, at) = unsigned(tokens, at)?;
-    let operand = Box::new(alloc, Expr::Numeral(number))?;
-    Ok((Expr::Signed { minus, operand }, at))
-}
+impl Element for Key {
+    ghost use Rattle.definitions.specs.Statement.{Key};
+    ghost use Rattle.definitions.specs.Grammar.{KeyAt};
+    ghost use Rattle.definitions.proofs.Grammar.{key_alike};
+    ghost use Rattle.syntax.specs.Trees.{key_of};
 
-/// An unsigned number (ISO/IEC 9075:1992, 5.3, exact numeric literal).
-fn unsigned(tokens: &Tokens, at: usize) -> Result<(Numeral, usize), Stop>
-    ensures next { IfOk result (λ r. (at < r.1) × (r.1 ≤ length tokens.now)) }
-    ensures derived { IfOk result (λ r. UnsignedAt (kinds_of tokens.now) at r.1 (numeral_of r.0)) }
-    ensures none { IfErr result (Stops UnsignedAt (kinds_of tokens.now) at) }
-{
-    let Some(token) = tokens.look(at, TokenClass::Number) else {
-        return Err(Stop::Token(at));
-    };
-    let Some(number) = numeral(token.kind) else {
-        return Err(Stop::Token(at));
-    };
-    let number = Numeral {
-        units: number.units,
-        digits: number.digits,
-        scale: number.fraction.unwrap_or(0),
-        start: token.start,
-    };
-    Ok((number, at + 1))
+    ghost Tree = { Key };
+
+    ghost rule = { KeyAt };
+
+    ghost reads_one_way = { key_alike };
+
+    ghost tree_of = { key_of };
+
+    /// `(name | count) [ ASC | DESC ]` (ISO/IEC 9075:1992, 13.1).
+    fn read(cursor: &mut Cursor) -> Result<Key, Stop> {
+        let name = cursor.key_name()?;
+        let descending = cursor.descending();
+        Ok(Key { name, descending })
+    }
 }

@@ -8,4 +8,8 @@ returns-in-Err-clause-fault c = lexical_told _ _ _ c.lexical.ensures c.in-Err.en
 
 pub returns-in-Err-Unexpected-clause-fault : goal.returns-in-Err-Unexpected-clause-fault
 returns-in-Err-Unexpected-clause-fault c =
-    s.syntax _ c.in-Err-Unexpected.unexpected.offset c.in-Ok.ensures.tokens (rw (c.in-Err-Unexpected.field-0-is, c.deref.ensures.value) at c.in-Err-Unexpected.ensures.fault) refl
+    s.syntax _ _ c.in-Err-Unexpected.unexpected.offset c.in-Ok.ensures.tokens (rw (c.in-Err-Unexpected.field-0-is, c.deref.ensures.value) at c.in-Err-Unexpected.ensures.fault) refl
+
+pub returns-in-Err-TooDeep-clause-fault : goal.returns-in-Err-TooDeep-clause-fault
+returns-in-Err-TooDeep-clause-fault c =
+    s.syntax _ _ c.in-Err-TooDeep.offset c.in-Ok.ensures.tokens (rw (c.in-Err-TooDeep.field-0-is, c.deref.ensures.value) at c.in-Err-TooDeep.ensures.fault) refl

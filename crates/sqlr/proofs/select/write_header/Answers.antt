@@ -1,7 +1,7 @@
 use Rattle.std.proofs.Common.{◌≡◌, ◌∙◌, ◌++◌, ◌∷◌, [], ap, arith}
 use Rattle.definitions.specs.Printing.{item_name}
 use Rattle.syntax.specs.Trees.{item_of}
-use Rattle.sqlr.proofs.Simple.{next}
+use Rattle.sqlr.proofs.Elements.{next}
 use Rattle.sqlr.proofs.Lines.{later_field, first_field}
 use Rattle.sqlr.proofs.select.write_header.Goals as goal
 use Rattle.sqlr.proofs.select.write_header.Goals.{then-i-gt0+in_ok-push, else-i-gt0}

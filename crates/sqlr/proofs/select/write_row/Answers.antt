@@ -5,7 +5,7 @@ use Rattle.definitions.specs.Table.{Row}
 use Rattle.sqlvalue.specs.Meaning.{value_of}
 use Rattle.sqlr.specs.Binding.{value_at}
 use Rattle.std.proofs.lemmas.List.{get_or_default}
-use Rattle.sqlr.proofs.Simple.{next}
+use Rattle.sqlr.proofs.Elements.{next}
 use Rattle.sqlr.proofs.Lines.{later_field, first_field}
 use Rattle.sqlr.proofs.select.write_row.Goals as goal
 use Rattle.sqlr.proofs.select.write_row.Goals.{then-i-gt0+in_ok-push, else-i-gt0}

@@ -5,7 +5,7 @@ use Rattle.std.specs.Result.{is_ok}
 use Rattle.definitions.specs.Limits.{most_tables, most_columns}
 use Rattle.definitions.specs.Faults as faults
 use Rattle.catalog.specs.Meaning.{definitions_of, definition_of}
-use Rattle.catalog.proofs.Naming.{taken, not_taken, accepted, untyped_fault, many_tables, many_columns, on_ok}
+use Rattle.catalog.proofs.Naming.{taken, not_taken, accepted, unconstrained, untyped_fault, many_tables, many_columns, on_ok}
 use Rattle.catalog.proofs.Typing.{database_pushed}
 use Rattle.catalog.proofs.database.Database.create_table.Goals as goal
 
@@ -32,7 +32,7 @@ returns-clause-accepted c =
     let few : length c.args.self.now < most_tables = omega (arith, c.if-len-ge-MAX_TABLES.false, c.len.ensures, c.self.inside.tables.ok.0, ap length c.self.view_is) in
     let narrow : length (definitions_of c.args.columns.now) ≤ most_columns = omega (arith, c.if-columns-gt-MAX_COLUMNS.false, length-map c.args.columns.now definition_of) in
     on_ok c.map_err.result _
-    (accepted _ _ _ (not_taken c.args.self.now c.args.name.now c.table.result c.table.ensures.named (sym c.is_some.ensures ∙ c.if-is_some.false)) ((c.in_default.ensures).none refl) few narrow (c.in_ok-table.ensures).types)
+    (accepted _ _ _ (not_taken c.args.self.now c.args.name.now c.table.result c.table.ensures.named (sym c.is_some.ensures ∙ c.if-is_some.false)) ((c.in_default.ensures).none refl) few narrow (c.in_ok-table.ensures).types (unconstrained c.args.columns.now))
 
 pub invariant_of-self : goal.invariant_of-self
 invariant_of-self c =

@@ -1,4 +1,4 @@
-use Rattle.std.proofs.Common.{◌∙◌, None, Some, refl, sym, ap}
+use Rattle.std.proofs.Common.{◌∙◌, sym, ap}
 use Rattle.std.specs.Prelude.{option_map}
 use Rattle.refusals.specs.Meaning.{refusal_of}
 use Rattle.sqlr.proofs.Taking.{as_refused, refusal_told, table_created}

@@ -1,5 +1,4 @@
-use Rattle.std.proofs.Common.{None, refl, sym}
-use Rattle.sqlr.specs.declared.ended.Ended.TheVariants as e
+use Rattle.std.proofs.Common.{sym}
 use Rattle.sqlr.proofs.Taking.{rows_taken, record_told, limit_told}
 use Rattle.sqlr.proofs.session.Session.load_bytes.Goals as goal
 

@@ -1,9 +1,5 @@
-use Rattle.sqlr.proofs.Simple.{derived_simple}
 use Rattle.sqlr.proofs.Running.{script_ran, script_broke, line_printed, line_broke, nothing_done}
 use Rattle.sqlr.proofs.session.Session.run.Goals as goal
-
-pub run_statements-requires : goal.run_statements-requires
-run_statements-requires g c = rw c.deref.ensures.value (derived_simple _ _ c.in-Ok.ensures.statements.2)
 
 pub returns-in-Ok-clause-runs : goal.returns-in-Ok-clause-runs
 returns-in-Ok-clause-runs g c = script_ran _ _ _ _ _ _ _ _ c.in-Ok.ensures.statements (rw c.deref.ensures.value at c.run_statements.ensures.runs)

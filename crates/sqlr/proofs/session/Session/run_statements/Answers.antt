@@ -1,12 +1,7 @@
 use Rattle.std.proofs.Common.{arith}
-use Rattle.syntax.specs.Trees.{statement_of}
-use Rattle.sqlr.specs.Simple.{IsSimpleStatement}
-use Rattle.sqlr.proofs.Simple.{at_place, next}
+use Rattle.sqlr.proofs.Elements.{next}
 use Rattle.sqlr.proofs.Running.{one_more, broke_undone, broke_done, memory_apart, library_apart}
 use Rattle.sqlr.proofs.session.Session.run_statements.Goals as goal
-
-pub step-requires : goal.step-requires
-step-requires g c = at_place IsSimpleStatement statement_of c.args.statements.now c.statements.statement-index c.statement-item.result c.requires c.statements-test.true c.statement-item.is
 
 pub returns-in-Err-Memory-clause-breaks : goal.returns-in-Err-Memory-clause-breaks
 returns-in-Err-Memory-clause-breaks g c =

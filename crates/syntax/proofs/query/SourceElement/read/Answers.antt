@@ -1,0 +1,18 @@
+use Rattle.std.proofs.Common.{rules}
+use Rattle.syntax.specs.Trees.{name_of}
+use Rattle.definitions.specs.Grammar as g
+use Rattle.definitions.proofs.Grammar.{name_alike}
+use Rattle.syntax.proofs.Outcomes.{maybe_says, flat_on, then_fails, no_memory, answers}
+use Rattle.syntax.proofs.query.SourceElement.read.Goals as goal
+
+pub returns-in_err-table : goal.returns-in_err-table
+unfolding g.SourceAt
+returns-in_err-table c l k = answers _ _ (search rules) (then_fails (c.in_err-table.ensures l k))
+
+pub returns-in_err-correlation : goal.returns-in_err-correlation
+unfolding g.SourceAt
+returns-in_err-correlation c l k = answers _ _ (search rules) (no_memory c.in_err-correlation.ensures.memory)
+
+pub returns : goal.returns
+unfolding g.SourceAt
+returns c l k = flat_on name_alike c.in_ok-table.ensures (maybe_says name_of (λ o. record { table = name_of c.in_ok-table.table; correlation = o }) c.in_ok-correlation.correlation c.in_ok-correlation.ensures.ok)
