@@ -135,13 +135,7 @@ static VALUE_WORDS: [Word; 7] = [
 ];
 
 /// The words that go on behind values.
-static OPERATOR_WORDS: [Word; 5] = [
-    Word::Is,
-    Word::Not,
-    Word::Between,
-    Word::Like,
-    Word::In,
-];
+static OPERATOR_WORDS: [Word; 5] = [Word::Is, Word::Not, Word::Between, Word::Like, Word::In];
 
 static QUANTIFIER_WORDS: [Word; 3] = [Word::All, Word::Any, Word::Some];
 
