@@ -15,7 +15,7 @@ pub(crate) fn offset_of(cause: &Cause) -> usize {
             Some(_) => unexpected.offset,
             None => unexpected.behind,
         },
-        Cause::TooDeep { offset, .. } => *offset,
+        Cause::TooDeep { offset } => *offset,
         Cause::NotYet(statement) => offset_not_yet(statement),
         Cause::Create {
             name,

@@ -104,7 +104,7 @@ turn_gap text start n l ts o r f e none =
     let k = told_is start n (drop start text) l (Ok None) (rw none at e) in
     reads_gap text start n l ts r (first_is text start n l f) (cc)
 
-pub turn_token : (text : List ℕ) (start n : ℕ) (l : Lexeme) (ts : List Token) (t : CodeToken) (o : Option TokenKind) → ReadsOn text start ts → IsFirst (take (length text - start) (drop start text)) l n → t.start ≡ start → t.text.now ≡ take (start + n - start) (drop start text) → outcome_of start (take (start + n - start) (drop start text)) (Ok o) ≡ Some (token_of start (take (start + n - start) (drop start text)) (lexeme_of (take (start + n - start) (drop start text)) l)) → o ≡ Some t.kind → ReadsOn text (start + n) (ts ++ meaning.token_of t ∷ [])
+turn_token : (text : List ℕ) (start n : ℕ) (l : Lexeme) (ts : List Token) (t : CodeToken) (o : Option TokenKind) → ReadsOn text start ts → IsFirst (take (length text - start) (drop start text)) l n → t.start ≡ start → t.text.now ≡ take (start + n - start) (drop start text) → outcome_of start (take (start + n - start) (drop start text)) (Ok o) ≡ Some (token_of start (take (start + n - start) (drop start text)) (lexeme_of (take (start + n - start) (drop start text)) l)) → o ≡ Some t.kind → ReadsOn text (start + n) (ts ++ meaning.token_of t ∷ [])
 turn_token text start n l ts t o r f s x e some =
     let k = told_is start n (drop start text) l (Ok (Some t.kind)) (rw some at e) in
     let y : t.text.now ≡ take n (drop start text) = x ∙ own_is start n (drop start text) in
@@ -144,8 +144,11 @@ turn_ascii text start n l kind o f e some =
 
 -- ---- the tokens in the vector
 
-pub tokens_of-push : (ts us : List CodeToken) (t : CodeToken) → us ≡ ts ++ t ∷ [] → meaning.tokens_of us ≡ meaning.tokens_of ts ++ meaning.token_of t ∷ []
+tokens_of-push : (ts us : List CodeToken) (t : CodeToken) → us ≡ ts ++ t ∷ [] → meaning.tokens_of us ≡ meaning.tokens_of ts ++ meaning.token_of t ∷ []
 tokens_of-push ts us t e = ap meaning.tokens_of e ∙ map_push meaning.token_of ts t
+
+pub reads_more : (text : List ℕ) (start n : ℕ) (l : Lexeme) (ts us : List CodeToken) (t : CodeToken) (o : Option TokenKind) → us ≡ ts ++ t ∷ [] → ReadsOn text start (meaning.tokens_of ts) → IsFirst (take (length text - start) (drop start text)) l n → t.start ≡ start → t.text.now ≡ take (start + n - start) (drop start text) → outcome_of start (take (start + n - start) (drop start text)) (Ok o) ≡ Some (token_of start (take (start + n - start) (drop start text)) (lexeme_of (take (start + n - start) (drop start text)) l)) → o ≡ Some t.kind → ReadsOn text (start + n) (meaning.tokens_of us)
+reads_more text start n l ts us t o e r f s x told some = rw (tokens_of-push ts us t e) (turn_token text start n l (meaning.tokens_of ts) t o r f s x told some)
 
 pub slices_more : (script : List ℕ) (ts us : List CodeToken) (t : CodeToken) (start n : ℕ) → us ≡ ts ++ t ∷ [] → AreSlices script 0 ts → end_of 0 ts ≤ start → t.start ≡ start → t.text.now ≡ take (start + n - start) (drop start script) → start + n ≤ length script → AreSlices script 0 us × (end_of 0 us ≡ start + n)
 slices_more script ts us t start n e h l s x within =

@@ -1,10 +1,13 @@
 -- What the tokens and faults of this crate stand for.
 use Rattle.std.specs.Prelude.{ℕ, ◌≤◌, ◌+◌, ◌≡◌, ⊤, List, [], ◌∷◌, Option, Some, None, Bool, true, false, ◌==◌, if◌then◌else◌, length, map, slice_range}
+use Rattle.std.specs.Str.Parse.{digits_value}
 use Rattle.definitions.specs.Characters.{quote, folded}
 use Rattle.definitions.specs.Word as spec
 use Rattle.definitions.specs.Token as token
 use Rattle.definitions.specs.Lexing as lexing
+use Rattle.definitions.specs.Grammar.{kinds}
 use Rattle.definitions.specs.Refusal as refusal
+use Rattle.lexer.specs.declared.numeral.Numeral.{Numeral}
 use Rattle.lexer.specs.declared.word.Word.{Word}
 use Rattle.lexer.specs.declared.word.Word.TheVariants as w
 use Rattle.lexer.specs.declared.token.Symbol.{Symbol}
@@ -102,10 +105,15 @@ abbrev pub quoted_text : List ℕ → List ℕ
 quoted_text [] = []
 quoted_text (c ∷ rest) = if c == quote then unquoted false rest else []
 
+-- what a number says
+abbrev pub numeral_parts : Numeral → ℕ × ℕ × Option ℕ
+numeral_parts n = (n.units, n.digits, n.fraction)
+
+-- what a token is, from its text
 abbrev pub kind_of : (text : List ℕ) → TokenKind → token.TokenKind
 kind_of text (k.Reserved word) = token.Reserved (word_of word)
 kind_of text k.Name = token.Name (folded text)
-kind_of text (k.Numeral n) = token.Numeral n.units n.digits n.fraction
+kind_of text k.Numeral = token.Numeral (digits_value 10 (lexing.digits_of text)) (length (lexing.digits_of text)) (lexing.behind_point text)
 kind_of text k.String = token.String (quoted_text text)
 kind_of text (k.Mark symbol) = token.Mark (symbol_of symbol)
 
@@ -114,6 +122,10 @@ token_of t = record { at = t.start; text = t.text.now; kind = kind_of t.text.now
 
 abbrev pub tokens_of : List Token → List token.Token
 tokens_of = map token_of
+
+-- what the tokens of a script are, in their order
+abbrev pub kinds_of : List Token → List token.TokenKind
+kinds_of tokens = kinds (tokens_of tokens)
 
 -- each token's text is its slice of the script, behind the tokens before it
 abbrev pub AreSlices : (script : List ℕ) → (from : ℕ) → List Token → Type 0

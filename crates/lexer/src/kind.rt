@@ -1,18 +1,17 @@
 //! The token that a lexeme is, or its fault.
 
-ghost use Rattle.std.specs.Prelude.{◌≡◌, ◌+◌, ◌<◌, ◌≤◌, ◌^◌, Some, Err, IfSome, false, not, length, position, slice_index};
-ghost use Rattle.std.specs.Str.Parse.{digits_value as value_of};
+ghost use Rattle.std.specs.Prelude.{◌≡◌, ◌+◌, ◌<◌, ◌≤◌, ◌^◌, Some, Err, IfOk, IfSome, false, not, length, position, slice_index};
 ghost use Rattle.definitions.specs.Characters as characters;
-ghost use Rattle.definitions.specs.Limits.{most_digits};
 ghost use Rattle.definitions.specs.Lexing as lexing;
 ghost use Rattle.definitions.specs.Refusal as refusal;
 ghost use Rattle.lexer.specs.Meaning.{fault_of, unquoted, behind_first};
+ghost use Rattle.lexer.specs.Numbers.{IsNumberWithin};
 ghost use Rattle.lexer.specs.Lexeme.{lexeme_of, quotation_of, outcome_of};
 
-use crate::byte::{begins_character, is_digit, is_printable};
+use crate::byte::{begins_character, is_printable};
 use crate::fault::{LexFault, LongLiteral, StrayPlace};
 use crate::lexeme::Lexeme;
-use crate::numeral::Numeral;
+use crate::number::digit_count;
 use crate::token::TokenKind;
 use crate::word::reserved_word;
 
@@ -29,7 +28,8 @@ pub const MAX_DIGITS: usize = 38;
 pub fn token_kind(start: usize, text: &[u8], lexeme: Lexeme) -> Result<Option<TokenKind>, LexFault>
     requires room { start + length text.now < 2 ^ 64 }
     requires same { lexing.lexeme_of text.now ≡ Some (lexeme_of text.now lexeme) }
-    ensures { outcome_of start text.now result ≡ Some (lexing.token_of start text.now (lexeme_of text.now lexeme)) }
+    ensures outcome { outcome_of start text.now result ≡ Some (lexing.token_of start text.now (lexeme_of text.now lexeme)) }
+    ensures within { IfOk result (λ kind. IfSome kind (λ k. IsNumberWithin k text.now)) }
 {
     match lexeme {
         Lexeme::Gap => Ok(None),
@@ -46,7 +46,8 @@ pub fn token_kind(start: usize, text: &[u8], lexeme: Lexeme) -> Result<Option<To
 }
 
 fn word_kind(start: usize, text: &[u8]) -> Result<Option<TokenKind>, LexFault>
-    ensures { outcome_of start text.now result ≡ Some (lexing.token_of start text.now lexing.Word') }
+    ensures outcome { outcome_of start text.now result ≡ Some (lexing.token_of start text.now lexing.Word') }
+    ensures within { IfOk result (λ kind. IfSome kind (λ k. IsNumberWithin k text.now)) }
 {
     if text.len() > MAX_NAME_CHARACTERS {
         return Err(LexFault::LongName {
@@ -62,17 +63,14 @@ fn word_kind(start: usize, text: &[u8]) -> Result<Option<TokenKind>, LexFault>
 
 fn number_kind(start: usize, text: &[u8]) -> Result<Option<TokenKind>, LexFault>
     requires { length text.now ≤ length (lexing.digits_of text.now) + 1 }
-    ensures { outcome_of start text.now result ≡ Some (lexing.token_of start text.now lexing.Number) }
+    ensures outcome { outcome_of start text.now result ≡ Some (lexing.token_of start text.now lexing.Number) }
+    ensures within { IfOk result (λ kind. IfSome kind (λ k. IsNumberWithin k text.now)) }
 {
     let digits = digit_count(text);
     if digits > MAX_DIGITS {
         return Err(long_number(start, digits));
     }
-    Ok(Some(TokenKind::Numeral(Numeral {
-        units: digits_value(text),
-        digits: digits as u8,
-        fraction: behind_point(text).map(|count| count as u8),
-    })))
+    Ok(Some(TokenKind::Numeral))
 }
 
 fn run_on_fault(start: usize, text: &[u8]) -> LexFault
@@ -104,7 +102,8 @@ fn string_kind(start: usize, text: &[u8], closed: bool) -> Result<Option<TokenKi
     requires some { 0 < length text.now }
     requires opens { slice_index text.now 0 ≡ characters.quote }
     requires room { start + length text.now < 2 ^ 64 }
-    ensures { outcome_of start text.now result ≡ Some (lexing.token_of start text.now (quotation_of text.now closed)) }
+    ensures outcome { outcome_of start text.now result ≡ Some (lexing.token_of start text.now (quotation_of text.now closed)) }
+    ensures within { IfOk result (λ kind. IfSome kind (λ k. IsNumberWithin k text.now)) }
 {
     if !closed {
         return Err(LexFault::OpenString { offset: start });
@@ -123,40 +122,6 @@ fn string_kind(start: usize, text: &[u8], closed: bool) -> Result<Option<TokenKi
         }),
         None => Ok(Some(TokenKind::String)),
     }
-}
-
-fn digit_count(text: &[u8]) -> usize
-    ensures { result ≡ length (lexing.digits_of text.now) }
-{
-    text.iter().filter(|byte| is_digit(**byte)).count()
-}
-
-/// What the digits write, without the point.
-fn digits_value(text: &[u8]) -> u128
-    requires { value_of 10 (lexing.digits_of text.now) < 10 ^ most_digits }
-    ensures value { result ≡ value_of 10 (lexing.digits_of text.now) }
-    ensures bounded { result < 10 ^ most_digits }
-{
-    let mut value = 0;
-    for byte in text {
-        if is_digit(*byte) {
-            value = value * 10 + u128::from(*byte - b'0');
-        }
-    }
-    value
-}
-
-/// How many bytes stand behind the point, if there is one.
-fn behind_point(text: &[u8]) -> Option<usize>
-    ensures count { result ≡ lexing.behind_point text.now }
-    ensures within { IfSome result (λ count. count < length text.now) }
-{
-    for (offset, byte) in text.iter().enumerate() {
-        if *byte == b'.' {
-            return Some(text.len() - 1 - offset);
-        }
-    }
-    None
 }
 
 /// The offset of the first byte that a string may not hold.

@@ -5,8 +5,10 @@ mod byte;
 mod fault;
 mod kind;
 mod lexeme;
+mod number;
 mod numeral;
 mod scan;
+mod symbol;
 mod token;
 mod word;
 

@@ -1,10 +1,7 @@
 //! Tokens.
 
-ghost use Rattle.std.specs.Prelude.{◌≡◌, [], ◌∷◌, Some, option_map};
-ghost use Rattle.definitions.specs.Lexing.{symbol};
-ghost use Rattle.lexer.specs.Meaning.{symbol_of};
+ghost use Rattle.lexer.specs.Numbers.{IsNumberWithin};
 
-use crate::numeral::Numeral;
 use crate::word::Word;
 
 /// A symbol (ISO/IEC 9075:1992, 5.1 and 5.2).
@@ -27,71 +24,14 @@ pub enum Symbol {
     GreaterOrEquals,
 }
 
-impl Symbol {
-    /// The characters of the symbol.
-    pub fn as_str(self) -> &'static str
-        ensures { symbol result.now ≡ Some (symbol_of self) }
-    {
-        match self {
-            Symbol::OpenParen => "(",
-            Symbol::CloseParen => ")",
-            Symbol::Comma => ",",
-            Symbol::Semicolon => ";",
-            Symbol::Point => ".",
-            Symbol::Asterisk => "*",
-            Symbol::Plus => "+",
-            Symbol::Minus => "-",
-            Symbol::Solidus => "/",
-            Symbol::Equals => "=",
-            Symbol::NotEquals => "<>",
-            Symbol::LessThan => "<",
-            Symbol::GreaterThan => ">",
-            Symbol::LessOrEquals => "<=",
-            Symbol::GreaterOrEquals => ">=",
-        }
-    }
-
-    /// The symbol that a byte is (ISO/IEC 9075:1992, 5.1).
-    pub(crate) fn from_byte(byte: u8) -> Option<Symbol>
-        ensures { option_map symbol_of result ≡ symbol (byte ∷ []) }
-    {
-        match byte {
-            b'(' => Some(Symbol::OpenParen),
-            b')' => Some(Symbol::CloseParen),
-            b',' => Some(Symbol::Comma),
-            b';' => Some(Symbol::Semicolon),
-            b'.' => Some(Symbol::Point),
-            b'*' => Some(Symbol::Asterisk),
-            b'+' => Some(Symbol::Plus),
-            b'-' => Some(Symbol::Minus),
-            b'/' => Some(Symbol::Solidus),
-            b'=' => Some(Symbol::Equals),
-            b'<' => Some(Symbol::LessThan),
-            b'>' => Some(Symbol::GreaterThan),
-            _ => None,
-        }
-    }
-
-    /// The symbol that two bytes are (ISO/IEC 9075:1992, 5.2).
-    pub(crate) fn from_pair(first: u8, second: u8) -> Option<Symbol>
-        ensures { option_map symbol_of result ≡ symbol (first ∷ second ∷ []) }
-    {
-        match (first, second) {
-            (b'<', b'>') => Some(Symbol::NotEquals),
-            (b'<', b'=') => Some(Symbol::LessOrEquals),
-            (b'>', b'=') => Some(Symbol::GreaterOrEquals),
-            _ => None,
-        }
-    }
-}
-
 /// What a token is.
 #[derive(Clone, Copy, Debug, PartialEq, Eq)]
 pub enum TokenKind {
     Reserved(Word),
     /// An identifier that is no reserved word.
     Name,
-    Numeral(Numeral),
+    /// An unsigned number.
+    Numeral,
     /// A character string literal.
     String,
     Mark(Symbol),
@@ -105,4 +45,5 @@ pub struct Token<'a> {
     pub text: &'a str,
     /// The offset of its first byte in the script.
     pub start: usize,
+    pub ghost within: { IsNumberWithin kind text.now },
 }

@@ -3,15 +3,9 @@
 #![tactic(auto)]
 
 #[cfg(test)]
-mod shown;
-#[cfg(test)]
-mod statements;
-#[cfg(test)]
 mod tables;
 #[cfg(test)]
 mod tokens;
-#[cfg(test)]
-mod trees;
 #[cfg(test)]
 mod values;
 #[cfg(test)]

@@ -1,71 +1,70 @@
 //! Scripts with their tokens or their fault.
 
-ghost use Rattle.std.specs.Prelude.{◌^◌, ◌<◌};
-
-use lexer::TokenKind::{self, Mark, Name, Reserved, String as Text};
-use lexer::{LexFault, LongLiteral, Numeral, StrayPlace, Symbol, Word, lex};
+use lexer::TokenKind::{self, Mark, Name, Numeral, Reserved, String as Text};
+use lexer::{LexFault, LongLiteral, StrayPlace, Symbol, Word, lex};
 use std::test::Fail;
 
-fn number(units: u128, digits: u8, fraction: Option<u8>) -> TokenKind
-    requires { units < 10 ^ 38 }
-{
-    TokenKind::Numeral(Numeral {
-        units,
-        digits,
-        fraction,
-    })
-}
+/// Scripts, and the kind of each token, where it begins, and how many bytes it has.
+static SCRIPTS: [(&str, &[(TokenKind, usize, usize)]); 11] = [
+    ("", &[]),
+    (" \t\r\n", &[]),
+    ("-- é, all of it", &[]),
+    ("--a\n;", &[(Mark(Symbol::Semicolon), 4, 1)]),
+    (
+        "select Ab_1",
+        &[(Reserved(Word::Select), 0, 6), (Name, 7, 4)],
+    ),
+    ("ABCDEFGHIJKLMNOPQR", &[(Name, 0, 18)]),
+    ("1.", &[(Numeral, 0, 2)]),
+    ("1.5.2", &[(Numeral, 0, 3), (Numeral, 3, 2)]),
+    ("''''", &[(Text, 0, 4)]),
+    ("'it''s';", &[(Text, 0, 7), (Mark(Symbol::Semicolon), 7, 1)]),
+    (
+        "<>.<=-a",
+        &[
+            (Mark(Symbol::NotEquals), 0, 2),
+            (Mark(Symbol::Point), 2, 1),
+            (Mark(Symbol::LessOrEquals), 3, 2),
+            (Mark(Symbol::Minus), 5, 1),
+            (Name, 6, 1),
+        ],
+    ),
+];
 
 #[test]
 fn scripts_have_their_tokens(rt: HostRuntime) -> Result<(), Fail> {
-    // The kind of each token, where it begins, and how many bytes it has.
-    let cases: [(&str, &[(TokenKind, usize, usize)]); 14] = [
-        ("", &[]),
-        (" \t\r\n", &[]),
-        ("-- é, all of it", &[]),
-        ("--a\n;", &[(Mark(Symbol::Semicolon), 4, 1)]),
-        (
-            "select Ab_1",
-            &[(Reserved(Word::Select), 0, 6), (Name, 7, 4)],
-        ),
-        ("ABCDEFGHIJKLMNOPQR", &[(Name, 0, 18)]),
-        ("1", &[(number(1, 1, None), 0, 1)]),
-        ("1.", &[(number(1, 1, Some(0)), 0, 2)]),
-        (".5", &[(number(5, 1, Some(1)), 0, 2)]),
-        (
-            "1.5.2",
-            &[
-                (number(15, 2, Some(1)), 0, 3),
-                (number(2, 1, Some(1)), 3, 2),
-            ],
-        ),
-        (
-            "99999999999999999999999999999999999999",
-            &[(
-                number(99999999999999999999999999999999999999, 38, None),
-                0,
-                38,
-            )],
-        ),
-        ("''''", &[(Text, 0, 4)]),
-        ("'it''s';", &[(Text, 0, 7), (Mark(Symbol::Semicolon), 7, 1)]),
-        (
-            "<>.<=-a",
-            &[
-                (Mark(Symbol::NotEquals), 0, 2),
-                (Mark(Symbol::Point), 2, 1),
-                (Mark(Symbol::LessOrEquals), 3, 2),
-                (Mark(Symbol::Minus), 5, 1),
-                (Name, 6, 1),
-            ],
-        ),
-    ];
-    for (script, expected) in cases {
+    for (script, expected) in SCRIPTS {
         let mut found = Vec::new(rt.alloc());
         for token in lex(rt.alloc(), script)? {
             found.push((token.kind, token.start, token.text.len()))?;
         }
         assert_eq!(rt; found.as_slice(), expected, "{script}");
+    }
+    Ok(())
+}
+
+#[test]
+fn numbers_have_their_units_digits_and_fraction(rt: HostRuntime) -> Result<(), Fail> {
+    let most = 99999999999999999999999999999999999999;
+    let cases = [
+        ("1", Some((1, 1, None))),
+        ("1.", Some((1, 1, Some(0)))),
+        (".5", Some((5, 1, Some(1)))),
+        ("1.5", Some((15, 2, Some(1)))),
+        ("007.50", Some((750, 5, Some(2)))),
+        (
+            "99999999999999999999999999999999999999",
+            Some((most, 38, None)),
+        ),
+        ("A", None),
+        ("'1'", None),
+        ("-1", None),
+    ];
+    for (script, expected) in cases {
+        let tokens = lex(rt.alloc(), script)?;
+        let first = tokens.first().and_then(|token| token.numeral());
+        let found = first.map(|number| (number.units, number.digits, number.fraction));
+        assert_eq!(rt; found, expected, "{script}");
     }
     Ok(())
 }

@@ -13,8 +13,8 @@ use Rattle.definitions.specs.Faults as faults
 use Rattle.definitions.specs.Answer.{value, is_kept, projected}
 use Rattle.definitions.specs.Printing.{expr_name}
 use Rattle.catalog.specs.Places.{IsColumnPlace}
-use Rattle.syntax.specs.declared.tree.Item as tree
-use Rattle.syntax.specs.Trees.{item_of, op_of}
+use Rattle.trees.specs.declared.expr.Item as tree
+use Rattle.trees.specs.Trees.{item_of, op_of}
 use Rattle.sqlr.specs.declared.binding.Comparison.{Comparison}
 use Rattle.sqlr.proofs.Comparing.{column_of}
 use Rattle.sqlr.proofs.NotYet.{plain_items, plain_condition}
@@ -102,28 +102,10 @@ nothing (Some e) h = h
 
 -- an expression's fault is one of the query whose condition it is
 pub condition_fault : (db : Database) (b : Block) (t : Table) (f : r.Refusal) → IsFrom db b t → faults.IfPresent (λ e. IsExprFault t e f) (block_condition b) → faults.BlockFaulty db b f
-condition_fault db b t r.StrayCharacter h i = absurd (nothing (block_condition b) i)
-condition_fault db b t r.OpenString h i = absurd (nothing (block_condition b) i)
-condition_fault db b t r.LongLiteral h i = absurd (nothing (block_condition b) i)
-condition_fault db b t r.LongName h i = absurd (nothing (block_condition b) i)
-condition_fault db b t r.Unexpected h i = absurd (nothing (block_condition b) i)
-condition_fault db b t r.TooDeep h i = absurd (nothing (block_condition b) i)
-condition_fault db b t r.NameTaken h i = absurd (nothing (block_condition b) i)
-condition_fault db b t r.NotFound h i = absurd (nothing (block_condition b) i)
-condition_fault db b t r.OverLimit h i = absurd (nothing (block_condition b) i)
-condition_fault db b t r.FieldCount h i = absurd (nothing (block_condition b) i)
-condition_fault db b t (r.Field e) h i = absurd (nothing (block_condition b) i)
-condition_fault db b t r.NullOrRepeated h i = absurd (nothing (block_condition b) i)
 condition_fault db b t r.ScaleTooGreat h i = faults.great_scale (inr i)
 condition_fault db b t r.UnknownColumn h i = faults.unknown_column h.source t h.single h.named (inr i)
 condition_fault db b t r.MixedKinds h i = faults.mixed_kinds h.source t h.single h.named (inr i)
-condition_fault db b t r.MisplacedCondition h i = absurd (nothing (block_condition b) i)
-condition_fault db b t r.MisplacedFunction h i = absurd (nothing (block_condition b) i)
-condition_fault db b t r.UngroupedColumn h i = absurd (nothing (block_condition b) i)
-condition_fault db b t r.UnknownKey h i = absurd (nothing (block_condition b) i)
-condition_fault db b t r.ManyTables h i = absurd (nothing (block_condition b) i)
-condition_fault db b t r.OverQueryLimit h i = absurd (nothing (block_condition b) i)
-condition_fault db b t r.NoFile h i = absurd (nothing (block_condition b) i)
+condition_fault db b t f h i = absurd (nothing (block_condition b) i)
 
 abbrev first_source : List Source → Source
 first_source [] = record { table = []; correlation = None }

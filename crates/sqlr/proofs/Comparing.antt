@@ -3,8 +3,8 @@ use Rattle.std.proofs.Common.{ℕ, ◌≡◌, ◌≢◌, ◌∙◌, refl, sym, a
 use Rattle.std.proofs.Math.Bool.{beq}
 use Rattle.std.specs.Prelude.{if◌then◌else◌, slice_get}
 use Rattle.definitions.specs.Value.{Value, SqlType, Smallint, Integer, Numeric, Char, Kind, Numbers, Texts, kind_of}
-use Rattle.definitions.specs.Statement.{Op, ColumnReference, Expr, Column, Numeral, String, Signed, Line, Not, Compare, CompareAll, IsNull, Between, Like, InList, InQuery, Exists, Scalar, CountRows, Function}
-use Rattle.definitions.specs.NotYet.{IsColumn, IsNumeral, IsLiteral}
+use Rattle.definitions.specs.Statement.{Op, ColumnReference, Expr, Column, Numeral, String, Signed, Compare}
+use Rattle.definitions.specs.NotYet.{IsColumn, IsNumeral, IsLiteral, IsComparison}
 use Rattle.definitions.specs.Table as table
 use Rattle.definitions.specs.Table.{Table}
 use Rattle.definitions.specs.Faults as faults
@@ -17,22 +17,7 @@ use Rattle.sqlr.specs.Binding.{IsFaultless, IsLiteralValue, is_text}
 
 pub column_of : (e : Expr) → IsColumn e → (r : ColumnReference) × (e ≡ Column r)
 column_of (Column r) c = (r, refl)
-column_of (Numeral u d s) c = absurd c
-column_of (String s) c = absurd c
-column_of (Signed m e) c = absurd c
-column_of (Compare o a b) c = absurd c
-column_of (Line e es) c = absurd c
-column_of (Not e) c = absurd c
-column_of (CompareAll o q a b) c = absurd c
-column_of (IsNull n e) c = absurd c
-column_of (Between n a b d) c = absurd c
-column_of (Like n a s) c = absurd c
-column_of (InList n a ms) c = absurd c
-column_of (InQuery n a q) c = absurd c
-column_of (Exists q) c = absurd c
-column_of (Scalar q) c = absurd c
-column_of CountRows c = absurd c
-column_of (Function g d a) c = absurd c
+column_of e c = absurd c
 
 data LiteralForm (e : Expr) : Type 0 where
   numeral : (u d s : ℕ) → e ≡ Numeral u d s → LiteralForm e
@@ -41,22 +26,7 @@ data LiteralForm (e : Expr) : Type 0 where
 
 numeral_of : (e : Expr) → IsNumeral e → (u d s : ℕ) × (e ≡ Numeral u d s)
 numeral_of (Numeral u d s) c = (u, d, s, refl)
-numeral_of (Column r) c = absurd c
-numeral_of (String s) c = absurd c
-numeral_of (Signed m e) c = absurd c
-numeral_of (Compare o a b) c = absurd c
-numeral_of (Line e es) c = absurd c
-numeral_of (Not e) c = absurd c
-numeral_of (CompareAll o q a b) c = absurd c
-numeral_of (IsNull n e) c = absurd c
-numeral_of (Between n a b d) c = absurd c
-numeral_of (Like n a s) c = absurd c
-numeral_of (InList n a ms) c = absurd c
-numeral_of (InQuery n a q) c = absurd c
-numeral_of (Exists q) c = absurd c
-numeral_of (Scalar q) c = absurd c
-numeral_of CountRows c = absurd c
-numeral_of (Function g d a) c = absurd c
+numeral_of e c = absurd c
 
 literal_of : (e : Expr) → IsLiteral e → LiteralForm e
 literal_of (Numeral u d s) c = numeral u d s refl
@@ -65,20 +35,7 @@ literal_of (Signed m e) c = signed_of (numeral_of e c)
   where
     signed_of : (u d s : ℕ) × (e ≡ Numeral u d s) → LiteralForm (Signed m e)
     signed_of (u, d, s, is) = signed m u d s (ap (λ z. Signed m z) is)
-literal_of (Column r) c = absurd c
-literal_of (Compare o a b) c = absurd c
-literal_of (Line e es) c = absurd c
-literal_of (Not e) c = absurd c
-literal_of (CompareAll o q a b) c = absurd c
-literal_of (IsNull n e) c = absurd c
-literal_of (Between n a b d) c = absurd c
-literal_of (Like n a s) c = absurd c
-literal_of (InList n a ms) c = absurd c
-literal_of (InQuery n a q) c = absurd c
-literal_of (Exists q) c = absurd c
-literal_of (Scalar q) c = absurd c
-literal_of CountRows c = absurd c
-literal_of (Function g d a) c = absurd c
+literal_of e c = absurd c
 
 column_scale : (e : Expr) → IsColumn e → faults.HasGreatScale e → ⊥
 column_scale e c h = subst faults.HasGreatScale (column_of e c).1 h
@@ -151,6 +108,10 @@ pub record IsCompared (t : Table) (left right : Expr) (place : ℕ) (type : SqlT
   pub typed : option_map (λ (c : table.Column). c.type) (slice_get t.columns place) ≡ Some type
   pub literal : IsLiteral right
   pub value : IsLiteralValue right v
+
+pub compared : (t : Table) {e : Expr} {op : Op} {left right : Expr} {place : ℕ} {type : SqlType} {v : Value} → e ≡ Compare op left right → IsComparison e → IsColumnPlace t.columns (expr_name left) place
+    → option_map (λ (c : table.Column). c.type) (slice_get t.columns place) ≡ Some type → IsLiteralValue right v → IsCompared t left right place type v
+compared t is c at typed value = let form = subst IsComparison is c in record { column = form.0; at = at; typed = typed; literal = form.1; value = value }
 
 pub kinds_mixed : (t : Table) (e : Expr) (op : Op) (left right : Expr) (place : ℕ) (type : SqlType) (v : Value) → e ≡ Compare op left right → IsCompared t left right place type v → (is_text v ≡ is_text_type type → ⊥) → faults.MixesKinds t e
 kinds_mixed t e op left right place type v is h n =

@@ -4,8 +4,8 @@ use Rattle.std.proofs.lemmas.List.{append-nil, append_assoc}
 use Rattle.definitions.specs.Statement.{Statement}
 use Rattle.definitions.specs.Step as step
 use Rattle.definitions.specs.Step.{Answering, State, Step, Steps, AreStatements, FaultLine, both_ended, StepsBreak, SinkFailed, NoMemory, LibraryFailed}
-use Rattle.syntax.specs.declared.tree.Statement as tree
-use Rattle.syntax.specs.Trees.{statement_of, statements_of}
+use Rattle.trees.specs.declared.statement.Statement as tree
+use Rattle.trees.specs.Trees.{statement_of, statements_of}
 use Rattle.sqlr.specs.declared.ended.Ended.{Ended}
 use Rattle.sqlr.specs.declared.ended.Ended.TheVariants as e
 use Rattle.sqlr.specs.declared.ended.RunFault.{RunFault}

@@ -20,8 +20,8 @@ use Rattle.catalog.specs.Meaning as catalog
 use Rattle.catalog.specs.declared.table.NewColumn.{NewColumn}
 use Rattle.catalog.specs.declared.fault.LoadFault.TheVariants as l
 use Rattle.catalog.specs.declared.fault.RefusedRecord.{RefusedRecord}
-use Rattle.syntax.specs.declared.tree.ColumnDefinition as syntax
-use Rattle.syntax.specs.Trees.{constraint_of, definition_of, definitions_of, name_of}
+use Rattle.trees.specs.declared.statement.ColumnDefinition as syntax
+use Rattle.trees.specs.Trees.{constraint_of, definition_of, definitions_of, name_of}
 use Rattle.sqlr.specs.declared.ended.Ended.TheVariants as e
 use Rattle.sqlr.specs.declared.outcome.Printed.{Printed}
 use Rattle.sqlr.specs.declared.outcome.StepFault.{StepFault}

@@ -7,19 +7,18 @@ ghost use Rattle.definitions.specs.Printing.{expr_name};
 ghost use Rattle.definitions.specs.Limits.{greatest_scale};
 ghost use Rattle.definitions.specs.Faults as faults;
 ghost use Rattle.definitions.specs.Refusal as refusal;
-ghost use Rattle.definitions.specs.Statement.{Query, Signed, block_items, block_sources, condition_expr};
+ghost use Rattle.definitions.specs.Statement.{Column, Query, Signed, block_items, block_sources, condition_expr};
 ghost use Rattle.definitions.specs.NotYet.{IsPlainBlock, IsColumn, IsColumnItem, IsNumeral, IsLiteral, IsComparison, IsWhere};
 ghost use Rattle.definitions.specs.Value.{Number};
 ghost use Rattle.catalog.specs.Places.{IsColumnPlace};
 ghost use Rattle.sqlvalue.specs.Meaning.{value_of};
-ghost use Rattle.syntax.specs.Trees.{block_of, condition_of, expr_of, item_of, name_of};
+ghost use Rattle.trees.specs.Trees.{block_of, condition_of, expr_of, item_of, name_of};
 ghost use Rattle.sqlr.specs.declared.binding.BindFault.TheVariants as bind_fault;
 ghost use Rattle.sqlr.specs.Binding as spec;
 ghost use Rattle.sqlr.specs.Binding.{IsPlaced, ArePlaces, Binds, BindsCondition, IsExprFault, IsFaultless, IsFrom, IsLiteralValue, bind_refusal, rows_of};
 ghost use Rattle.sqlr.specs.Meaning.{query_refusal};
 
 use crate::cause::QueryCause;
-use crate::not_yet::bare;
 use catalog::{Database, Table};
 use sqlvalue::{Num, Value};
 use std::alloc::{AllocError, AllocFailed, Global};
@@ -148,7 +147,10 @@ fn item_columns<'a>(
     let mut columns = Vec::new(alloc);
     'items: for item in items {
         let Some(place) = column_place(table, &item.value) else {
-            return Err(BindFault::Refused(no_column(name, &item.value)));
+            return Err(BindFault::Refused(QueryCause::NoColumn {
+                table: name,
+                column: column_name(&item.value),
+            }));
         };
         columns.push(place)?;
     }
@@ -163,24 +165,18 @@ fn column_place(table: &Table, expr: &Expr) -> Option<usize>
     ensures known { IfSome result (λ place. faults.NamesUnknown table.now (expr_of expr.now) → ⊥) }
     ensures unknown { IsNone result → faults.NamesUnknown table.now (expr_of expr.now) }
 {
-    let Expr::Column(reference) = bare(expr) else {
-        unreachable!()
-    };
-    table.column(reference.name.text.as_str())
+    table.column(column_name(expr).text.as_str())
 }
 
-/// That a table has no column of a name.
-fn no_column<'a>(table: &'a Name, expr: &'a Expr) -> QueryCause<'a>
+/// The name of an unqualified column.
+fn column_name(expr: &Expr) -> &Name
     requires { IsColumn (expr_of expr.now) }
-    ensures { query_refusal result ≡ refusal.UnknownColumn }
+    ensures { expr_of expr.now ≡ Column (record { qualifier = None; name = name_of result.now }) }
 {
-    let Expr::Column(reference) = bare(expr) else {
+    let Expr::Column(reference) = expr else {
         unreachable!()
     };
-    QueryCause::NoColumn {
-        table,
-        column: &reference.name,
-    }
+    &reference.name
 }
 
 fn bind_condition<'a>(
@@ -193,12 +189,9 @@ fn bind_condition<'a>(
     ensures binds { IfOk result (BindsCondition table.now (condition_expr (condition_of condition.now))) }
     ensures refused { IfErr result (λ f. faults.IfPresent (λ e. IsExprFault table.now e (query_refusal f)) (condition_expr (condition_of condition.now))) }
 {
-    let Some(condition) = condition else {
-        return Ok(None);
-    };
-    match bind_comparison(table, name, condition) {
-        Ok(comparison) => Ok(Some(comparison)),
-        Err(cause) => Err(cause),
+    match condition {
+        Some(expr) => Ok(Some(bind_comparison(table, name, expr)?)),
+        None => Ok(None),
     }
 }
 
@@ -218,18 +211,25 @@ fn bind_comparison<'a>(
         left,
         right,
         ..
-    } = bare(expr)
+    } = expr
     else {
         unreachable!()
     };
     let Some(column) = column_place(table, left) else {
-        return Err(no_column(name, left));
+        return Err(QueryCause::NoColumn {
+            table: name,
+            column: column_name(left),
+        });
     };
     let Some(literal) = literal_value(right) else {
         return Err(QueryCause::GreatScale(right));
     };
     if is_text(literal) != table.sql_type(column).is_text() {
-        return Err(mixed_kinds(name, left, right));
+        return Err(QueryCause::MixedKinds {
+            table: name,
+            column: column_name(left),
+            literal: right,
+        });
     }
     Ok(Comparison {
         column,
@@ -238,28 +238,10 @@ fn bind_comparison<'a>(
     })
 }
 
-/// That a column is compared with a literal of the other kind.
-fn mixed_kinds<'a>(table: &'a Name, expr: &'a Expr, literal: &'a Expr) -> QueryCause<'a>
-    requires { IsColumn (expr_of expr.now) }
-    ensures { query_refusal result ≡ refusal.MixedKinds }
-{
-    let Expr::Column(reference) = bare(expr) else {
-        unreachable!()
-    };
-    QueryCause::MixedKinds {
-        table,
-        column: &reference.name,
-        literal,
-    }
-}
-
 fn is_text(value: Value) -> bool
     ensures { result ≡ spec.is_text (value_of value.entry) }
 {
-    match value {
-        Value::Text(_) => true,
-        _ => false,
-    }
+    matches!(value, Value::Text(_))
 }
 
 /// The value of a literal; none where its scale is too great.
@@ -268,7 +250,7 @@ fn literal_value(expr: &Expr) -> Option<Value<'_>>
     ensures value { IfSome result (λ v. IsLiteralValue (expr_of expr.now) (value_of v)) }
     ensures great { IsNone result → faults.HasGreatScale (expr_of expr.now) }
 {
-    match bare(expr) {
+    match expr {
         Expr::Numeral(numeral) => number(*numeral, false),
         Expr::String(literal) => Some(Value::Text(literal.text.as_str())),
         Expr::Signed { minus, operand, .. } => signed_value(*minus, operand),
@@ -281,7 +263,7 @@ fn signed_value<'a>(minus: bool, operand: &Expr) -> Option<Value<'a>>
     ensures value { IfSome result (λ v. IsLiteralValue (Signed minus (expr_of operand.now)) (value_of v)) }
     ensures great { IsNone result → faults.HasGreatScale (expr_of operand.now) }
 {
-    let Expr::Numeral(numeral) = bare(operand) else {
+    let Expr::Numeral(numeral) = operand else {
         unreachable!()
     };
     number(*numeral, minus)

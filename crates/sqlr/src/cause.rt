@@ -24,11 +24,8 @@ pub enum Cause<'a> {
     Lexical(LexFault),
     /// Its tokens are no statements.
     Unexpected(Unexpected),
-    /// More than 64 levels are open with the token at a byte of the script, which has so many bytes.
-    TooDeep {
-        offset: usize,
-        length: usize,
-    },
+    /// More than 64 levels are open with the token at a byte of the script.
+    TooDeep { offset: usize },
     /// A statement can't be run so far.
     NotYet(&'a Statement),
     /// A table is not made.

@@ -1,11 +1,11 @@
 //! Which statements can be run so far.
 
-ghost use Rattle.std.specs.Prelude.{◌≡◌, map};
+ghost use Rattle.std.specs.Prelude.{map};
 ghost use Rattle.std.specs.Bool.{Decides};
 ghost use Rattle.std.specs.List.{AllByRecursion};
 ghost use Rattle.definitions.specs.NotYet.{CanRun, IsColumn, IsColumnItem, IsComparison, IsLiteral, IsNumeral, IsPlain, IsPlainBlock, IsPlainDefinition, IsWhere};
-ghost use Rattle.syntax.specs.Trees.{block_of, condition_of, definitions_of, expr_of, item_of, list_of, select_of, source_of, statement_of};
-ghost use Rattle.sqlr.specs.NotYet.{AreColumns, IsBare, IsOneTable};
+ghost use Rattle.trees.specs.Trees.{block_of, condition_of, definitions_of, expr_of, item_of, list_of, select_of, source_of, statement_of};
+ghost use Rattle.sqlr.specs.NotYet.{AreColumns, IsOneTable};
 
 use syntax::{
     Block, ColumnDefinition, Constraint, Expr, Item, Select, SelectList, Source, Statement,
@@ -100,7 +100,7 @@ fn is_where(condition: &Option<Expr>) -> bool
 fn is_comparison(expr: &Expr) -> bool
     ensures { Decides result (IsComparison (expr_of expr.now)) }
 {
-    match bare(expr) {
+    match expr {
         Expr::Compare { left, right, .. } => is_column(left) && is_literal(right),
         _ => false,
     }
@@ -109,7 +109,7 @@ fn is_comparison(expr: &Expr) -> bool
 fn is_column(expr: &Expr) -> bool
     ensures { Decides result (IsColumn (expr_of expr.now)) }
 {
-    match bare(expr) {
+    match expr {
         Expr::Column(reference) => reference.qualifier.is_none(),
         _ => false,
     }
@@ -118,7 +118,7 @@ fn is_column(expr: &Expr) -> bool
 fn is_literal(expr: &Expr) -> bool
     ensures { Decides result (IsLiteral (expr_of expr.now)) }
 {
-    match bare(expr) {
+    match expr {
         Expr::Numeral(_) | Expr::String(_) => true,
         Expr::Signed { operand, .. } => is_numeral(operand),
         _ => false,
@@ -128,16 +128,5 @@ fn is_literal(expr: &Expr) -> bool
 fn is_numeral(expr: &Expr) -> bool
     ensures { Decides result (IsNumeral (expr_of expr.now)) }
 {
-    matches!(bare(expr), Expr::Numeral(_))
-}
-
-/// An expression; for a line of one operand alone, that operand.
-pub fn bare(expr: &Expr) -> &Expr
-    ensures same { expr_of result.now ≡ expr_of expr.now }
-    ensures bare { IsBare result.now }
-{
-    match expr {
-        Expr::Line { first, others } if others.is_empty() => bare(first),
-        _ => expr,
-    }
+    matches!(expr, Expr::Numeral(_))
 }

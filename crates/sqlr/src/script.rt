@@ -1,7 +1,7 @@
 //! From a script's text to its statements.
 
 ghost use Rattle.std.specs.Prelude.{◌≡◌, IfOk, IfErr, option_map};
-ghost use Rattle.syntax.specs.Trees.{statements_of};
+ghost use Rattle.trees.specs.Trees.{statements_of};
 ghost use Rattle.lexer.specs.Meaning.{fault_of};
 ghost use Rattle.definitions.specs.Step.{AreStatements};
 ghost use Rattle.sqlr.specs.Scripts.{IsFault, line_of, lexical_line};
@@ -40,10 +40,10 @@ pub fn parse_script(alloc: Global, script: &str) -> Result<Vec<Statement>, Scrip
             },
             offset: unexpected.offset,
         }),
-        Err(SyntaxFault::TooDeep { offset, length }) => Err(ScriptFault::Refused {
+        Err(SyntaxFault::TooDeep { offset }) => Err(ScriptFault::Refused {
             refused: Refused {
                 refusal: Refusal::TooDeep,
-                cause: Cause::TooDeep { offset, length },
+                cause: Cause::TooDeep { offset },
             },
             offset,
         }),

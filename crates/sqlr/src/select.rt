@@ -5,13 +5,11 @@ ghost use Rattle.definitions.specs.Answer as spec;
 ghost use Rattle.definitions.specs.Printing.{fields_line, item_name, row_line, table_text};
 ghost use Rattle.definitions.specs.NotYet.{IsPlainBlock};
 ghost use Rattle.definitions.specs.Faults as faults;
-ghost use Rattle.sqlvalue.specs.Meaning.{value_of};
-ghost use Rattle.syntax.specs.Trees.{op_of, block_of, item_of};
+ghost use Rattle.trees.specs.Trees.{op_of, block_of, item_of};
 ghost use Rattle.sqlr.specs.Binding.{IsPlaced, keeps, is_true, row_of, bind_refusal, values_at};
 ghost use Rattle.sqlr.specs.Selecting.{PrintsTable};
 
 use crate::binding::{BindFault, Bound, Comparison, bind, items};
-use crate::not_yet::bare;
 use crate::printing::{write_decimal, write_value};
 use catalog::{Database, Table};
 use sqlvalue::compare;
@@ -88,7 +86,7 @@ fn write_header(out: &mut Vec<u8>, items: &[Item]) -> Result<(), AllocError>
 fn name_of(item: &Item) -> &str
     ensures { result.now ≡ item_name (item_of item.now) }
 {
-    match bare(&item.value) {
+    match &item.value {
         Expr::Column(reference) => reference.name.text.as_str(),
         _ => "",
     }

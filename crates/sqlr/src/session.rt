@@ -9,7 +9,7 @@ ghost use Rattle.definitions.specs.Step.{AreStatements};
 ghost use Rattle.definitions.specs.Table.{table_named};
 ghost use Rattle.refusals.specs.Meaning.{refusal_of};
 ghost use Rattle.catalog.specs.Meaning as catalog;
-ghost use Rattle.syntax.specs.Trees.{definitions_of, name_of, select_of, statement_of, statements_of, text_of};
+ghost use Rattle.trees.specs.Trees.{definitions_of, name_of, select_of, statement_of, statements_of, text_of};
 ghost use Rattle.sqlr.specs.declared.outcome.StepFault.TheVariants as fault;
 ghost use Rattle.sqlr.specs.Sessions.{BreaksIn, BreaksLine, BreaksOff, IsBlamed, IsBoth, IsLibraryBlamed, IsSinkBlamed, Prints, Runs, RunsAll, Takes, TakesBytes};
 

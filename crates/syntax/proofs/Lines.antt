@@ -1,22 +1,24 @@
 -- Lines, operand by operand.
-use Rattle.std.proofs.Common.{◌≡◌, ◌∙◌, refl, sym, ap, subst, ℕ, zero, suc, ◌-◌, ◌<◌, ◌≤◌, length, map, List, [], ◌∷◌, ◌++◌, Some, None, Result, Ok, Err, Bool, true, ◌==◌, arith}
+use Rattle.std.proofs.Common.{◌≡◌, ◌∙◌, refl, sym, ap, subst, ℕ, zero, suc, ◌-◌, ◌<◌, ◌≤◌, length, map, List, [], ◌∷◌, ◌++◌, Some, None, Result, Ok, Err, Bool, true, false, ◌==◌, arith}
 use Rattle.std.proofs.Common.{Vec, Global}
 use Rattle.std.proofs.lemmas.Bool.Decides.{nat_tests}
-use Rattle.syntax.specs.declared.tree.Operand.{Operand}
+use Rattle.trees.specs.declared.expr.Operand.{Operand}
 use Rattle.std.specs.Prelude.{slice_get}
 use Rattle.definitions.specs.Token.{TokenKind}
 use Rattle.definitions.specs.Rule.{Rule, Gives, Then}
 use Rattle.definitions.specs.Grammar as g
 use Rattle.definitions.specs.Grammar.{LineKind, LineOf, operator_in, line, operands, within}
+use Rattle.definitions.specs.Statement as s
 use Rattle.definitions.specs.Statement.{Expr, LineOperator}
-use Rattle.syntax.specs.Trees.{operand_of}
+use Rattle.trees.specs.Trees.{operand_of}
 use Rattle.definitions.proofs.Alike.{Alike, then_alike, gives_alike}
 use Rattle.definitions.proofs.Grammar.{within_alike, conjunction_alike, negation_alike, product_alike, sign_alike}
-use Rattle.syntax.specs.declared.fault.Stop.{Stop}
-use Rattle.syntax.specs.Reading.{Place, IsNext, Outcome, LineAt, OperandAt, viewed}
-use Rattle.syntax.specs.Reading as r
-use Rattle.syntax.proofs.Outcomes.{then_on, then_fails}
-use Rattle.syntax.proofs.Lists.{Joined, joined, joined_fails, joined_ends, mapped}
+use Rattle.cursor.specs.declared.stop.Stop.{Stop}
+use Rattle.cursor.specs.Reading.{Place, IsNext, Outcome, viewed}
+use Rattle.syntax.specs.Reading.{LineAt, OperandAt}
+use Rattle.cursor.specs.Reading as r
+use Rattle.cursor.proofs.Outcomes.{then_on, then_fails}
+use Rattle.cursor.proofs.Lists.{Joined, joined, joined_fails, joined_ends, mapped}
 
 -- how loose a line is
 abbrev pub rank : LineKind → ℕ
@@ -94,3 +96,13 @@ is_zero n b e h = grind (arith, nat_tests, e, h)
 
 pub alone : (x : Expr) (v : Vec Operand Global) (b : Bool) → b ≡ (v.len == 0) → b ≡ true → line x (operands (map operand_of v.items)) ≡ x
 alone x v b e h = ap (λ xs. line x (operands (map operand_of xs))) (no_length v.items (sym v.ok.0 ∙ is_zero v.len b e h))
+
+pub several : (x : Expr) (v : Vec Operand Global) (b : Bool) → b ≡ (v.len == 0) → b ≡ false → line x (operands (map operand_of v.items)) ≡ s.Line x (operands (map operand_of v.items))
+several x v b e h = some v.items (λ z. is_some v.len b e h (v.ok.0 ∙ z))
+  where
+    is_some : (n : ℕ) (b : Bool) → b ≡ (n == 0) → b ≡ false → n ≡ 0 → ⊥
+    is_some n b e h z = grind (arith, nat_tests, e, h, z)
+
+    some : (xs : List Operand) → (length xs ≡ 0 → ⊥) → line x (operands (map operand_of xs)) ≡ s.Line x (operands (map operand_of xs))
+    some [] n = absurd (n refl)
+    some (y ∷ ys) n = refl

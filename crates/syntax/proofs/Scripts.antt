@@ -11,14 +11,15 @@ use Rattle.definitions.specs.Grammar.{within}
 use Rattle.definitions.proofs.Grammar.{statement_alike, within_alike, no_token_there}
 use Rattle.lexer.specs.declared.token.Token.{Token}
 use Rattle.lexer.specs.Meaning.{token_of, tokens_of}
-use Rattle.syntax.specs.declared.fault.Stop.{Stop}
-use Rattle.syntax.specs.declared.fault.Stop.TheVariants as s
+use Rattle.cursor.specs.declared.stop.Stop.{Stop}
+use Rattle.cursor.specs.declared.stop.Stop.TheVariants as s
 use Rattle.syntax.specs.declared.fault.SyntaxFault.{SyntaxFault}
 use Rattle.syntax.specs.declared.fault.SyntaxFault.TheVariants as f
-use Rattle.syntax.specs.Trees.{kinds_of}
-use Rattle.syntax.specs.Reading.{Place, IsNext, Agree, Nowhere, Stops, Outcome, ScriptIn, ParsesScript, IsSyntaxFault, TellsStop, viewed, opened, start_or}
-use Rattle.syntax.specs.Reading as r
-use Rattle.syntax.proofs.Stopping.{stops_as}
+use Rattle.lexer.specs.Meaning.{kinds_of}
+use Rattle.cursor.specs.Reading.{Place, IsNext, Agree, Nowhere, Stops, Outcome, viewed, opened}
+use Rattle.syntax.specs.Reading.{ScriptIn, ParsesScript, IsSyntaxFault, TellsStop, start_or}
+use Rattle.cursor.specs.Reading as r
+use Rattle.cursor.proofs.Stopping.{stops_as}
 
 agrees : (xs more : List TokenKind) (n k : ℕ) (y : TokenKind) → k ≤ n → slice_get xs n ≡ Some y → slice_get (take (suc n) xs ++ more) k ≡ slice_get xs k
 agrees [] more n k y l h = absurd cc
@@ -63,14 +64,14 @@ moved tokens end at at' x e h = rw e h
 
 pub script_fails : (ts : List Token) (end : ℕ) (stop : Stop) (fault : SyntaxFault) → Stops ScriptIn (kinds_of ts) most_levels most_levels 0 stop → TellsStop ts end stop fault → IsSyntaxFault (tokens_of ts) end fault
 script_fails ts end (s.Token n) (f.Unexpected u) (r.at_token n' l nw) e = moved _ _ _ _ _ e (unexpected ts end n (slice_get ts n) refl nw)
-script_fails ts end (s.Deep n) (f.TooDeep offset len) (r.too_deep n' k l y c nw) e = moved _ _ _ _ _ e (too_deep ts end n (slice_get ts n) k refl y c nw)
+script_fails ts end (s.Deep n) (f.TooDeep offset) (r.too_deep n' k l y c nw) e = moved _ _ _ _ _ e (too_deep ts end n (slice_get ts n) k refl y c nw)
 script_fails ts end s.Memory f.Memory r.for_memory e = tt
-script_fails ts end (s.Token n) (f.TooDeep offset len) h e = absurd e
+script_fails ts end (s.Token n) (f.TooDeep offset) h e = absurd e
 script_fails ts end (s.Token n) f.Memory h e = absurd e
 script_fails ts end (s.Deep n) (f.Unexpected u) h e = absurd e
 script_fails ts end (s.Deep n) f.Memory h e = absurd e
 script_fails ts end s.Memory (f.Unexpected u) h e = absurd e
-script_fails ts end s.Memory (f.TooDeep offset len) h e = absurd e
+script_fails ts end s.Memory (f.TooDeep offset) h e = absurd e
 
 -- ---- statement by statement
 

@@ -1,5 +1,5 @@
 pub use Rattle.definitions.specs.Grammar
 pub use Rattle.definitions.specs.Statement
 pub use Rattle.lexer.specs.Meaning
-pub mod Trees
+pub use Rattle.trees.specs.Trees
 pub mod Reading

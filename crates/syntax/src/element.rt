@@ -2,10 +2,9 @@
 
 ghost use Rattle.std.specs.Prelude.{◌≡◌, map};
 ghost use Rattle.definitions.specs.Grammar.{ListOf};
-ghost use Rattle.syntax.specs.Reading.{ParsesFlat, viewed};
+ghost use Rattle.cursor.specs.Reading.{ParsesFlat, viewed};
 
-use crate::cursor::Cursor;
-use crate::fault::Stop;
+use cursor::{Cursor, Stop};
 use lexer::Symbol;
 
 /// What stands between commas.
@@ -13,7 +12,7 @@ pub trait Element: Drop {
     ghost use Rattle.std.specs.Prelude.{List, ℕ};
     ghost use Rattle.definitions.specs.Rule.{Rule};
     ghost use Rattle.definitions.proofs.Alike.{Alike};
-    ghost use Rattle.syntax.specs.Reading.{ParsesFlat, viewed};
+    ghost use Rattle.cursor.specs.Reading.{ParsesFlat, viewed};
 
     ghost Tree: { Type 0 };
 
@@ -28,21 +27,19 @@ pub trait Element: Drop {
         ensures { ParsesFlat rule cursor.old cursor.new (viewed tree_of result) };
 }
 
-impl Cursor<'_, '_> {
-    /// `element { "," element }`.
-    pub fn list<T: Element>(&mut self) -> Result<Vec<T>, Stop>
-        ensures { ParsesFlat (ListOf T.rule) self.old self.new (viewed (λ (xs : _). map T.tree_of xs.items) result) }
-    {
-        let mut elements = Vec::new(self.alloc);
-        let first = T::read(self)?;
-        elements.push(first)?;
-        'elements: loop {
-            if !self.eat_symbol(Symbol::Comma) {
-                break;
-            }
-            let element = T::read(self)?;
-            elements.push(element)?;
+/// `element { "," element }`.
+pub fn comma_list<T: Element>(cursor: &mut Cursor) -> Result<Vec<T>, Stop>
+    ensures { ParsesFlat (ListOf T.rule) cursor.old cursor.new (viewed (λ (xs : _). map T.tree_of xs.items) result) }
+{
+    let mut elements = Vec::new(cursor.alloc);
+    let first = T::read(cursor)?;
+    elements.push(first)?;
+    'elements: loop {
+        if !cursor.eat_symbol(Symbol::Comma) {
+            break;
         }
-        Ok(elements)
+        let element = T::read(cursor)?;
+        elements.push(element)?;
     }
+    Ok(elements)
 }

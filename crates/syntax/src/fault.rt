@@ -2,11 +2,9 @@
 
 ghost use Rattle.std.specs.Prelude.{◌≡◌, slice_get};
 ghost use Rattle.syntax.specs.Reading.{TellsStop, start_or};
-ghost use Rattle.syntax.specs.declared.fault.Stop.TheVariants as stops;
 
-use crate::class::Wanted;
+use cursor::{Stop, Wanted};
 use lexer::{Token, TokenKind};
-use std::alloc::{AllocError, AllocFailed};
 use std::fmt;
 use thiserror::Error;
 
@@ -18,7 +16,7 @@ pub enum SyntaxFault {
     Unexpected(Unexpected),
     /// More than 64 levels of parentheses, signs and NOTs are open at a byte of the script.
     #[error("more than 64 levels are open at byte {offset}")]
-    TooDeep { offset: usize, length: usize },
+    TooDeep { offset: usize },
     #[error("out of memory")]
     Memory,
 }
@@ -46,31 +44,6 @@ impl fmt::Debug for Unexpected {
     }
 }
 
-/// Where the tokens stop being read: at the place of the token with which nothing goes on, or of the one that
-/// opens a level too many.
-#[derive(Clone, Copy)]
-pub enum Stop {
-    Token(usize),
-    Deep(usize),
-    Memory,
-}
-
-impl From<AllocError> for Stop {
-    ghost from_gives = { λ _ stop. stop ≡ stops.Memory };
-
-    fn from(_error: AllocError) -> Stop {
-        Stop::Memory
-    }
-}
-
-impl<T: Drop> From<AllocFailed<T>> for Stop {
-    ghost from_gives = { λ _ stop. stop ≡ stops.Memory };
-
-    fn from(_error: AllocFailed<T>) -> Stop {
-        Stop::Memory
-    }
-}
-
 /// The fault that a stop in some tokens is, in a script of `end` bytes, where the rules looked for some
 /// classes of tokens.
 pub fn fault_of(tokens: &[Token], end: usize, stop: Stop, wanted: Wanted) -> SyntaxFault
@@ -78,13 +51,9 @@ pub fn fault_of(tokens: &[Token], end: usize, stop: Stop, wanted: Wanted) -> Syn
 {
     match stop {
         Stop::Token(at) => SyntaxFault::Unexpected(unexpected_at(tokens, end, at, wanted)),
-        Stop::Deep(at) => {
-            let deep = unexpected_at(tokens, end, at, wanted);
-            SyntaxFault::TooDeep {
-                offset: deep.offset,
-                length: deep.length,
-            }
-        }
+        Stop::Deep(at) => SyntaxFault::TooDeep {
+            offset: offset_at(tokens, end, at),
+        },
         Stop::Memory => SyntaxFault::Memory,
     }
 }
@@ -92,22 +61,26 @@ pub fn fault_of(tokens: &[Token], end: usize, stop: Stop, wanted: Wanted) -> Syn
 fn unexpected_at(tokens: &[Token], end: usize, at: usize, wanted: Wanted) -> Unexpected
     ensures { result.offset ≡ start_or end (slice_get tokens.now at) }
 {
-    let behind = offset_behind(tokens, at);
+    let (found, length) = match tokens.get(at) {
+        Some(token) => (Some(token.kind), token.text.len()),
+        None => (None, 0),
+    };
+    Unexpected {
+        offset: offset_at(tokens, end, at),
+        found,
+        length,
+        behind: offset_behind(tokens, at),
+        wanted,
+    }
+}
+
+/// The offset of the token at a place, or the script's length.
+fn offset_at(tokens: &[Token], end: usize, at: usize) -> usize
+    ensures { result ≡ start_or end (slice_get tokens.now at) }
+{
     match tokens.get(at) {
-        Some(token) => Unexpected {
-            offset: token.start,
-            found: Some(token.kind),
-            length: token.text.len(),
-            behind,
-            wanted,
-        },
-        None => Unexpected {
-            offset: end,
-            found: None,
-            length: 0,
-            behind,
-            wanted,
-        },
+        Some(token) => token.start,
+        None => end,
     }
 }
 

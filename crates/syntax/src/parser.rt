@@ -2,15 +2,17 @@
 
 ghost use Rattle.std.specs.Prelude.{◌≡◌, IfOk, IfErr};
 ghost use Rattle.definitions.specs.Grammar.{Derives};
-ghost use Rattle.lexer.specs.Meaning.{tokens_of};
-ghost use Rattle.syntax.specs.Trees.{kinds_of, statements_of};
-ghost use Rattle.syntax.specs.Reading.{IsSyntaxFault, ParsesScript, viewed};
+ghost use Rattle.lexer.specs.Meaning.{kinds_of, tokens_of};
+ghost use Rattle.trees.specs.Trees.{statements_of};
+ghost use Rattle.cursor.specs.Reading.{viewed};
+ghost use Rattle.syntax.specs.Reading.{IsSyntaxFault, ParsesScript};
 
-use crate::cursor::Cursor;
-use crate::fault::{Stop, SyntaxFault, fault_of};
-use crate::tree::Statement;
+use crate::fault::{SyntaxFault, fault_of};
+use crate::statement::statement;
+use cursor::{Cursor, Stop, Wanted};
 use lexer::{Symbol, Token};
 use std::alloc::Global;
+use trees::Statement;
 
 /// The levels that parentheses, signs and NOTs may open (own).
 pub const MAX_LEVELS: u8 = 64;
@@ -21,11 +23,21 @@ pub fn parse(alloc: Global, tokens: &[Token], end: usize) -> Result<Vec<Statemen
     ensures derived { IfOk result (λ statements. Derives (kinds_of tokens.now) (statements_of statements.items)) }
     ensures fault { IfErr result (IsSyntaxFault (tokens_of tokens.now) end) }
 {
-    let mut cursor = Cursor::new(alloc, tokens);
+    let mut cursor = Cursor::new(alloc, tokens, None);
     match script(alloc, &mut cursor) {
         Ok(statements) => Ok(statements),
-        Err(stop) => Err(fault_of(tokens, end, stop, cursor.wanted())),
+        Err(stop) => Err(fault_of(tokens, end, stop, wanted_at(alloc, tokens, stop))),
     }
+}
+
+/// What the rules look for where nothing goes on with a token: the tokens are read once more up to it.
+fn wanted_at(alloc: Global, tokens: &[Token], stop: Stop) -> Wanted {
+    let Stop::Token(at) = stop else {
+        return Wanted::nothing();
+    };
+    let mut cursor = Cursor::new(alloc, tokens, Some(at));
+    let _ = script(alloc, &mut cursor);
+    cursor.wanted()
 }
 
 /// `{ statement ";" }`, up to the end of the tokens.
@@ -34,7 +46,7 @@ fn script(alloc: Global, cursor: &mut Cursor) -> Result<Vec<Statement>, Stop>
 {
     let mut statements = Vec::new(alloc);
     'statements: while !cursor.is_at_end() {
-        let statement = cursor.statement(MAX_LEVELS)?;
+        let statement = statement(cursor, MAX_LEVELS)?;
         statements.push(statement)?;
         cursor.expect_symbol(Symbol::Semicolon)?;
     }

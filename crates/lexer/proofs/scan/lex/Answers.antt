@@ -1,12 +1,11 @@
-use Rattle.std.proofs.Common.{◌≡◌, ◌∙◌, refl, sym, ap, subst, ℕ, ◌+◌, ◌-◌, List, [], ◌∷◌, ◌++◌, Ok, arith, take, drop}
+use Rattle.std.proofs.Common.{◌≡◌, ◌∙◌, refl, sym, ap, subst, ℕ, ◌+◌, ◌-◌, List, Ok, arith, take, drop}
 use Rattle.std.specs.Prelude.{⊤, MatchOption}
 use Rattle.std.specs.Str.{IsCharBoundary}
 use Rattle.std.proofs.lemmas.Bool.{cond-true}
 use Rattle.std.proofs.lemmas.Result.{err_from_is_err_and}
 use Rattle.definitions.specs.Lexing.{Reads, LexFails}
 use Rattle.lexer.specs.Meaning.{fault_of, tokens_of}
-use Rattle.lexer.specs.declared.token.Token.{Token}
-use Rattle.lexer.proofs.Onward.{turn_same, turn_some, turn_within, turn_gap, turn_token, turn_fault, turn_ascii, cut_before, cut_behind, reads_to_end, tokens_of-push, slices_more}
+use Rattle.lexer.proofs.Onward.{turn_same, turn_some, turn_within, turn_gap, turn_fault, turn_ascii, cut_before, cut_behind, reads_to_end, reads_more, slices_more}
 use Rattle.lexer.proofs.scan.lex.Goals as goal
 
 pub token_kind-requires-clause-same : goal.token_kind-requires-clause-same
@@ -17,7 +16,7 @@ returns-in_err-kind-clause-fault c =
     let p = err_from_is_err_and c.from_residual.result c.from_residual.ensures.1 in
     let P : List ℕ → Type 0 = λ xs. MatchOption (fault_of c.in_err-kind.field-0.0) ⊤ (LexFails xs) in
     rw (p.1, p.2) (subst P c.as_bytes-bytes.ensures.value
-    (turn_fault c.as_bytes-bytes.result.now c.loop-start.start _ _ _ _ c.loop-start.invariant.reads c.first_lexeme-first.ensures c.in_err-kind.ensures))
+    (turn_fault c.as_bytes-bytes.result.now c.loop-start.start _ _ _ _ c.loop-start.invariant.reads c.first_lexeme-first.ensures c.in_err-kind.ensures.outcome))
 
 pub range-text-requires-clause-start_boundary : goal.range-text-requires-clause-start_boundary
 range-text-requires-clause-start_boundary c = λ _.
@@ -26,7 +25,7 @@ range-text-requires-clause-start_boundary c = λ _.
     let P : List ℕ → Type 0 = λ xs. IsCharBoundary xs start in
     subst P c.as_bytes-bytes.ensures.value
     (cut_before bytes start _ (turn_some bytes start _ _ c.first_lexeme-first.ensures) (turn_within bytes start _ _ c.loop-start.invariant.within c.first_lexeme-first.ensures)
-    (turn_ascii bytes start _ _ _ _ c.first_lexeme-first.ensures c.in_ok-kind.ensures c.in-Some.is))
+    (turn_ascii bytes start _ _ _ _ c.first_lexeme-first.ensures c.in_ok-kind.ensures.outcome c.in-Some.is))
 
 pub range-text-requires-clause-end_boundary : goal.range-text-requires-clause-end_boundary
 range-text-requires-clause-end_boundary c =
@@ -36,7 +35,7 @@ range-text-requires-clause-end_boundary c =
     let P : List ℕ → Type 0 = λ xs. IsCharBoundary xs end in
     subst P c.as_bytes-bytes.ensures.value
     (cut_behind bytes start _ c.as_bytes-bytes.ensures.utf8 (turn_some bytes start _ _ c.first_lexeme-first.ensures) (turn_within bytes start _ _ c.loop-start.invariant.within c.first_lexeme-first.ensures)
-    (turn_ascii bytes start _ _ _ _ c.first_lexeme-first.ensures c.in_ok-kind.ensures c.in-Some.is))
+    (turn_ascii bytes start _ _ _ _ c.first_lexeme-first.ensures c.in_ok-kind.ensures.outcome c.in-Some.is))
 
 pub loop-start-preserved-in_ok-map_err : goal.loop-start-preserved-in_ok-map_err
 loop-start-preserved-in_ok-map_err c =
@@ -44,17 +43,14 @@ loop-start-preserved-in_ok-map_err c =
     let start = c.loop-start.start in
     let n = c.first_lexeme-first.result.length in
     let end = start + n in
-    let t : Token = record { kind = c.in-Some.kind; text = c.range-text.result; start = start } in
-    let pushed : c.push.new.self.items ≡ c.loop-start.tokens.items ++ t ∷ [] =
-    c.push.ensures.items ∙ cond-true _ _ _ (sym c.in_ok-map_err.ensures.variant) in
-    let own : t.text.now ≡ take (end - start) (drop start bytes) =
+    let own : c.range-text.result.now ≡ take (end - start) (drop start bytes) =
     c.range-text.ensures.value ∙ ap (λ xs. take (end - start) (drop start xs)) (sym c.as_bytes-bytes.ensures.value) in
+    let pushed = c.push.ensures.items ∙ cond-true _ _ _ (sym c.in_ok-map_err.ensures.variant) in
     let within = turn_within bytes start _ _ c.loop-start.invariant.within c.first_lexeme-first.ensures in
-    let slices = slices_more bytes c.loop-start.tokens.items c.push.new.self.items t start n pushed c.loop-start.invariant.slices c.loop-start.invariant.behind refl own within in
+    let slices = slices_more bytes c.loop-start.tokens.items c.push.new.self.items _ start n pushed c.loop-start.invariant.slices c.loop-start.invariant.behind refl own within in
     record {
       within = within;
-      reads = rw (tokens_of-push c.loop-start.tokens.items c.push.new.self.items t pushed)
-          (turn_token bytes start n _ _ t _ c.loop-start.invariant.reads c.first_lexeme-first.ensures refl own c.in_ok-kind.ensures c.in-Some.is);
+      reads = reads_more bytes start n _ c.loop-start.tokens.items c.push.new.self.items _ _ pushed c.loop-start.invariant.reads c.first_lexeme-first.ensures refl own c.in_ok-kind.ensures.outcome c.in-Some.is;
       slices = slices.0;
       behind = omega (arith, slices.1);
     }
@@ -62,7 +58,7 @@ loop-start-preserved-in_ok-map_err c =
 pub loop-start-preserved : goal.loop-start-preserved
 loop-start-preserved c = record {
   within = turn_within c.as_bytes-bytes.result.now c.loop-start.start _ _ c.loop-start.invariant.within c.first_lexeme-first.ensures;
-  reads = turn_gap c.as_bytes-bytes.result.now c.loop-start.start _ _ _ _ c.loop-start.invariant.reads c.first_lexeme-first.ensures c.in_ok-kind.ensures c.in_default.is;
+  reads = turn_gap c.as_bytes-bytes.result.now c.loop-start.start _ _ _ _ c.loop-start.invariant.reads c.first_lexeme-first.ensures c.in_ok-kind.ensures.outcome c.in_default.is;
   slices = c.loop-start.invariant.slices;
   behind = omega (arith, c.loop-start.invariant.behind);
 }

@@ -6,7 +6,7 @@ use Rattle.definitions.specs.Table.{table_named}
 use Rattle.definitions.specs.Limits.{most_items}
 use Rattle.definitions.specs.Faults as faults
 use Rattle.definitions.specs.Table as table
-use Rattle.syntax.specs.Trees.{item_of, block_of, name_of}
+use Rattle.trees.specs.Trees.{item_of, block_of, name_of}
 use Rattle.sqlr.specs.Binding.{BindsCondition, IsFrom}
 use Rattle.sqlr.proofs.NotYet.{condition_is, plain_items, where_of}
 use Rattle.sqlr.proofs.Bound.{bound_accepted, condition_fault, found_each, rows_answered, unknown_item}

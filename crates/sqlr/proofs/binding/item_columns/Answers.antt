@@ -4,7 +4,7 @@ use Rattle.definitions.specs.Printing.{expr_name}
 use Rattle.definitions.specs.Statement.{Item}
 use Rattle.definitions.specs.Faults.{NamesUnknown}
 use Rattle.catalog.specs.Places.{IsColumnPlace}
-use Rattle.syntax.specs.Trees.{expr_of, item_of}
+use Rattle.trees.specs.Trees.{expr_of, item_of}
 use Rattle.sqlr.proofs.Elements.{at_place, next}
 use Rattle.sqlr.proofs.NotYet.{item_parts, item_value}
 use Rattle.sqlr.proofs.Bound.{any_at, places_step, known_step}
@@ -15,7 +15,7 @@ column_place-requires c = (item_parts c.item-item.result (at_place IsColumnItem 
 
 pub returns-in_default-clause-refused : goal.returns-in_default-clause-refused
 returns-in_default-clause-refused c = (
-  c.no_column.ensures,
+  refl,
   any_at (λ (i : Item). NamesUnknown c.args.table.now i.value) item_of c.args.items.now c.items.item-index c.item-item.result c.items-test.true c.item-item.is
       (subst (NamesUnknown c.args.table.now) (item_value c.item-item.result) (c.in_default.ensures.unknown refl)),
 )
@@ -31,5 +31,5 @@ items-preserved c =
       known = rw (next c.items.item-index) (known_step c.args.table.now c.args.items.now _ c.item-item.result c.items-test.true c.item-item.is c.items.invariant.known known);
     }
 
-pub no_column-requires : goal.no_column-requires
-no_column-requires c = (item_parts c.item-item.result (at_place IsColumnItem item_of c.args.items.now c.items.item-index c.item-item.result c.requires c.items-test.true c.item-item.is)).0
+pub column_name-requires : goal.column_name-requires
+column_name-requires c = (item_parts c.item-item.result (at_place IsColumnItem item_of c.args.items.now c.items.item-index c.item-item.result c.requires c.items-test.true c.item-item.is)).0

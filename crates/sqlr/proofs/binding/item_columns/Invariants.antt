@@ -1,5 +1,5 @@
 use Rattle.std.proofs.Common.{◌<◌, All, length, map, take}
-use Rattle.syntax.specs.Trees.{item_of}
+use Rattle.trees.specs.Trees.{item_of}
 use Rattle.sqlr.specs.Binding.{ArePlaces}
 use Rattle.sqlr.proofs.Bound.{AreKnown}
 use Rattle.sqlr.proofs.binding.item_columns.Given as goal

@@ -1,6 +1,6 @@
 use Rattle.std.proofs.Common.{◌≡◌, true}
 use Rattle.definitions.specs.NotYet.{IsColumnItem}
-use Rattle.syntax.specs.Trees.{item_of}
+use Rattle.trees.specs.Trees.{item_of}
 use Rattle.sqlr.proofs.Elements.{at_place, next, one_more}
 use Rattle.sqlr.proofs.NotYet.{undecided}
 use Rattle.sqlr.proofs.not_yet.are_columns.Goals as goal

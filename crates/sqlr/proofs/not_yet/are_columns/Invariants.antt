@@ -1,7 +1,7 @@
 use Rattle.std.proofs.Common.{take, map}
 use Rattle.std.specs.List.{AllByRecursion}
 use Rattle.definitions.specs.NotYet.{IsColumnItem}
-use Rattle.syntax.specs.Trees.{item_of}
+use Rattle.trees.specs.Trees.{item_of}
 use Rattle.sqlr.proofs.not_yet.are_columns.Given as goal
 
 abbrev pub invariant-items : goal.invariant-items

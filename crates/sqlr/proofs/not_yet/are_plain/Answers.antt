@@ -1,5 +1,5 @@
 use Rattle.definitions.specs.NotYet.{IsPlainDefinition}
-use Rattle.syntax.specs.Trees.{definition_of}
+use Rattle.trees.specs.Trees.{definition_of}
 use Rattle.sqlr.proofs.Elements.{at_place}
 use Rattle.sqlr.proofs.NotYet.{undecided, constrained}
 use Rattle.sqlr.proofs.not_yet.are_plain.Goals as goal

@@ -1,6 +1,6 @@
 use Rattle.std.proofs.Common.{◌≡◌, ◌∙◌, ◌==◌, ap, not, true, length, vec_len, arith}
 use Rattle.std.proofs.lemmas.List.{length-map}
-use Rattle.syntax.specs.Trees.{column_of}
+use Rattle.trees.specs.Trees.{column_of}
 use Rattle.sqlr.proofs.NotYet.{IsPlainTree, plain_parts}
 use Rattle.sqlr.proofs.not_yet.is_plain_block.Goals as goal
 use Rattle.sqlr.proofs.not_yet.is_plain_block.Goals.{then-not-block, else-not-block, then-is_list_of_columns, else-is_list_of_columns, then-is_one_table, else-is_one_table, then-is_where, else-is_where}

@@ -1,6 +1,6 @@
 use Rattle.std.proofs.Common.{◌≡◌, ◌∙◌, ◌++◌, ◌∷◌, [], ap, arith}
 use Rattle.definitions.specs.Printing.{item_name}
-use Rattle.syntax.specs.Trees.{item_of}
+use Rattle.trees.specs.Trees.{item_of}
 use Rattle.sqlr.proofs.Elements.{next}
 use Rattle.sqlr.proofs.Lines.{later_field, first_field}
 use Rattle.sqlr.proofs.select.write_header.Goals as goal

@@ -1,7 +1,7 @@
 use Rattle.std.proofs.Common.{◌≡◌, ◌++◌, map, drop}
 use Rattle.std.specs.List.{join_with_byte}
 use Rattle.definitions.specs.Printing.{item_name}
-use Rattle.syntax.specs.Trees.{item_of}
+use Rattle.trees.specs.Trees.{item_of}
 use Rattle.sqlr.proofs.Lines.{fields_left}
 use Rattle.sqlr.proofs.select.write_header.Given as goal
 

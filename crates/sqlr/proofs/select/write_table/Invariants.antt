@@ -1,7 +1,7 @@
 use Rattle.std.proofs.Common.{◌≡◌, ◌++◌, map, drop}
 use Rattle.std.specs.Prelude.{flat_map}
 use Rattle.definitions.specs.Printing.{fields_line, item_name, row_line}
-use Rattle.syntax.specs.Trees.{item_of}
+use Rattle.trees.specs.Trees.{item_of}
 use Rattle.sqlr.specs.Binding.{row_of, values_at}
 use Rattle.sqlr.proofs.select.write_table.Given as goal
 

@@ -1,6 +1,6 @@
 use Rattle.std.proofs.Common.{◌≡◌, take}
 use Rattle.catalog.specs.Meaning as catalog
-use Rattle.syntax.specs.Trees.{definitions_of}
+use Rattle.trees.specs.Trees.{definitions_of}
 use Rattle.sqlr.proofs.session.new_columns.Given as goal
 
 abbrev pub invariant-definitions : goal.invariant-definitions

@@ -1,5 +1,5 @@
 use Rattle.std.proofs.Common.{◌-◌, length, map}
-use Rattle.syntax.specs.Trees.{statement_of}
+use Rattle.trees.specs.Trees.{statement_of}
 use Rattle.syntax.proofs.Scripts.{Scripts}
 use Rattle.syntax.proofs.parser.script.Given as goal
 

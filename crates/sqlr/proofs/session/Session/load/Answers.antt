@@ -3,7 +3,7 @@ use Rattle.std.proofs.lemmas.Result.{IfOk-weaker}
 use Rattle.definitions.specs.Faults as faults
 use Rattle.definitions.specs.Table.{table_named}
 use Rattle.definitions.specs.Step.{State}
-use Rattle.syntax.specs.Trees.{name_of}
+use Rattle.trees.specs.Trees.{name_of}
 use Rattle.sqlr.proofs.Taking.{refusal_told, no_file_told, bytes_taken, none_named, some_named}
 use Rattle.sqlr.proofs.session.Session.load.Goals as goal
 

@@ -1,8 +1,8 @@
 use Rattle.std.proofs.Common.{rules}
-use Rattle.syntax.specs.Trees.{name_of}
+use Rattle.trees.specs.Trees.{name_of}
 use Rattle.definitions.specs.Grammar as g
 use Rattle.definitions.proofs.Grammar.{name_alike}
-use Rattle.syntax.proofs.Outcomes.{maybe_says, flat_on, then_fails, no_memory, answers}
+use Rattle.cursor.proofs.Outcomes.{maybe_says, flat_on, then_fails, no_memory, answers}
 use Rattle.syntax.proofs.query.SourceElement.read.Goals as goal
 
 pub returns-in_err-table : goal.returns-in_err-table

@@ -1,7 +1,7 @@
 use Rattle.std.proofs.Common.{rules}
 use Rattle.definitions.specs.Grammar as g
 use Rattle.definitions.proofs.Grammar.{name_alike, type_alike, constraint_alike}
-use Rattle.syntax.proofs.Outcomes.{flat_on, gives, then_fails, answers}
+use Rattle.cursor.proofs.Outcomes.{flat_on, gives, then_fails, answers}
 use Rattle.syntax.proofs.statement.ColumnDefinitionElement.read.Goals as goal
 
 pub returns-in_err-name : goal.returns-in_err-name

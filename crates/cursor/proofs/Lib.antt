@@ -1,0 +1,6 @@
+mod Tokens
+mod Quotes
+pub mod Stopping
+pub mod Outcomes
+pub mod Lists
+pub mod Opening

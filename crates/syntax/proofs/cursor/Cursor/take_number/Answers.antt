@@ -1,6 +1,0 @@
-use Rattle.std.proofs.Common.{ap, refl, rules, ◌∙◌}
-use Rattle.definitions.specs.Grammar as g
-use Rattle.syntax.proofs.cursor.Cursor.take_number.Goals as goal
-
-pub returns : goal.returns
-returns c = ((_, ap g.numeral_in c.in_ok-token.ensures.token ∙ c.in_ok-number.ensures _, rw c.unwrap_or.ensures refl), search rules)

@@ -1,0 +1,25 @@
+use Rattle.std.proofs.Common.{Some, None, false, Result}
+use Rattle.std.proofs.Common.{ap₂, ℕ, Bool, Option, unwrap_or, Result}
+use Rattle.definitions.specs.Statement as tree
+use Rattle.definitions.specs.Rule.{Reads}
+use Rattle.cursor.specs.declared.stop.Stop.{Stop}
+use Rattle.cursor.specs.Reading.{Place, Takes, Outcome}
+use Rattle.definitions.specs.Grammar as g
+use Rattle.cursor.proofs.Outcomes.{gives_as, reads_on, reads_not_on, says_not, begins}
+use Rattle.syntax.proofs.statement.bound.Goals as goal
+
+signed : {p q t : Place} {l k : ℕ} {out : Result tree.Bound Stop} (o : Option Bool) → Takes g.sign_in (λ minus. minus) p q o → Outcome (λ m. g.UnsignedAt (unwrap_or o false)) l k q t out → Outcome (λ m. Reads g.sign_in (λ minus. g.UnsignedAt minus) (g.UnsignedAt false)) l k p t out
+signed None at out = reads_not_on at out
+signed (Some b) at out = reads_on at out
+
+bound_from : Bool → tree.Expr → tree.Bound
+bound_from minus (tree.Numeral units digits scale) = record { minus = minus; units = units; digits = digits; scale = scale }
+bound_from minus _ = record { minus = minus; units = 0; digits = 0; scale = 0 }
+
+pub returns-in_default : goal.returns-in_default
+unfolding g.BoundAt
+returns-in_default c l k = signed c.take_sign.result c.take_sign.ensures (begins c.in_default.ensures.1 (says_not (rw c.in_default.ensures.1 c.in_default.ensures.0) c.stop.ensures))
+
+pub returns : goal.returns
+unfolding g.BoundAt bound_from
+returns c l k = signed c.take_sign.result c.take_sign.ensures (reads_on (c.in-Some.ensures.0.1, c.in-Some.ensures.1) (gives_as (ap₂ bound_from c.unwrap_or-minus.ensures c.in-Some.ensures.0.2)))

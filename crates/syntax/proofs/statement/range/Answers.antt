@@ -1,0 +1,36 @@
+use Rattle.std.proofs.Common.{rules}
+use Rattle.definitions.specs.Word as w
+use Rattle.definitions.specs.Token.{Reserved}
+use Rattle.definitions.specs.Statement.{Range}
+use Rattle.definitions.specs.Rule.{Rule, Gives, Past, Then}
+use Rattle.definitions.proofs.Alike.{Alike, gives_alike, past_alike, then_alike}
+use Rattle.definitions.specs.Grammar as g
+use Rattle.definitions.proofs.Grammar.{bound_alike}
+use Rattle.cursor.proofs.Outcomes.{then_on, flat_on, past_on, misses_on, if_on, gives, past_fails, then_fails, answers}
+use Rattle.syntax.proofs.statement.range.Goals as goal
+
+abbrev bounds : Rule Range
+bounds = Then g.BoundAt (λ low. Past (Reserved w.High) (Then g.BoundAt (λ high. Gives (record { low = low; high = high }))))
+
+inner : Alike bounds bounds
+inner = then_alike bound_alike (λ low. past_alike _ (then_alike bound_alike (λ high. gives_alike _)))
+
+pub returns-then-not-eat_word : goal.returns-then-not-eat_word
+unfolding g.RangeAt
+returns-then-not-eat_word c l k = misses_on c.if-not-eat_word.ensures gives
+
+pub returns-in_err-low : goal.returns-in_err-low
+unfolding g.RangeAt
+returns-in_err-low c l k = answers _ _ (search rules) (if_on c.if-not-eat_word.ensures (then_fails (then_fails (c.in_err-low.ensures l k))))
+
+pub returns-in_err-expect_word : goal.returns-in_err-expect_word
+unfolding g.RangeAt
+returns-in_err-expect_word c l k = answers _ _ (search rules) (if_on c.if-not-eat_word.ensures (then_fails (flat_on bound_alike c.in_ok-low.ensures (past_fails c.in_err-expect_word.ensures))))
+
+pub returns-in_err-high : goal.returns-in_err-high
+unfolding g.RangeAt
+returns-in_err-high c l k = answers _ _ (search rules) (if_on c.if-not-eat_word.ensures (then_fails (flat_on bound_alike c.in_ok-low.ensures (past_on c.in_ok-expect_word.ensures (then_fails (c.in_err-high.ensures l k))))))
+
+pub returns : goal.returns
+unfolding g.RangeAt
+returns c l k = if_on c.if-not-eat_word.ensures (then_on {k = 0} (λ m. inner) (flat_on bound_alike c.in_ok-low.ensures (past_on c.in_ok-expect_word.ensures (flat_on bound_alike c.in_ok-high.ensures gives))) gives)

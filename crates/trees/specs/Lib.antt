@@ -1,0 +1,2 @@
+pub use Rattle.definitions.specs.Statement
+pub mod Trees

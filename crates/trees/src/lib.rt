@@ -1,0 +1,15 @@
+//! Statements as trees, which keep where each name, literal and operator stands: `start` is the offset of its
+//! first byte in the script.
+#![tactic(auto)]
+
+mod expr;
+mod leaf;
+mod statement;
+
+pub use expr::{Block, Expr, Item, Operand, SelectList, Source};
+pub use leaf::{
+    ColumnReference, Count, LineOperator, Name, Numeral, Op, Quantifier, SetFunction, StringLiteral,
+};
+pub use statement::{
+    Bound, ColumnDefinition, Constraint, IndexFigures, Key, KeyName, Range, Select, Statement,
+};
