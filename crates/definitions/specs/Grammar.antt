@@ -242,11 +242,12 @@ BetweenOf inner negated value = Then (SumOf inner) (λ low. Past (Reserved w.And
 unfoldable pub LikeOf : Bool → Expr → Rule Expr
 LikeOf negated value = Then StringAt (λ codes. Gives (s.Like negated value codes))
 
--- BETWEEN .. | LIKE .. | IN "(" in_list (8.4); or, but not behind NOT, nothing
+-- nothing behind a value, which can't be behind NOT
 abbrev pub alone : Bool → Expr → Rule Expr
 alone true value = Never
 alone false value = Gives value
 
+-- BETWEEN .. | LIKE .. | IN "(" in_list; or, but not behind NOT, nothing (8.3 to 8.5)
 unfoldable pub PredicateOf : Inner → Bool → Expr → Rule Expr
 PredicateOf inner negated value =
     If (Reserved w.Between) (BetweenOf inner negated value)

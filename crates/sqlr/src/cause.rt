@@ -25,7 +25,9 @@ pub enum Cause<'a> {
     /// Its tokens are no statements.
     Unexpected(Unexpected),
     /// More than 64 levels are open with the token at a byte of the script.
-    TooDeep { offset: usize },
+    TooDeep {
+        offset: usize,
+    },
     /// A statement can't be run so far.
     NotYet(&'a Statement),
     /// A table is not made.
