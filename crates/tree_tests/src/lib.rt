@@ -8,6 +8,6 @@ mod script;
 #[cfg(test)]
 mod shown;
 #[cfg(test)]
-mod trees;
+mod statements;
 #[cfg(test)]
 mod writer;
