@@ -10,7 +10,7 @@ ghost use Rattle.syntax.specs.Reading.{IsSyntaxFault, ParsesScript};
 use crate::fault::{SyntaxFault, fault_of};
 use crate::statement::statement;
 use cursor::{Cursor, Stop, Wanted};
-use lexer::{Symbol, Token};
+use lexer::{Symbol, Token, TokenKind};
 use std::alloc::Global;
 use trees::Statement;
 
@@ -30,14 +30,27 @@ pub fn parse(alloc: Global, tokens: &[Token], end: usize) -> Result<Vec<Statemen
     }
 }
 
-/// What the rules look for where nothing goes on with a token: the tokens are read once more up to it.
+/// What the rules look for where nothing goes on with a token: its statement is read once more, up to it.
 fn wanted_at(alloc: Global, tokens: &[Token], stop: Stop) -> Wanted {
     let Stop::Token(at) = stop else {
         return Wanted::nothing();
     };
-    let mut cursor = Cursor::new(alloc, tokens, Some(at));
+    let begun = tokens
+        .get(..at)
+        .map_or(0, |before| behind_semicolon(before));
+    let statement = tokens.get(at.saturating_sub(begun)..).unwrap_or(&[]);
+    let mut cursor = Cursor::new(alloc, statement, Some(begun));
     let _ = script(alloc, &mut cursor);
     cursor.wanted()
+}
+
+/// How many tokens stand behind the last semicolon.
+fn behind_semicolon(tokens: &[Token]) -> usize {
+    tokens
+        .iter()
+        .rev()
+        .take_while(|token| !matches!(token.kind, TokenKind::Mark(Symbol::Semicolon)))
+        .count()
 }
 
 /// `{ statement ";" }`, up to the end of the tokens.
