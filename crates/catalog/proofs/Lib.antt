@@ -1,5 +1,3 @@
-pub mod NumberLists
-pub mod TextLists
 pub mod Scaling
 pub mod Numerals
 pub mod Stored

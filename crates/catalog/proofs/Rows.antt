@@ -1,14 +1,15 @@
 -- Rows across columns.
-use Rattle.std.proofs.Common.{◌≡◌, ◌∙◌, refl, sym, ap, inl, inr, ℕ, zero, suc, ◌+◌, ◌<◌, ◌≤◌, List, [], ◌∷◌, ◌++◌, Option, Some, None, length, map, drop, get_or, Bool, true, false, cond, arith}
+use Rattle.std.proofs.Common.{◌≡◌, ◌∙◌, refl, sym, ap, ap₂, inl, inr, ℕ, zero, suc, ◌+◌, ◌<◌, ◌≤◌, List, [], ◌∷◌, ◌++◌, Option, Some, None, length, map, take, drop, get_or, Bool, true, false, cond, arith}
 use Rattle.std.specs.Prelude.{◌⊎◌}
 use Rattle.std.specs.List.{AllByRecursion, position_from}
 use Rattle.std.proofs.lemmas.Bool.{cases_lt}
-use Rattle.std.proofs.lemmas.List.{length_push, length-map, get_or-map, get_or_append_left, get_or_push, drop_more, drop_all}
+use Rattle.std.proofs.lemmas.List.{length_push, length-map, get_or-map, get_or_append_left, get_or_push, drop_more, drop_all, map-append, take_more, take_all}
 use Rattle.definitions.specs.Value.{Null, IsType}
 use Rattle.definitions.specs.Table.{Column, Table, column_of, new_table}
 use Rattle.definitions.specs.Statement.{ColumnDefinition}
 use Rattle.definitions.specs.Faults.{AnyOf}
-use Rattle.catalog.specs.Meaning.{cell_at, definitions_of}
+use Rattle.definitions.specs.Scanning.{part_of}
+use Rattle.catalog.specs.Meaning.{cell_at, cells_in, definitions_of}
 use Rattle.sqlvalue.specs.Meaning.{declared_of}
 use Rattle.catalog.specs.declared.table.NewColumn.{NewColumn}
 use Rattle.catalog.specs.Stored.{StoredColumn, AreFilled, empty_column, table_of, headers, value_at, row_at, rows_of}
@@ -57,6 +58,29 @@ pub value_in_table : (name : List ℕ) (cs : List StoredColumn) (n : ℕ) (t : T
     → k < length c.values
 value_in_table name cs n t k j c e f h l i =
     omega (arith, row_in_rows name cs n t k e h, filled_at n cs j c f (column_in_columns name cs n t j e l) i)
+
+-- the values of a column, and those of a part of its rows
+first_values : (k : ℕ) (cs : List StoredColumn) (j : ℕ) (c : StoredColumn) → k ≤ length c.values → j < length cs → c ≡ get_or cs j c → map (λ row. get_or row j Null) (rows_of k cs) ≡ take k c.values
+first_values zero cs j c h l e = refl
+first_values (suc k) cs j c h l e =
+    let next : suc k ≡ k + 1 = omega arith in
+    let own : get_or (row_at k cs) j Null ≡ get_or c.values k Null = get_or-map (value_at k) cs j c Null l ∙ ap (value_at k) (sym e) in
+    map-append (λ row. get_or row j Null) (rows_of k cs) (row_at k cs ∷ [])
+    ∙ ap₂ (λ xs x. xs ++ x ∷ []) (first_values k cs j c (omega (arith, h)) l e) own
+    ∙ sym (take_more c.values k Null (omega (arith, h))) ∙ ap (λ m. take m c.values) (sym next)
+
+pub part_in_table : (name : List ℕ) (cs : List StoredColumn) (n : ℕ) (t : Table) (j : ℕ) (c : StoredColumn) (first rows : ℕ) → table_of name cs n ≡ t → AreFilled n cs → j < length t.columns → c ≡ get_or cs j c
+    → part_of first rows c.values ≡ cells_in t j first rows
+part_in_table name cs n t j c first rows e f l i =
+    let within = column_in_columns name cs n t j e l in
+    let filled = filled_at n cs j c f within i in
+    let all : map (λ row. get_or row j Null) (rows_of n cs) ≡ c.values = first_values n cs j c (omega (arith, filled)) within i ∙ take_all n c.values (omega (arith, filled)) in
+    ap (part_of first rows) (sym all) ∙ ap (λ (u : Table). cells_in u j first rows) e
+
+pub rows_in_column : (name : List ℕ) (cs : List StoredColumn) (n : ℕ) (t : Table) (j : ℕ) (c : StoredColumn) (last : ℕ) → table_of name cs n ≡ t → AreFilled n cs → j < length t.columns → c ≡ get_or cs j c → last ≤ length t.rows
+    → last ≤ length c.values
+rows_in_column name cs n t j c last e f l i h =
+    omega (arith, h, ap (λ (u : Table). length u.rows) e, length-rows_of n cs, filled_at n cs j c f (column_in_columns name cs n t j e l) i)
 
 -- columns that definitions make
 pub empty_filled : (ds : List ColumnDefinition) → AreFilled 0 (map empty_column ds)

@@ -12,10 +12,10 @@ use Rattle.std.proofs.lemmas.Str.{IsUtf8-from_ascii, IsAscii-take}
 use Rattle.std.proofs.lemmas.Str.Ascii.{IsAscii-nil, IsAscii-cons}
 use Rattle.definitions.specs.Characters.{is_printable}
 use Rattle.definitions.specs.Value.{Value, Null, Number, Text, Char, text_cmp, compare, HasType}
-use Rattle.catalog.specs.Stored.{padded}
+use Rattle.columns.specs.Cells.{padded}
 use Rattle.definitions.specs.Refusal.{BadText, TooLong}
 use Rattle.catalog.specs.Fields.{Stores, StoresNone}
-use Rattle.catalog.proofs.TextLists.{length-padded}
+use Rattle.columns.proofs.TextLists.{length-padded}
 use Rattle.catalog.proofs.Numerals.{both_true}
 
 abbrev Printable : List ℕ → Type 0

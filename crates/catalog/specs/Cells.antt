@@ -1,18 +1,12 @@
--- What cells of either kind keep, and what a push of a field does to them.
+-- What a push of a field does to a column.
 use Rattle.std.specs.Prelude.{ℕ, ◌≡◌, List, [], ◌∷◌, ◌++◌, Ok, Err, ⊤}
 use Rattle.definitions.specs.Value.{Value}
 use Rattle.definitions.specs.Loading.{FieldLoads}
 use Rattle.refusals.specs.Meaning.{field_error_of}
 use Rattle.refusals.specs.declared.field.FieldFault.{FieldFault}
-use Rattle.catalog.specs.Stored.{CellList}
-use Rattle.catalog.specs.declared.cells.Cells.{Cells}
-use Rattle.catalog.specs.declared.cells.Cells.TheVariants as k
+use Rattle.columns.specs.Cells.{CellList}
 use Rattle.catalog.specs.declared.fault.PushFault.{PushFault}
 use Rattle.catalog.specs.declared.fault.PushFault.TheVariants as p
-
-abbrev pub cell_list : Cells → CellList
-cell_list (k.Numbers cells) = cells
-cell_list (k.Texts cells) = cells
 
 -- one more cell has the value that a field loads as
 abbrev pub PushesField : List ℕ → CellList → CellList → Type 0

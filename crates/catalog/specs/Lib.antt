@@ -3,9 +3,7 @@ pub use Rattle.definitions.specs.Refusal
 pub use Rattle.definitions.specs.Loading
 pub mod Meaning
 pub mod Stored
-pub mod Numbers
 pub mod NumberTypes
-pub mod Texts
 pub mod Fields
 pub mod Cells
 pub mod Pushes

@@ -4,6 +4,7 @@ use Rattle.definitions.specs.Value as value
 use Rattle.definitions.specs.Statement.{ColumnDefinition, Nullable}
 use Rattle.definitions.specs.Refusal as refusal
 use Rattle.definitions.specs.Table as table
+use Rattle.definitions.specs.Scanning.{part_of}
 use Rattle.refusals.specs.Meaning.{field_error_of}
 use Rattle.sqlvalue.specs.Meaning.{declared_of}
 use Rattle.catalog.specs.declared.table.NewColumn.{NewColumn}
@@ -36,3 +37,7 @@ record_refusal (r.Field fault column) = refusal.Field (field_error_of fault)
 -- the value in a row and a column of a table
 abbrev pub cell_at : table.Table → (row column : ℕ) → value.Value
 cell_at t row column = slice_index_or (slice_index_or t.rows row []) column value.Null
+
+-- the values of a column in so many rows, from one on
+abbrev pub cells_in : table.Table → (column first rows : ℕ) → List value.Value
+cells_in t column first rows = part_of first rows (map (λ row. slice_index_or row column value.Null) t.rows)

@@ -1,24 +1,25 @@
 //! Columns of tables.
 
-ghost use Rattle.std.specs.Prelude.{◌≡◌, ◌<◌, ◌≤◌, [], Ok, Err, IfOk, IfErr, OnOk, OnErr, length, bytes_eq, slice_index_or};
+ghost use Rattle.std.specs.Prelude.{◌≡◌, ◌<◌, ◌≤◌, ◌+◌, [], Ok, Err, IfOk, IfErr, OnOk, OnErr, length, bytes_eq, slice_index_or};
 ghost use Rattle.definitions.specs.Value as spec;
 ghost use Rattle.definitions.specs.Loading.{FieldLoads};
+ghost use Rattle.definitions.specs.Scanning.{part_of, true_word, unknown_word};
 ghost use Rattle.refusals.specs.Meaning.{field_error_of};
-ghost use Rattle.sqlvalue.specs.Meaning.{type_of, value_of};
+ghost use Rattle.sqlvalue.specs.Meaning.{op_of, type_of, value_of};
 ghost use Rattle.catalog.specs.Stored.{named, with_value, cut_to};
 
-use crate::cells::Cells;
+use crate::cells;
 use crate::fault::PushFault;
 use refusals::FieldFault;
-use sqlvalue::{SqlType, Value};
+use sqlvalue::{Op, SqlType, Value};
 use std::alloc::{AllocError, Global};
 use std::marker::Model;
 
-/// A column: its name, and its cells by their kind.
+/// A column: its name, and its cells.
 #[derive(Drop)]
 pub(crate) struct Column {
     name: String,
-    cells: Cells,
+    cells: columns::Column,
 }
 
 impl Model for Column {
@@ -41,7 +42,7 @@ impl Column {
     {
         Ok(Column {
             name: String::from_str(alloc, name)?,
-            cells: Cells::new(alloc, sql_type),
+            cells: columns::Column::new(alloc, sql_type),
         })
     }
 
@@ -70,13 +71,23 @@ impl Column {
         self.cells.cell(row)
     }
 
+    /// The rows in which a comparison is true, and those in which it is unknown, as words.
+    pub(crate) fn scan(&self, op: Op, value: &Value, first: usize, rows: usize) -> (u64, u64)
+        requires few { rows ≤ 64 }
+        requires within { first + rows ≤ length self.now.values }
+        ensures met { result.0 ≡ true_word (op_of op) (value_of value.now) (part_of first rows self.now.values) }
+        ensures unknown { result.1 ≡ unknown_word (op_of op) (value_of value.now) (part_of first rows self.now.values) }
+    {
+        self.cells.scan(op, value, first, rows)
+    }
+
     /// Adds the value that a field is stored as. An `Err` leaves the column as it was.
     pub(crate) fn push_field(&mut self, field: &[u8]) -> Result<(), PushFault<FieldFault>>
         ensures ok { OnOk result ((v : spec.Value) × FieldLoads self.old.header.type field.now (Ok v) × (self.new ≡ with_value self.old v)) }
         ensures refused { IfErr result (IfRefused (λ f. FieldLoads self.old.header.type field.now (Err (field_error_of f)))) }
         ensures err { OnErr result (self.new ≡ self.old) }
     {
-        self.cells.push_field(field)
+        cells::push_field(&mut self.cells, field)
     }
 
     /// Keeps the first cells alone, as many as `rows`.

@@ -8,18 +8,6 @@ ghost use Rattle.catalog.specs.NumberTypes.{size_limit_of};
 
 use sqlvalue::SqlType;
 
-/// The scale of a type's numbers.
-pub(crate) fn scale(sql_type: SqlType) -> u8
-    requires { spec.IsType (type_of sql_type) }
-    ensures value { result ≡ spec.scale_of (type_of sql_type) }
-    ensures bound { result ≤ greatest_precision }
-{
-    match sql_type {
-        SqlType::Numeric { scale, .. } => scale,
-        SqlType::Smallint | SqlType::Integer | SqlType::Char { .. } => 0,
-    }
-}
-
 /// The least size that the units of a type do not have on a side of zero.
 pub(crate) fn size_limit(sql_type: SqlType, negative: bool) -> u128
     requires { spec.IsType (type_of sql_type) }

@@ -1,17 +1,18 @@
 //! Tables.
 
-ghost use Rattle.std.specs.Prelude.{◌≡◌, ◌<◌, ◌≤◌, ◌↔◌, Some, None, IsNone, IfOk, IfErr, OnOk, OnErr, IfSome, length, bytes_eq, option_map, slice_get};
+ghost use Rattle.std.specs.Prelude.{◌≡◌, ◌<◌, ◌≤◌, ◌+◌, ◌↔◌, Some, None, IsNone, IfOk, IfErr, OnOk, OnErr, IfSome, length, bytes_eq, option_map, slice_get};
 ghost use Rattle.std.specs.List.{AllByRecursion, position_from};
 ghost use Rattle.definitions.specs.Limits.{most_columns, most_rows};
 ghost use Rattle.definitions.specs.Table as spec;
 ghost use Rattle.definitions.specs.Value.{IsType};
 ghost use Rattle.catalog.specs.Places.{IsColumnPlace};
-ghost use Rattle.sqlvalue.specs.Meaning.{type_of, value_of};
+ghost use Rattle.definitions.specs.Scanning.{true_word, unknown_word};
+ghost use Rattle.sqlvalue.specs.Meaning.{op_of, type_of, value_of};
 
 use crate::column::Column;
 use crate::fault::{CreateFault, LoadFault};
 use crate::file;
-use sqlvalue::{DeclaredType, SqlType, Value};
+use sqlvalue::{DeclaredType, Op, SqlType, Value};
 use std::alloc::Global;
 use std::marker::Model;
 
@@ -47,7 +48,7 @@ impl Model for Table {
 }
 
 impl Table {
-    ghost use Rattle.catalog.specs.Meaning.{cell_at, definitions_of};
+    ghost use Rattle.catalog.specs.Meaning.{cell_at, cells_in, definitions_of};
     ghost use Rattle.catalog.specs.Creates.{AreTypes, RefusesTypes};
     ghost use Rattle.catalog.specs.Loads.{LoadsTable, RefusesTable};
     ghost use Rattle.definitions.specs.Faults.{definition_names};
@@ -155,6 +156,26 @@ impl Table {
         ensures { value_of result ≡ cell_at self.now row column }
     {
         self.columns[column].cell(row)
+    }
+
+    /// Of so many rows from `first` on, those in which a comparison of a column's value with another is true, and
+    /// those in which it is unknown (ISO/IEC 9075:1992, 8.2): bit i of a word is set exactly where it is so in row
+    /// `first + i`.
+    pub fn scan(
+        &self,
+        column: usize,
+        op: Op,
+        value: &Value,
+        first: usize,
+        rows: usize,
+    ) -> (u64, u64)
+        requires few { rows ≤ 64 }
+        requires in_rows { first + rows ≤ length self.now.rows }
+        requires in_columns { column < length self.now.columns }
+        ensures met { result.0 ≡ true_word (op_of op) (value_of value.now) (cells_in self.now column first rows) }
+        ensures unknown { result.1 ≡ unknown_word (op_of op) (value_of value.now) (cells_in self.now column first rows) }
+    {
+        self.columns[column].scan(op, value, first, rows)
     }
 
     /// LOAD of the bytes of a file (own): adds a row for each record, and says how many. An `Err`

@@ -3,7 +3,8 @@
 ghost use Rattle.std.specs.Prelude.{◌≡◌, Some, option_map};
 ghost use Rattle.definitions.specs.Grammar as grammar;
 ghost use Rattle.lexer.specs.Meaning.{kind_of};
-ghost use Rattle.trees.specs.Trees.{op_of, operator_of, quantifier_of, function_of};
+ghost use Rattle.sqlvalue.specs.Meaning.{op_of};
+ghost use Rattle.trees.specs.Trees.{operator_of, quantifier_of, function_of};
 ghost use Rattle.cursor.specs.Leaves.{line_kind, type_word_of};
 ghost use Rattle.cursor.specs.Reading.{Takes};
 

@@ -14,7 +14,8 @@ use Rattle.definitions.specs.Answer.{value, is_kept, projected}
 use Rattle.definitions.specs.Printing.{expr_name}
 use Rattle.catalog.specs.Places.{IsColumnPlace}
 use Rattle.trees.specs.declared.expr.Item as tree
-use Rattle.trees.specs.Trees.{item_of, op_of}
+use Rattle.sqlvalue.specs.Meaning.{op_of}
+use Rattle.trees.specs.Trees.{item_of}
 use Rattle.sqlr.specs.declared.binding.Comparison.{Comparison}
 use Rattle.sqlr.proofs.Comparing.{column_of}
 use Rattle.sqlr.proofs.NotYet.{plain_items, plain_condition}

@@ -6,3 +6,4 @@ pub mod Bound
 pub mod Lines
 pub mod Taking
 pub mod Running
+pub mod Keeping

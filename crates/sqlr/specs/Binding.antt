@@ -9,8 +9,7 @@ use Rattle.definitions.specs.Faults as faults
 use Rattle.definitions.specs.Answer.{agrees, value}
 use Rattle.definitions.specs.Printing.{expr_name}
 use Rattle.catalog.specs.Places.{IsColumnPlace}
-use Rattle.sqlvalue.specs.Meaning.{value_of}
-use Rattle.trees.specs.Trees.{op_of}
+use Rattle.sqlvalue.specs.Meaning.{op_of, value_of}
 use Rattle.sqlr.specs.Meaning.{query_refusal}
 use Rattle.sqlr.specs.declared.binding.BindFault.{BindFault}
 use Rattle.sqlr.specs.declared.binding.BindFault.TheVariants as b

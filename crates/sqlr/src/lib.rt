@@ -8,6 +8,7 @@ mod library;
 mod not_yet;
 mod outcome;
 mod printing;
+mod rows;
 mod script;
 mod select;
 mod session;

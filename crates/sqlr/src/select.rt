@@ -1,21 +1,19 @@
 //! The answer of a query, as it is printed.
 
-ghost use Rattle.std.specs.Prelude.{◌≡◌, ◌<◌, ◌++◌, [], All, IfOk, IfErr, IfSome, OnOk, length, filter, map, slice_index_or};
-ghost use Rattle.definitions.specs.Answer as spec;
+ghost use Rattle.std.specs.Prelude.{◌≡◌, ◌<◌, ◌++◌, All, IfOk, IfErr, IfSome, OnOk, length, map};
 ghost use Rattle.definitions.specs.Printing.{fields_line, item_name, row_line, table_text};
 ghost use Rattle.definitions.specs.NotYet.{IsPlainBlock};
 ghost use Rattle.definitions.specs.Faults as faults;
-ghost use Rattle.trees.specs.Trees.{op_of, block_of, item_of};
-ghost use Rattle.sqlr.specs.Binding.{IsPlaced, keeps, is_true, row_of, bind_refusal, values_at};
+ghost use Rattle.trees.specs.Trees.{block_of, item_of};
+ghost use Rattle.sqlr.specs.Binding.{IsPlaced, row_of, bind_refusal, values_at};
 ghost use Rattle.sqlr.specs.Selecting.{PrintsTable};
 
-use crate::binding::{BindFault, Bound, Comparison, bind, items};
+use crate::binding::{BindFault, Bound, bind, items};
 use crate::printing::{write_decimal, write_value};
-use catalog::{Database, Table};
-use sqlvalue::compare;
+use crate::rows::answer_rows;
+use catalog::Database;
 use std::alloc::{AllocError, Global};
-use std::cmp::Ordering;
-use syntax::{Block, Expr, Item, Op};
+use syntax::{Block, Expr, Item};
 
 /// What a query prints: the header, its rows and how many there are; or a fault that it has.
 pub fn select<'q>(
@@ -32,21 +30,6 @@ pub fn select<'q>(
     let mut out = Vec::new(alloc);
     write_table(&mut out, &bound, items(block), &rows)?;
     Ok(out)
-}
-
-/// The rows of a query's answer, by their numbers in its table, from 0.
-fn answer_rows(alloc: Global, bound: &Bound) -> Result<Vec<usize>, AllocError>
-    requires { IsPlaced bound.now }
-    ensures within { IfOk result (λ rows. All (λ row. row < length bound.now.table.now.rows) rows.items) }
-    ensures kept { IfOk result (λ rows. map (row_of bound.now) rows.items ≡ filter (keeps bound.now.condition) bound.now.table.now.rows) }
-{
-    let mut rows = Vec::new(alloc);
-    'rows: for row in 0..bound.table.len() {
-        if is_kept(bound, row) {
-            rows.push(row)?;
-        }
-    }
-    Ok(rows)
 }
 
 /// Rows of a table, by their numbers, as the result columns of a query.
@@ -105,42 +88,4 @@ fn write_row(out: &mut Vec<u8>, bound: &Bound, row: usize) -> Result<(), AllocEr
     }
     out.push(b'\n')?;
     Ok(())
-}
-
-/// Whether the condition is true on a row: where it is unknown it is not.
-fn is_kept(bound: &Bound, row: usize) -> bool
-    requires placed { IsPlaced bound.now }
-    requires in_rows { row < length bound.now.table.now.rows }
-    ensures { result ≡ keeps bound.now.condition (row_of bound.now row) }
-{
-    match &bound.condition {
-        Some(comparison) => is_met(bound.table, comparison, row),
-        None => true,
-    }
-}
-
-fn is_met(table: &Table, comparison: &Comparison, row: usize) -> bool
-    requires in_rows { row < length table.now.rows }
-    requires in_columns { comparison.now.column < length table.now.columns }
-    ensures { result ≡ is_true comparison.now (slice_index_or table.now.rows row []) }
-{
-    let value = table.cell(row, comparison.column);
-    match compare(&value, &comparison.literal) {
-        Some(order) => agrees(comparison.op, order),
-        None => false,
-    }
-}
-
-/// Whether an order of two values is what an operator asks (ISO/IEC 9075:1992, 8.2).
-fn agrees(op: Op, order: Ordering) -> bool
-    ensures { result ≡ spec.agrees (op_of op) order }
-{
-    match op {
-        Op::Equals => order.is_eq(),
-        Op::NotEquals => order.is_ne(),
-        Op::LessThan => order.is_lt(),
-        Op::GreaterThan => order.is_gt(),
-        Op::LessOrEquals => order.is_le(),
-        Op::GreaterOrEquals => order.is_ge(),
-    }
 }

@@ -2,8 +2,11 @@
 use Rattle.std.specs.Prelude.{◌<◌, ◌≤◌, ◌⊎◌, Bool, true, false}
 use Rattle.definitions.specs.Limits.{greatest_precision, greatest_length}
 use Rattle.definitions.specs.Value as spec
+use Rattle.definitions.specs.Statement as tree
 use Rattle.sqlvalue.specs.declared.value.Value.{Value}
 use Rattle.sqlvalue.specs.declared.value.Value.TheVariants as v
+use Rattle.sqlvalue.specs.declared.op.Op.{Op}
+use Rattle.sqlvalue.specs.declared.op.Op.TheVariants as o
 use Rattle.sqlvalue.specs.declared.sql_type.DeclaredType.{DeclaredType}
 use Rattle.sqlvalue.specs.declared.sql_type.DeclaredType.TheVariants as d
 use Rattle.sqlvalue.specs.declared.sql_type.TypeFault.{TypeFault}
@@ -15,6 +18,14 @@ abbrev pub value_of : Value → spec.Value
 value_of v.Null = spec.Null
 value_of (v.Num n) = spec.Number n.units n.scale
 value_of (v.Text text) = spec.Text text.now
+
+abbrev pub op_of : Op → tree.Op
+op_of o.Equals = tree.Equals
+op_of o.NotEquals = tree.NotEquals
+op_of o.LessThan = tree.LessThan
+op_of o.GreaterThan = tree.GreaterThan
+op_of o.LessOrEquals = tree.LessOrEquals
+op_of o.GreaterOrEquals = tree.GreaterOrEquals
 
 -- a type as it is written
 abbrev pub declared_of : DeclaredType → spec.SqlType

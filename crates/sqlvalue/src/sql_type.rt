@@ -1,6 +1,7 @@
 //! The types of columns.
 
-ghost use Rattle.std.specs.Prelude.{◌≡◌, ◌↔◌, IsOk, IfOk, IfErr};
+ghost use Rattle.std.specs.Prelude.{◌≡◌, ◌≤◌, ◌↔◌, IsOk, IfOk, IfErr};
+ghost use Rattle.definitions.specs.Limits.{greatest_precision};
 ghost use Rattle.definitions.specs.Value as spec;
 ghost use Rattle.definitions.specs.Value.{IsType};
 ghost use Rattle.sqlvalue.specs.Meaning.{IsOutside, declared_of, is_text_type, type_of};
@@ -101,6 +102,18 @@ impl SqlType {
         match self {
             SqlType::Char { .. } => true,
             SqlType::Smallint | SqlType::Integer | SqlType::Numeric { .. } => false,
+        }
+    }
+
+    /// How many digits of its numbers stand behind the point; 0 for texts.
+    pub fn scale(self) -> u8
+        requires { IsType (type_of self) }
+        ensures value { result ≡ spec.scale_of (type_of self) }
+        ensures bound { result ≤ greatest_precision }
+    {
+        match self {
+            SqlType::Numeric { scale, .. } => scale,
+            SqlType::Smallint | SqlType::Integer | SqlType::Char { .. } => 0,
         }
     }
 }

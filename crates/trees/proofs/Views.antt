@@ -2,7 +2,8 @@
 use Rattle.std.proofs.Common.{◌≡◌, ◌∙◌, refl, sym, ap, ap₂, ℕ, List, [], ◌∷◌, map, Bool, Option, Some, None, option_map}
 use Rattle.definitions.specs.Statement as spec
 use Rattle.definitions.specs.Grammar.{operands, members, items}
-use Rattle.trees.specs.Trees.{OperandTree, expr_of, list_of, block_of, item_of, operand_of, member_of, condition_of, column_of, source_of, name_of, numeral_of, op_of, operator_of, quantifier_of, function_of, text_of, expr_layer, list_layer, block_layer, item_layer, operand_layer}
+use Rattle.sqlvalue.specs.Meaning.{op_of}
+use Rattle.trees.specs.Trees.{OperandTree, expr_of, list_of, block_of, item_of, operand_of, member_of, condition_of, column_of, source_of, name_of, numeral_of, operator_of, quantifier_of, function_of, text_of, expr_layer, list_layer, block_layer, item_layer, operand_layer}
 use Rattle.trees.specs.declared.expr.Expr.{Expr}
 use Rattle.trees.specs.declared.expr.Expr as e
 use Rattle.trees.specs.declared.expr.Expr.TheViews as v

@@ -2,13 +2,11 @@
 use Rattle.std.specs.Prelude.{ℕ, List, Option, Some, None, map, string_bytes, option_map}
 use Rattle.definitions.specs.Statement as spec
 use Rattle.definitions.specs.Grammar.{operands, members, items}
-use Rattle.sqlvalue.specs.Meaning.{declared_of}
+use Rattle.sqlvalue.specs.Meaning.{declared_of, op_of}
 use Rattle.trees.specs.declared.leaf.Name.{Name}
 use Rattle.trees.specs.declared.leaf.ColumnReference.{ColumnReference}
 use Rattle.trees.specs.declared.leaf.Numeral.{Numeral}
 use Rattle.trees.specs.declared.leaf.StringLiteral.{StringLiteral}
-use Rattle.trees.specs.declared.leaf.Op.{Op}
-use Rattle.trees.specs.declared.leaf.Op.TheVariants as o
 use Rattle.trees.specs.declared.leaf.LineOperator.{LineOperator}
 use Rattle.trees.specs.declared.leaf.LineOperator.TheVariants as j
 use Rattle.trees.specs.declared.leaf.Quantifier.{Quantifier}
@@ -49,14 +47,6 @@ text_of t = string_bytes t.text
 
 abbrev pub numeral_of : Numeral → spec.Expr
 numeral_of n = spec.Numeral n.units n.digits n.scale
-
-abbrev pub op_of : Op → spec.Op
-op_of o.Equals = spec.Equals
-op_of o.NotEquals = spec.NotEquals
-op_of o.LessThan = spec.LessThan
-op_of o.GreaterThan = spec.GreaterThan
-op_of o.LessOrEquals = spec.LessOrEquals
-op_of o.GreaterOrEquals = spec.GreaterOrEquals
 
 abbrev pub operator_of : LineOperator → spec.LineOperator
 operator_of j.Or = spec.Or

@@ -1,8 +1,9 @@
 //! Expressions and query blocks.
 
 use crate::leaf::{
-    ColumnReference, LineOperator, Name, Numeral, Op, Quantifier, SetFunction, StringLiteral,
+    ColumnReference, LineOperator, Name, Numeral, Quantifier, SetFunction, StringLiteral,
 };
+use sqlvalue::Op;
 
 /// A value or a condition; the binder tells them apart (ISO/IEC 9075:1992, 6.11 and 8.12). What stands
 /// in parentheses is the same tree without them.

@@ -42,17 +42,6 @@ pub struct Count {
     pub start: usize,
 }
 
-/// A comparison operator (ISO/IEC 9075:1992, 8.2).
-#[derive(Clone, Copy, Debug, PartialEq, Eq)]
-pub enum Op {
-    Equals,
-    NotEquals,
-    LessThan,
-    GreaterThan,
-    LessOrEquals,
-    GreaterOrEquals,
-}
-
 /// What joins the operands of a line (ISO/IEC 9075:1992, 8.12 and 6.12).
 #[derive(Clone, Copy, Debug, PartialEq, Eq)]
 pub enum LineOperator {

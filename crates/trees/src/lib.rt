@@ -8,8 +8,9 @@ mod statement;
 
 pub use expr::{Block, Expr, Item, Operand, SelectList, Source};
 pub use leaf::{
-    ColumnReference, Count, LineOperator, Name, Numeral, Op, Quantifier, SetFunction, StringLiteral,
+    ColumnReference, Count, LineOperator, Name, Numeral, Quantifier, SetFunction, StringLiteral,
 };
+pub use sqlvalue::Op;
 pub use statement::{
     Bound, ColumnDefinition, Constraint, IndexFigures, Key, KeyName, Range, Select, Statement,
 };

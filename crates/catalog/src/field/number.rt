@@ -11,11 +11,11 @@ ghost use Rattle.definitions.specs.Lexing as lexing;
 ghost use Rattle.definitions.specs.Loading.{FieldLoads, IsSign, negated};
 ghost use Rattle.sqlvalue.specs.Meaning.{type_of};
 ghost use Rattle.refusals.specs.Meaning.{field_error_of};
-ghost use Rattle.catalog.specs.Stored.{number_or_null};
+ghost use Rattle.columns.specs.Cells.{number_or_null};
 ghost use Rattle.catalog.specs.Fields.{IsEqualOf, number_of, WritesShort, WritesNone, Stores, StoresNone};
 
 use super::is_null;
-use crate::number_type::{scale, size_limit};
+use crate::number_type::size_limit;
 use refusals::FieldFault;
 use sqlvalue::SqlType;
 
@@ -67,7 +67,7 @@ fn unfit_number(written: WrittenNumber, sql_type: SqlType) -> FieldFault
     requires placed { written.scale ≤ most_digits }
     ensures { field_error_of result ≡ refusal.OutOfRange }
 {
-    let to = usize::from(scale(sql_type));
+    let to = usize::from(sql_type.scale());
     if written.scale > to && written.digits % power_of_ten(written.scale - to) > 0 {
         FieldFault::TooFine
     } else {
@@ -172,7 +172,7 @@ fn units_in(written: WrittenNumber, sql_type: SqlType) -> Option<i64>
     ensures none { IfNone result ((w : spec.Value) → IsEqualOf (type_of sql_type) (number_of written) w → ⊥) }
 {
     let limit = size_limit(sql_type, written.negative);
-    let to = usize::from(scale(sql_type));
+    let to = usize::from(sql_type.scale());
     match rescaled(written.digits, written.scale, to, limit) {
         Some(size) => Some(signed(written.negative, size)),
         None => None,

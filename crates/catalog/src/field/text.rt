@@ -7,7 +7,7 @@ ghost use Rattle.definitions.specs.Characters.{space, is_printable as is_printab
 ghost use Rattle.definitions.specs.Value as spec;
 ghost use Rattle.definitions.specs.Loading.{FieldLoads};
 ghost use Rattle.refusals.specs.Meaning.{field_error_of};
-ghost use Rattle.catalog.specs.Stored.{FitsIn, padded, text_or_null};
+ghost use Rattle.columns.specs.Cells.{FitsIn, padded, text_or_null};
 ghost use Rattle.catalog.specs.Fields.{Stores, StoresNone};
 
 use super::is_null;

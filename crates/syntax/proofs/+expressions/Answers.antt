@@ -7,7 +7,8 @@ use Rattle.syntax.specs.Reading.{LineAt}
 use Rattle.std.proofs.Common.{Result, ap₂, ℕ, suc, map, [], ◌∷◌, ◌++◌, Bool, true, false}
 use Rattle.definitions.specs.Statement as tree
 use Rattle.definitions.specs.Grammar.{within}
-use Rattle.trees.specs.Trees.{expr_of, op_of, quantifier_of, block_of, member_of, item_of, operand_of, function_of}
+use Rattle.sqlvalue.specs.Meaning.{op_of}
+use Rattle.trees.specs.Trees.{expr_of, quantifier_of, block_of, member_of, item_of, operand_of, function_of}
 use Rattle.cursor.specs.Leaves.{line_kind}
 use Rattle.cursor.proofs.Stopping.{nowhere_never, nowhere_first}
 use Rattle.cursor.proofs.Opening.{inside, opens_past, opens_if, opens_reads, deep_past, deep_if, deep_reads, sign_opens}

@@ -1,0 +1,9 @@
+pub use Rattle.definitions.specs.Scanning
+pub mod Cells
+pub mod NullBits
+pub mod Numbers
+pub mod Texts
+pub mod Columns
+pub mod Ranges
+pub mod TextRows
+pub mod Rows
