@@ -23,16 +23,16 @@ SCAN_TIMES = PROGRAM.parent.parent.parent / "scan_times/out/scan_times"
 ROWS = 5_000_000
 NUMBERS = 500_000
 ROUNDS = 3
-SELECTS = 5
 PASSES = 40
 TABLE = "CREATE TABLE T (I INTEGER, N NUMERIC(9,2), C CHAR(10));\n"
+# What is asked, and how many times ours is asked in one run.
 FILTERS = [
-    ("INTEGER, 10 rows", "SELECT I FROM T WHERE I = 7;\n"),
-    ("NUMERIC(9,2), 10 rows", "SELECT N FROM T WHERE N = 0.07;\n"),
-    ("CHAR(10), 10 rows", "SELECT C FROM T WHERE C = '000007abcd';\n"),
-    ("INTEGER, a tenth", "SELECT I FROM T WHERE I < 50000;\n"),
-    ("NUMERIC(9,2), a tenth", "SELECT N FROM T WHERE N < 500;\n"),
-    ("CHAR(10), a tenth", "SELECT C FROM T WHERE C < '050000';\n"),
+    ("INTEGER, 10 rows", "SELECT I FROM T WHERE I = 7;\n", 50),
+    ("NUMERIC(9,2), 10 rows", "SELECT N FROM T WHERE N = 0.07;\n", 50),
+    ("CHAR(10), 10 rows", "SELECT C FROM T WHERE C = '000007abcd';\n", 50),
+    ("INTEGER, a tenth", "SELECT I FROM T WHERE I < 50000;\n", 5),
+    ("NUMERIC(9,2), a tenth", "SELECT N FROM T WHERE N < 500;\n", 5),
+    ("CHAR(10), a tenth", "SELECT C FROM T WHERE C < '050000';\n", 5),
 ]
 
 
@@ -57,19 +57,19 @@ def ours(folder):
     """The seconds of each filter, best of all rounds."""
     load = TABLE + "LOAD T FROM 't.csv';\n"
     (folder / "load.sql").write_text(load)
-    for place, (_, query) in enumerate(FILTERS):
-        (folder / f"{place}.sql").write_text(load + query * SELECTS)
+    for place, (_, query, times) in enumerate(FILTERS):
+        (folder / f"{place}.sql").write_text(load + query * times)
     loaded = min(seconds([PROGRAM, "run", "load.sql"], folder) for _ in range(ROUNDS))
     return [
-        (min(seconds([PROGRAM, "run", f"{place}.sql"], folder) for _ in range(ROUNDS)) - loaded) / SELECTS
-        for place in range(len(FILTERS))
+        (min(seconds([PROGRAM, "run", f"{place}.sql"], folder) for _ in range(ROUNDS)) - loaded) / times
+        for place, (_, _, times) in enumerate(FILTERS)
     ]
 
 
 def theirs(folder):
     """The seconds of each filter that sqlite3 tells, best of all rounds, and how many rows it prints."""
     script = TABLE + ".mode csv\n.import t.csv T\n.mode list\n.output their.txt\n.timer on\n"
-    script += "".join(query for _, query in FILTERS) * ROUNDS
+    script += "".join(query for _, query, _ in FILTERS) * ROUNDS
     done = subprocess.run(["sqlite3", ":memory:"], input=script, capture_output=True, text=True, cwd=folder, check=True)
     told = (folder / "their.txt").read_text() + done.stdout
     times = [float(user) + float(system) for user, system in re.findall(r"user ([\d.]+) sys ([\d.]+)", told)]
@@ -93,7 +93,7 @@ def main():
         folder = pathlib.Path(name)
         write_records(folder / "t.csv")
         print("filter  sqlr/ms  sqlite3/ms  ratio")
-        for (filter_name, _), mine, peer in zip(FILTERS, ours(folder), theirs(folder)):
+        for (filter_name, _, _), mine, peer in zip(FILTERS, ours(folder), theirs(folder)):
             print(f"{filter_name}: {mine * 1e3:.1f} {peer * 1e3:.1f} {mine / peer:.3f}")
     scan, loop = passes("scan"), passes("loop")
     print(f"a scan of a column: {scan * 1e3:.1f} ms, a plain loop: {loop * 1e3:.1f} ms, ratio {scan / loop:.2f}")
