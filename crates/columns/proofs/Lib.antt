@@ -8,3 +8,4 @@ pub mod Orders
 pub mod TextOrders
 pub mod Rows
 pub mod Scans
+mod Lookups

@@ -49,7 +49,7 @@ number_value-pushed type None u = refl
 number_value-pushed type (Some v) u = refl
 
 -- the same, of whole columns
-count : (type : SqlType) (us : List ℤ) (nulls : List Bool) (v : CellList) → length us ≡ length nulls → numbers_of type us nulls ≡ v → length v.values ≡ length nulls
+pub count : (type : SqlType) (us : List ℤ) (nulls : List Bool) (v : CellList) → length us ≡ length nulls → numbers_of type us nulls ≡ v → length v.values ≡ length nulls
 count type us nulls v h e = ap (λ (l : CellList). length l.values) (sym e) ∙ length-number_values (scale_of type) us nulls h
 
 pub in_numbers : (type : SqlType) (us : List ℤ) (nulls : List Bool) (v : CellList) (k : ℕ) → length us ≡ length nulls → numbers_of type us nulls ≡ v

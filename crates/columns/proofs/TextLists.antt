@@ -7,7 +7,7 @@ use Rattle.std.proofs.lemmas.Str.Ascii.{IsAscii-nil, IsAscii-cons}
 use Rattle.std.specs.Str.{IsAscii, IsCharBoundary}
 use Rattle.std.specs.Prelude.{slice_range, unwrap_or, is_some, not, IfSome}
 use Rattle.std.specs.Option.{option_copied}
-use Rattle.definitions.specs.Value.{Value, Null, Text, SqlType, Char}
+use Rattle.definitions.specs.Value.{Value, Null, Text, Texts, SqlType, Char, kind_of}
 use Rattle.columns.specs.Texts.{text_values, texts_of}
 use Rattle.columns.specs.Cells.{CellList, padded, text_or_null, FitsIn}
 
@@ -148,3 +148,9 @@ rows_fit n m codes nulls v k h e l i =
 
 pub cut_at : (n m k : ℕ) (codes codes' : List ℕ) → m ≡ n → codes' ≡ take (k * m) codes → codes' ≡ take (n * k) codes
 cut_at n m k codes codes' e h = let c : k * n ≡ n * k = omega arith in h ∙ ap (λ x. take (k * x) codes) e ∙ ap (λ x. take x codes) c
+
+pub texts_counted : (n : ℕ) (codes : List ℕ) (nulls : List Bool) (v : CellList) → texts_of n codes nulls ≡ v → length v.values ≡ length nulls
+texts_counted n codes nulls v e = ap (λ (l : CellList). length l.values) (sym e) ∙ length-text_values n codes nulls
+
+pub view_type : (n : ℕ) (codes : List ℕ) (nulls : List Bool) (v : CellList) → texts_of n codes nulls ≡ v → kind_of v.type ≡ Texts
+view_type n codes nulls v e = ap (λ (l : CellList). kind_of l.type) (sym e)

@@ -7,3 +7,4 @@ pub mod Columns
 pub mod Ranges
 pub mod TextRows
 pub mod Rows
+pub mod Starts

@@ -5,6 +5,7 @@ mod column;
 mod null_bits;
 mod number;
 mod range;
+mod start;
 mod text;
 mod text_word;
 mod units;
@@ -12,5 +13,6 @@ mod words;
 
 pub use column::Column;
 pub use number::NumberColumn;
+pub use start::Start;
 pub use text::TextColumn;
 pub use words::all_rows;

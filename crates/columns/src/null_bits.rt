@@ -1,6 +1,6 @@
 //! Which rows of a column are null.
 
-ghost use Rattle.std.specs.Prelude.{◌≡◌, ◌<◌, ◌≤◌, ◌+◌, ◌∷◌, [], ◌++◌, false, length, take, drop, OnOk, OnErr, slice_index_or};
+ghost use Rattle.std.specs.Prelude.{◌≡◌, ◌<◌, ◌≤◌, ◌+◌, ◌∷◌, [], ◌++◌, true, false, not, IsTrue, length, take, drop, OnOk, OnErr, slice_index_or};
 ghost use Rattle.definitions.specs.Scanning.{word_of};
 
 use crate::words::all_rows;
@@ -43,6 +43,21 @@ impl NullBits {
         ensures { result ≡ slice_index_or self.now row false }
     {
         self.words[row / 64] >> (row % 64) & 1 == 1
+    }
+
+    /// How many rows there are (own).
+    pub(crate) fn len(&self) -> usize
+        ensures { result ≡ length self.now }
+    {
+        self.len
+    }
+
+    /// Whether a row is there and not null (own).
+    pub(crate) fn is_filled(&self, row: usize) -> bool
+        ensures value { result ≡ not (slice_index_or self.now row true) }
+        ensures within { IsTrue result → row < length self.now }
+    {
+        row < self.len && !self.is_null(row)
     }
 
     /// Adds a row. An `Err` leaves the rows as they were, and comes of memory or of more rows than a

@@ -1,20 +1,26 @@
 //! Columns of numbers.
 
-ghost use Rattle.std.specs.Prelude.{◌≡◌, ◌<◌, ◌≤◌, ◌+◌, ◌∷◌, [], ◌++◌, length, map, take, All, FitsSigned, IfSome, IfOk, OnOk, OnErr, slice_index_or};
+ghost use Rattle.std.specs.Prelude.{◌&&◌, not, IsNone, ◌≡◌, ◌<◌, ◌≤◌, ◌+◌, ◌∷◌, [], ◌++◌, length, map, take, All, FitsSigned, IfSome, IfOk, OnOk, OnErr, slice_index_or};
 ghost use Rattle.std.specs.Int.{w64};
 ghost use Rattle.definitions.specs.Value as spec;
 ghost use Rattle.definitions.specs.Scanning.{part_of, true_word, unknown_word, word_of};
 ghost use Rattle.sqlvalue.specs.Meaning.{op_of, type_of, value_of};
 ghost use Rattle.columns.specs.Cells.{number_or_null};
 ghost use Rattle.columns.specs.Ranges.{is_in};
+ghost use Rattle.definitions.specs.Key.{is_null as is_null_value};
+ghost use Rattle.definitions.specs.IndexRun.{is_from};
+ghost use Rattle.columns.specs.Starts.{limit_of, starts, IsHeld, AreApart, AreMet, value_in};
 
 use crate::null_bits::NullBits;
-use crate::range::{UnitRange, range_of};
+use crate::range::{UnitRange, nearest, range_of};
+use crate::start::Start;
 use crate::units::units_within;
 use crate::words::all_rows;
 use sqlvalue::{Num, Op, SqlType, Value};
 use std::alloc::{AllocError, Global};
+use std::cmp::Ordering;
 use std::marker::Model;
+use std::ops::Bound;
 
 /// A column of numbers: units at the column's scale, and which of them are null. A null's units are 0.
 #[derive(Drop)]
@@ -100,6 +106,87 @@ impl NumberColumn {
         let range = range_of(op, *number, self.sql_type.scale());
         let met = range_word(&self.units[first..first + rows], range);
         (met & (all_rows(rows) - nulls), nulls)
+    }
+
+    /// How many rows there are.
+    pub fn len(&self) -> usize
+        ensures { result ≡ length self.now.values }
+    {
+        self.units.len()
+    }
+
+    /// Whether the number in a row is null. A row past the end has null (own).
+    pub fn is_null(&self, row: usize) -> bool
+        ensures { result ≡ is_null_value (value_in self.now row) }
+    {
+        !self.nulls.is_filled(row)
+    }
+
+    /// How the numbers in two rows rank, a null before all others (own; ISO/IEC 9075:1992, 13.1 leaves it open). A row
+    /// past the end has null (own).
+    pub fn rank(&self, a: usize, b: usize) -> Ordering
+        ensures { result ≡ spec.rank (value_in self.now a) (value_in self.now b) }
+    {
+        match (self.nulls.is_filled(a), self.nulls.is_filled(b)) {
+            (true, true) => self.units[a].cmp(&self.units[b]),
+            (a_filled, b_filled) => a_filled.cmp(&b_filled),
+        }
+    }
+
+    /// Adds the number that another column of the same type has in a row. An `Err` leaves the column as it was.
+    pub fn push_from(&mut self, other: &NumberColumn, row: usize) -> Result<(), AllocError>
+        requires alike { self.old.type ≡ other.now.type }
+        ensures ok { OnOk result (self.new ≡ record self.old { values = self.old.values ++ value_in other.now row ∷ [] }) }
+        ensures err { OnErr result (self.new ≡ self.old) }
+        ensures held { IsHeld other.now.type (value_in other.now row) }
+    {
+        self.push(other.units_in(row))
+    }
+
+    /// The units in a row, or none for null and past the end.
+    fn units_in(&self, row: usize) -> Option<i64>
+        ensures value { number_or_null self.now.type result ≡ value_in self.now row }
+        ensures held { IsHeld self.now.type (value_in self.now row) }
+    {
+        if self.nulls.is_filled(row) {
+            Some(self.units[row])
+        } else {
+            None
+        }
+    }
+
+    /// The values from a limit on, nulls being none of them, made ready for look-ups in columns of this type; `None`
+    /// where the limit's value is no number (ISO/IEC 9075:1992, 8.2).
+    pub fn start<'a>(&self, limit: Bound<Value<'a>>) -> Option<Start<'a>>
+        ensures some { IfSome result (λ start. (cell : spec.Value) → IsHeld self.now.type cell → starts start cell ≡ (not (is_null_value cell) && is_from (limit_of limit.entry) cell)) }
+        ensures meets { IfSome result (λ start. AreMet self.now.type (limit_of limit.entry)) }
+        ensures none { IsNone result → AreApart self.now.type (limit_of limit.entry) }
+    {
+        match limit {
+            Bound::Unbounded => Some(Start::Filled),
+            Bound::Included(Value::Num(number)) => {
+                Some(Start::Above(nearest(number, self.sql_type.scale()).below))
+            }
+            Bound::Excluded(Value::Num(number)) => {
+                Some(Start::Above(nearest(number, self.sql_type.scale()).at_most))
+            }
+            Bound::Included(Value::Null | Value::Text(_))
+            | Bound::Excluded(Value::Null | Value::Text(_)) => None,
+        }
+    }
+
+    /// Whether the number in a row is one of those from a limit on; a null is not (own).
+    pub fn starts(&self, start: &Start, row: usize) -> bool
+        ensures { result ≡ starts start.now (value_in self.now row) }
+    {
+        if !self.nulls.is_filled(row) {
+            return false;
+        }
+        match start {
+            Start::Filled => true,
+            Start::Above(units) => i128::from(self.units[row]) > *units,
+            Start::From(_) | Start::Behind(_) => false,
+        }
     }
 
     /// Keeps the first rows alone, as many as `rows`.

@@ -20,9 +20,9 @@ pub(crate) struct UnitRange {
 
 /// The greatest units below a number, and the greatest that are not above it.
 #[derive(Clone, Copy)]
-struct Neighbours {
-    below: i128,
-    at_most: i128,
+pub(crate) struct Neighbours {
+    pub below: i128,
+    pub at_most: i128,
 }
 
 /// The units at a scale for which a comparison with a number is true (ISO/IEC 9075:1992, 8.2,
@@ -47,7 +47,7 @@ pub(crate) fn range_of(op: Op, value: Num, scale: u8) -> UnitRange
 }
 
 /// The units of a scale next to a number. Past the limits of 64 bits they may be any beyond those.
-fn nearest(value: Num, scale: u8) -> Neighbours
+pub(crate) fn nearest(value: Num, scale: u8) -> Neighbours
     requires { scale ≤ greatest_precision }
     ensures below { (u : ℤ) → FitsSigned w64 u → int_lt (u *ℤ pos (10 ^ value.scale)) (value.units *ℤ pos (10 ^ scale)) ≡ int_le u result.below }
     ensures at_most { (u : ℤ) → FitsSigned w64 u → int_le (u *ℤ pos (10 ^ value.scale)) (value.units *ℤ pos (10 ^ scale)) ≡ int_le u result.at_most }

@@ -2,18 +2,25 @@
 
 ghost use Rattle.std.specs.Option.{option_copied};
 ghost use Rattle.std.specs.String.{string_bytes};
-ghost use Rattle.std.specs.Prelude.{IfSome, ◌≡◌, ◌<◌, ◌≤◌, ◌+◌, ◌∷◌, [], ◌++◌, ◌-◌, length, length as list_length, take, OnOk, OnErr, slice_index_or};
+ghost use Rattle.std.specs.Prelude.{◌&&◌, not, IsNone, IfSome, ◌≡◌, ◌<◌, ◌≤◌, ◌+◌, ◌∷◌, [], ◌++◌, ◌-◌, length, length as list_length, take, OnOk, OnErr, slice_index_or};
 ghost use Rattle.definitions.specs.Value as spec;
 ghost use Rattle.definitions.specs.Scanning.{part_of, true_word, unknown_word};
 ghost use Rattle.sqlvalue.specs.Meaning.{op_of, value_of};
-ghost use Rattle.columns.specs.Cells.{FitsIn, padded, text_or_null};
+ghost use Rattle.columns.specs.Cells.{FitsIn, length_of, padded, text_or_null};
+ghost use Rattle.std.specs.Str.{IsAscii};
+ghost use Rattle.definitions.specs.Key.{is_null as is_null_value};
+ghost use Rattle.definitions.specs.IndexRun.{is_from as is_from_limit};
+ghost use Rattle.columns.specs.Starts.{limit_of, option_text, starts, IsHeld, AreApart, AreMet, value_in};
 
 use crate::null_bits::NullBits;
-use crate::text_word::texts_word;
+use crate::start::Start;
+use crate::text_word::{order_of_texts, texts_word};
 use crate::words::all_rows;
 use sqlvalue::{Op, Value};
 use std::alloc::{AllocError, Global};
+use std::cmp::Ordering;
 use std::marker::Model;
+use std::ops::Bound;
 
 /// A column of texts: their characters in a row, each text as long as the column, and which of them are null.
 /// A null's characters are spaces.
@@ -107,6 +114,90 @@ impl TextColumn {
         let characters = &self.characters.as_bytes()[first * length..];
         let met = texts_word(characters, length, rows, op, text.as_bytes());
         (met & (all_rows(rows) - nulls), nulls)
+    }
+
+    /// How many rows there are.
+    pub fn len(&self) -> usize
+        ensures { result ≡ list_length self.now.values }
+    {
+        self.nulls.len()
+    }
+
+    /// Whether the text in a row is null. A row past the end has null (own).
+    pub fn is_null(&self, row: usize) -> bool
+        ensures { result ≡ is_null_value (value_in self.now row) }
+    {
+        !self.nulls.is_filled(row)
+    }
+
+    /// The text in a row, or none for null and past the end.
+    fn text_in(&self, row: usize) -> Option<&str>
+        ensures text { option_text (option_copied result) ≡ value_in self.now row }
+        ensures long { IfSome result (λ t. list_length t.now ≡ length_of self.now.type) }
+        ensures ascii { IfSome result (λ t. IsAscii t.now) }
+        ensures held { IsHeld self.now.type (value_in self.now row) }
+    {
+        if self.nulls.is_filled(row) {
+            let length = usize::from(self.length);
+            let characters = self.characters.as_str();
+            Some(&characters[row * length..row * length + length])
+        } else {
+            None
+        }
+    }
+
+    /// How the texts in two rows rank, a null before all others (own; ISO/IEC 9075:1992, 13.1 leaves it open). A row
+    /// past the end has null (own).
+    pub fn rank(&self, a: usize, b: usize) -> Ordering
+        ensures { result ≡ spec.rank (value_in self.now a) (value_in self.now b) }
+    {
+        match (self.text_in(a), self.text_in(b)) {
+            (Some(x), Some(y)) => x.as_bytes().cmp(y.as_bytes()),
+            (x, y) => x.is_some().cmp(&y.is_some()),
+        }
+    }
+
+    /// Adds the text that another column of the same type has in a row. An `Err` leaves the column as it was.
+    pub fn push_from(&mut self, other: &TextColumn, row: usize) -> Result<(), AllocError>
+        requires alike { self.old.type ≡ other.now.type }
+        ensures ok { OnOk result (self.new ≡ record self.old { values = self.old.values ++ value_in other.now row ∷ [] }) }
+        ensures err { OnErr result (self.new ≡ self.old) }
+        ensures held { IsHeld other.now.type (value_in other.now row) }
+    {
+        self.push(other.text_in(row))
+    }
+
+    /// The values from a limit on, nulls being none of them, made ready for look-ups in columns of this type; `None`
+    /// where the limit's value is no text (ISO/IEC 9075:1992, 8.2).
+    pub fn start<'a>(&self, limit: Bound<Value<'a>>) -> Option<Start<'a>>
+        ensures some { IfSome result (λ start. (cell : spec.Value) → IsHeld self.now.type cell → starts start cell ≡ (not (is_null_value cell) && is_from_limit (limit_of limit.entry) cell)) }
+        ensures meets { IfSome result (λ start. AreMet self.now.type (limit_of limit.entry)) }
+        ensures none { IsNone result → AreApart self.now.type (limit_of limit.entry) }
+    {
+        // The proof knows of a column what its code reads: here, that it holds texts.
+        let _length = self.length;
+        match limit {
+            Bound::Unbounded => Some(Start::Filled),
+            Bound::Included(Value::Text(text)) => Some(Start::From(text)),
+            Bound::Excluded(Value::Text(text)) => Some(Start::Behind(text)),
+            Bound::Included(Value::Null | Value::Num(_))
+            | Bound::Excluded(Value::Null | Value::Num(_)) => None,
+        }
+    }
+
+    /// Whether the text in a row is one of those from a limit on; a null is not (own).
+    pub fn starts(&self, start: &Start, row: usize) -> bool
+        ensures { result ≡ starts start.now (value_in self.now row) }
+    {
+        let Some(own) = self.text_in(row) else {
+            return false;
+        };
+        match start {
+            Start::Filled => true,
+            Start::Above(_) => false,
+            Start::From(text) => order_of_texts(own.as_bytes(), text.as_bytes()).is_ge(),
+            Start::Behind(text) => order_of_texts(own.as_bytes(), text.as_bytes()).is_gt(),
+        }
     }
 
     /// Keeps the first rows alone, as many as `rows`.

@@ -74,6 +74,14 @@ fn order_of(text: &[u8], head: &[u8], past: Ordering) -> Ordering
     }
 }
 
+/// How two texts compare (ISO/IEC 9075:1992, 8.2, general rule 3).
+pub(crate) fn order_of_texts(text: &[u8], other: &[u8]) -> Ordering
+    ensures { result ≡ text_cmp text.now other.now }
+{
+    let (head, tail) = other.split_at(text.len().min(other.len()));
+    order_of(text, head, order_to_spaces(tail).reverse())
+}
+
 /// How a text compares with spaces.
 fn order_to_spaces(text: &[u8]) -> Ordering
     ensures { result ≡ text_cmp text.now [] }

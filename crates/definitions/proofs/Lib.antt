@@ -7,3 +7,7 @@ mod Quoting
 mod Examples
 mod Runs
 pub mod PlanTheory
+pub mod KeyRanks
+mod IndexRuns
+mod IndexParts
+mod KeyCounts

@@ -1,0 +1,12 @@
+mod KeyOrder
+mod PagedValues
+mod Levels
+mod Ranges
+mod Entries
+mod Parts
+mod Gathered
+mod KeyStretches
+mod Counting
+mod SortedRows
+mod FirstRepeated
+mod Rows

@@ -1,0 +1,153 @@
+//! The rows of a table in the order of their keys, with these.
+
+ghost use Rattle.std.specs.Prelude.{not, ◌≡◌, ◌≤◌, ◌<◌, ◌^◌, ◌-◌, IfOk, drop, map, length, take};
+ghost use Rattle.std.specs.Ordering.{is_eq};
+ghost use Rattle.definitions.specs.Key.{distinct_keys, full_keys, has_null, key_rank};
+ghost use Rattle.definitions.specs.IndexRun.{AreRising, equal_part, keys_of, range_part, rows_of};
+ghost use Rattle.sqlvalue.specs.Meaning.{value_of};
+ghost use Rattle.columns.specs.Starts.{limit_of};
+ghost use Rattle.indexes.specs.Stretches.{IsStretchOf, key_at, begins_anew};
+ghost use Rattle.indexes.specs.Keys.{key_in, AreOfHeight, columns_of, entry_in, height, types_of};
+
+use crate::key_column::{KeyColumn, Stretch};
+use columns::Column;
+use sqlvalue::Value;
+use std::alloc::{AllocError, Global};
+use std::cmp::Ordering;
+use std::marker::Model;
+use std::ops::Bound;
+
+/// The numbers of the rows, and the columns of their keys.
+#[derive(Drop)]
+pub(crate) struct KeyRun {
+    rows: Vec<u32>,
+    columns: Vec<KeyColumn>,
+}
+
+impl Model for KeyRun {
+    ghost use Rattle.indexes.specs.Runs.{Index};
+
+    ghost Value = { Index };
+
+    ghost use Rattle.indexes.specs.Runs.{index_of, IsKeyRun};
+
+    ghost view = { index_of };
+
+    ghost invariant = { IsKeyRun };
+}
+
+impl KeyRun {
+    /// The run of rows that are in the order of their keys.
+    pub(crate) fn of_rows(alloc: Global, keys: &[&Column], rows: Vec<u32>) -> Result<KeyRun, AllocError>
+        requires { AreRising (map (entry_in (columns_of keys.now)) rows.items) }
+        ensures types { IfOk result (λ run. run.types ≡ types_of (columns_of keys.now)) }
+        ensures entries { IfOk result (λ run. run.entries ≡ map (entry_in (columns_of keys.now)) rows.items) }
+    {
+        let mut columns = Vec::new(alloc);
+        for key in keys {
+            columns.push(KeyColumn::of_rows(alloc, key, rows.as_slice())?)?;
+        }
+        Ok(KeyRun { rows, columns })
+    }
+
+    pub(crate) fn len(&self) -> usize
+        ensures exact { result ≡ length self.now.entries }
+        ensures rising { AreRising self.now.entries }
+    {
+        self.rows.len()
+    }
+
+    /// All rows.
+    pub(crate) fn rows(&self) -> &[u32]
+        ensures { result.now ≡ rows_of self.now.entries }
+    {
+        self.rows.as_slice()
+    }
+
+    /// The rows whose keys begin with these values (ISO/IEC 9075:1992, 8.2).
+    pub(crate) fn equal(&self, values: &[Value]) -> &[u32]
+        requires { length values.now ≤ length self.now.types }
+        ensures { result.now ≡ rows_of (equal_part (map value_of values.now) self.now.entries) }
+    {
+        self.part(self.stretch(values))
+    }
+
+    /// The rows whose keys begin with these values, and whose next value is not null and lies from one bound to another
+    /// (ISO/IEC 9075:1992, 8.2).
+    pub(crate) fn range(&self, values: &[Value], low: Bound<Value>, high: Bound<Value>) -> &[u32]
+        requires { length values.now < length self.now.types }
+        ensures { result.now ≡ rows_of (range_part (map value_of values.now) (limit_of low.entry) (limit_of high.entry) self.now.entries) }
+    {
+        let beginning = self.stretch(values);
+        self.part(self.columns[values.len()].range(low, high, beginning))
+    }
+
+    /// The rows of a stretch.
+    fn part(&self, stretch: Stretch) -> &[u32]
+        requires forward { stretch.from ≤ stretch.to }
+        requires inside { stretch.to ≤ length self.now.entries }
+        ensures { result.now ≡ take (stretch.to - stretch.from) (drop stretch.from (rows_of self.now.entries)) }
+    {
+        &self.rows()[stretch.from..stretch.to]
+    }
+
+    /// The places of the keys that begin with these values.
+    fn stretch(&self, values: &[Value]) -> Stretch
+        requires { length values.now ≤ length self.now.types }
+        ensures { IsStretchOf (map value_of values.now) self.now.entries result }
+    {
+        let mut stretch = Stretch {
+            from: 0,
+            to: self.rows.len(),
+        };
+        for place in 0..values.len() {
+            let value = values[place];
+            stretch = self.columns[place].range(Bound::Included(value), Bound::Included(value), stretch);
+        }
+        stretch
+    }
+
+    /// How many keys without a null there are, equal ones counted once.
+    pub(crate) fn key_count(&self) -> usize
+        ensures { result ≡ length (distinct_keys (full_keys (keys_of self.now.entries))) }
+    {
+        let mut count = 0;
+        for place in 0..self.rows.len() {
+            count += usize::from(self.is_new(place));
+        }
+        count
+    }
+
+    /// Whether a key has no null and differs from the one before it.
+    fn is_new(&self, place: usize) -> bool
+        requires { place < length self.now.entries }
+        ensures { result ≡ begins_anew self.now.entries place }
+    {
+        is_full(&self.columns, place) 
+            && (place == 0 || differ(&self.columns, place - 1, place))
+    }
+}
+
+/// Whether no value of a key is null.
+fn is_full(columns: &[KeyColumn], place: usize) -> bool
+    ensures { result ≡ not (has_null (key_in columns.now place)) }
+{
+    for column in columns {
+        if column.is_null(place) {
+            return false;
+        }
+    }
+    true
+}
+
+/// Whether two keys are not equal.
+fn differ(columns: &[KeyColumn], a: usize, b: usize) -> bool
+    ensures { result ≡ not (is_eq (key_rank (key_in columns.now a) (key_in columns.now b))) }
+{
+    for column in columns {
+        if column.rank(a, b) != Ordering::Equal {
+            return true;
+        }
+    }
+    false
+}
