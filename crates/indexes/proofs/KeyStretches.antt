@@ -209,7 +209,6 @@ module _ (columns : List CellList) (rows : List ℕ) (entries : List Entry) (vie
     stretch_range low high r w exact place h =
         ap (lies_in vs low high) (key_is place h) ∙ lies_behind vs low high columns place d there ∙ narrowed r (lies low high) w exact place h
 
-
   -- the same of a column that was read
   module _ (vs : List Value) (s : Stretch) (place : ℕ) (x : CellList) (there : place < length columns) (at : length vs ≡ place) (read : x ≡ get_or columns place x) (is : IsStretchOf vs entries s) where
     column_is : get_or columns (length vs) x ≡ x

@@ -48,7 +48,11 @@ impl Model for KeyColumn {
 
 impl KeyColumn {
     /// The values that a column has in some rows, in their order.
-    pub(crate) fn of_rows(alloc: Global, column: &Column, rows: &[u32]) -> Result<KeyColumn, AllocError>
+    pub(crate) fn of_rows(
+        alloc: Global,
+        column: &Column,
+        rows: &[u32],
+    ) -> Result<KeyColumn, AllocError>
         ensures { IfOk result (λ keys. keys ≡ record (cells_of column.now) { values = map (value_in (cells_of column.now)) rows.now }) }
     {
         let values = every(alloc, column, rows, 1)?;
@@ -78,10 +82,16 @@ impl KeyColumn {
         ensures exact { (place : ℕ) → within.from ≤ place → place < within.to → is_within result place ≡ (not (is_null (value_in self.now place)) && is_from (limit_of low.entry) (value_in self.now place) && is_up_to (limit_of high.entry) (value_in self.now place)) }
     {
         let Some(start) = self.values.start(low) else {
-            return Stretch { to: within.from, ..within };
+            return Stretch {
+                to: within.from,
+                ..within
+            };
         };
         let Some(end) = self.values.start(turned(high)) else {
-            return Stretch { to: within.from, ..within };
+            return Stretch {
+                to: within.from,
+                ..within
+            };
         };
         let from = self.first_from(&start, within);
         let rest = Stretch { from, ..within };

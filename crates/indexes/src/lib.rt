@@ -1,8 +1,8 @@
 //! Indexes of tables: their rows in the order of their keys, and look-ups in it.
 #![tactic(auto)]
 
-mod keys;
 mod key_column;
+mod keys;
 mod ordered;
 mod repeated;
 mod run;

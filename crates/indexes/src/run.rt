@@ -38,7 +38,11 @@ impl Model for KeyRun {
 
 impl KeyRun {
     /// The run of rows that are in the order of their keys.
-    pub(crate) fn of_rows(alloc: Global, keys: &[&Column], rows: Vec<u32>) -> Result<KeyRun, AllocError>
+    pub(crate) fn of_rows(
+        alloc: Global,
+        keys: &[&Column],
+        rows: Vec<u32>,
+    ) -> Result<KeyRun, AllocError>
         requires { AreRising (map (entry_in (columns_of keys.now)) rows.items) }
         ensures types { IfOk result (λ run. run.types ≡ types_of (columns_of keys.now)) }
         ensures entries { IfOk result (λ run. run.entries ≡ map (entry_in (columns_of keys.now)) rows.items) }
@@ -102,7 +106,11 @@ impl KeyRun {
         };
         for place in 0..values.len() {
             let value = values[place];
-            stretch = self.columns[place].range(Bound::Included(value), Bound::Included(value), stretch);
+            stretch = self.columns[place].range(
+                Bound::Included(value),
+                Bound::Included(value),
+                stretch,
+            );
         }
         stretch
     }
@@ -123,8 +131,7 @@ impl KeyRun {
         requires { place < length self.now.entries }
         ensures { result ≡ begins_anew self.now.entries place }
     {
-        is_full(&self.columns, place) 
-            && (place == 0 || differ(&self.columns, place - 1, place))
+        is_full(&self.columns, place) && (place == 0 || differ(&self.columns, place - 1, place))
     }
 }
 

@@ -24,5 +24,5 @@ pub returns-in_default-high : goal.returns-in_default-high
 returns-in_default-high c = record {
   inside = record { from = c.first_from-from.ensures.from; forward = c.first_near.ensures.from; to = c.first_near.ensures.to };
   exact = range_closed c.args.self.now _ c.self.view_is c.self.invariant.held (limit_of c.args.low) (limit_of c.args.high) (limit_of c.turned.result) c.in-Some.start c.in-Some-start.end c.turned.ensures c.in-Some.ensures.some c.in-Some-start.ensures.some c.in-Some-start.ensures.meets
-  c.args.within.from c.args.within.to c.first_from-from.result c.first_near.result c.first_from-from.ensures c.first_near.ensures (not_unlimited c.args.high c.in_default-high.not-Unbounded);
+      c.args.within.from c.args.within.to c.first_from-from.result c.first_near.result c.first_from-from.ensures c.first_near.ensures (not_unlimited c.args.high c.in_default-high.not-Unbounded);
 }

@@ -25,5 +25,5 @@ returns c =
     let s = c.stretch-beginning.ensures in
     let w = c.range.ensures.inside in
     let e = range_at c.self.inside.columns.items c.self.inside.rows.items c.args.self.now.entries (ap (λ (i : Index). i.entries) c.self.view_is) (rw (ap (λ (i : Index). i.entries) c.self.view_is) at c.self.invariant.rising) (map value_of c.args.values.now) c.stretch-beginning.result (length c.args.values.now) c.index.result.now there (length-map c.args.values.now value_of) c.index.ensures c.stretch-beginning.ensures
-      (limit_of c.args.low) (limit_of c.args.high) c.range.result w c.range.ensures.exact in
+    (limit_of c.args.low) (limit_of c.args.high) c.range.result w c.range.ensures.exact in
     c.part.ensures ∙ sym (part_is (lies_in (map value_of c.args.values.now) (limit_of c.args.low) (limit_of c.args.high)) c.args.self.now.entries c.range.result.from c.range.result.to w.forward (omega (arith, w.to, s.inside)) e)

@@ -10,4 +10,3 @@ run_rows-requires-clause-same c = rows_same (columns_of c.args.keys.now) c.args.
 
 pub run_rows-requires-clause-within : goal.run_rows-requires-clause-within
 run_rows-requires-clause-within c = rows_within (columns_of c.args.keys.now) c.args.self.now.entries c.requires.beginning c.rows.result.now (c.rows.ensures ∙ ap (λ (i : Index). rows_of i.entries) c.self.view_is)
-

@@ -1,0 +1,5 @@
+use Rattle.std.proofs.Common.{◌≡◌, length}
+use Rattle.look_up_times.proofs.column.Given as goal
+
+abbrev pub invariant-rows : goal.invariant-rows
+invariant-rows l = length l.column.values ≡ l.row
