@@ -1,8 +1,9 @@
 #!/usr/bin/env python3
 """Times how long a CSV file takes to be loaded, ours and sqlite3's in the same run, best of three.
 
-The records are made by a fixed rule: INTEGER, NUMERIC(9,2), CHAR(10) and SMALLINT. The peak memory of
-ours is told beside the file's bytes plus 100 bytes a row. sqlite3 is Debian's package.
+The records are made by a fixed rule: INTEGER, NUMERIC(9,2), CHAR(10) and SMALLINT. They are loaded into a
+table without keys, and into one whose INTEGER is its PRIMARY KEY and which has an index on (SMALLINT, CHAR(10)). The
+peak memory of ours is told beside the file's bytes plus 100 bytes a row. sqlite3 is Debian's package.
 """
 import os
 import pathlib
@@ -12,7 +13,10 @@ import tempfile
 import time
 
 PROGRAM = pathlib.Path(__file__).resolve().parent.parent / "crates/sqlr_cli/out/sqlr_cli"
-TABLE = "CREATE TABLE T (I INTEGER, N NUMERIC(9,2), C CHAR(10), S SMALLINT);\n"
+COLUMNS = "(I INTEGER{key}, N NUMERIC(9,2), C CHAR(10), S SMALLINT);\n"
+PLAIN = "CREATE TABLE T " + COLUMNS.format(key="")
+KEYED = "CREATE TABLE T " + COLUMNS.format(key=" NOT NULL PRIMARY KEY") + "CREATE INDEX {name}ON T (S, C);\n"
+TABLES = {"plain": (PLAIN, PLAIN), "keyed": (KEYED.format(name=""), KEYED.format(name="SC "))}
 
 
 def write_records(path, count):
@@ -34,23 +38,29 @@ def once(command, folder, **options):
     return time.perf_counter() - start, usage.ru_maxrss * 1024
 
 
+def compared(folder, tables, allowed):
+    """The seconds of ours and of sqlite3's, and the peak of ours beside what is allowed, in a line."""
+    (folder / "ours.sql").write_text(tables[0] + "LOAD T FROM 't.csv';\n")
+    (folder / "theirs.sql").write_text(tables[1] + ".mode csv\n.import t.csv T\n")
+    ours = [once([PROGRAM, "run", "ours.sql"], folder) for _ in range(3)]
+    theirs = []
+    for _ in range(3):
+        with open(folder / "theirs.sql", "rb") as script:
+            theirs.append(once(["sqlite3", ":memory:"], folder, stdin=script))
+    best, peer = min(ours)[0], min(theirs)[0]
+    peak = max(memory for _, memory in ours)
+    return f"{best:.3f} {peer:.3f} {best / peer:.2f} {peak / 1e6:.1f} {allowed / 1e6:.1f}"
+
+
 def main():
-    print("rows  sqlr/s  sqlite3/s  ratio  sqlr/MB  allowed/MB")
+    print("table  rows  sqlr/s  sqlite3/s  ratio  sqlr/MB  allowed/MB")
     with tempfile.TemporaryDirectory() as name:
         folder = pathlib.Path(name)
-        (folder / "ours.sql").write_text(TABLE + "LOAD T FROM 't.csv';\n")
-        (folder / "theirs.sql").write_text(TABLE + ".mode csv\n.import t.csv T\n")
         for count in (250_000, 500_000, 1_000_000):
             write_records(folder / "t.csv", count)
             allowed = (folder / "t.csv").stat().st_size + 100 * count
-            ours = [once([PROGRAM, "run", "ours.sql"], folder) for _ in range(3)]
-            theirs = []
-            for _ in range(3):
-                with open(folder / "theirs.sql", "rb") as script:
-                    theirs.append(once(["sqlite3", ":memory:"], folder, stdin=script))
-            best, peer = min(ours)[0], min(theirs)[0]
-            peak = max(memory for _, memory in ours)
-            print(f"{count} {best:.3f} {peer:.3f} {best / peer:.2f} {peak / 1e6:.1f} {allowed / 1e6:.1f}")
+            for table, scripts in TABLES.items():
+                print(table, count, compared(folder, scripts, allowed), flush=True)
 
 
 if __name__ == "__main__":

@@ -64,18 +64,25 @@ NAME|STOCK
 
 FAULTS = b"""OK
 OK
+OK
+error E07 42000
 error E07 42000
 error E07 42000
 error E08 42000
 error E08 42000
+error E08 42000
+error E09 42000
 error E09 42000
 error E10 42000 record 2
 error E11 42000 record 2
 error E11 22003 record 1
 error E11 22001 record 1
+error E12 23000 record 3
+error E12 23000 record 1
 error E13 42000
 error E14 42000
 error E15 42000
+error E21 42000
 error E21 42000
 error E22 42000
 A|B
@@ -108,7 +115,7 @@ def cases(folder, full, closed):
     device.write_text("CREATE TABLE T (A INTEGER);\nLOAD T FROM 'examples';\nSELECT A FROM T;\n")
     parts, missing = "examples/parts.sql", "examples/missing.sql"
     yield Case("parts", ["run", parts], 0, PARTS)
-    first_told = b"examples/faults.sql:4:14: error E07 42000: there is a table T already\n"
+    first_told = b"examples/faults.sql:5:14: error E07 42000: there is a table T already\n"
     yield Case("faults", ["run", "examples/faults.sql"], 1, FAULTS, first_told)
     for name, (line, told) in FAULTY.items():
         script = f"examples/faulty/{name}.sql"

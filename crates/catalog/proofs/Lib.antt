@@ -1,11 +1,14 @@
-pub mod Scaling
-pub mod Numerals
-pub mod Stored
-pub mod TextFields
-pub mod Rows
-pub mod Naming
-pub mod Places
-pub mod Pushing
-pub mod Reading
-pub mod Loading
-pub mod Typing
+mod Places
+mod Rows
+mod Lists
+mod NamedTables
+mod Creating
+mod Bounds
+mod Loading
+mod Growing
+mod Accepting
+mod TableGrowth
+mod TableStatements
+mod TableIndexes
+mod NewTables
+mod SetFigures

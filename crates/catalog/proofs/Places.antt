@@ -1,6 +1,6 @@
 -- The column of a name stands at the first place of that name.
 use Rattle.std.proofs.Common.{◌≡◌, refl, sym, ℕ, suc, ◌+◌, ◌-◌, ◌≤◌, List, [], ◌∷◌, Option, Some, None, Bool, true, false, cond, length, get_or, arith}
-use Rattle.std.specs.Prelude.{◌↔◌, IsNone, bytes_eq}
+use Rattle.std.specs.Prelude.{◌↔◌, IfSome, IsNone, bytes_eq}
 use Rattle.std.specs.List.{position_from}
 use Rattle.definitions.specs.Value.{Null}
 use Rattle.definitions.specs.Statement.{Name}
@@ -56,3 +56,7 @@ place_known cs name o e = rw e (known cs name 0)
 
 pub place_found : (cs : List Column) (name : Name) (k : ℕ) → Some k ≡ place_from name 0 cs → IsColumnPlace cs name k
 place_found cs name k e = let same : k - 0 ≡ k = omega arith in rw same at (placed cs name 0 k (sym e)).1
+
+pub place_of : (cs : List Column) (name : Name) (o : Option ℕ) → o ≡ place_from name 0 cs → IfSome o (IsColumnPlace cs name)
+place_of cs name None e = tt
+place_of cs name (Some k) e = place_found cs name k e

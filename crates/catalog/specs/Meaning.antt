@@ -1,38 +1,59 @@
 -- What the arguments and faults of this crate stand for.
 use Rattle.std.specs.Prelude.{ℕ, List, [], Option, Some, None, map, slice_index_or}
 use Rattle.definitions.specs.Value as value
-use Rattle.definitions.specs.Statement.{ColumnDefinition, Nullable}
 use Rattle.definitions.specs.Refusal as refusal
 use Rattle.definitions.specs.Table as table
 use Rattle.definitions.specs.Scanning.{part_of}
-use Rattle.refusals.specs.Meaning.{field_error_of}
-use Rattle.sqlvalue.specs.Meaning.{declared_of}
-use Rattle.catalog.specs.declared.table.NewColumn.{NewColumn}
 use Rattle.catalog.specs.declared.fault.CreateFault.{CreateFault}
 use Rattle.catalog.specs.declared.fault.CreateFault.TheVariants as c
-use Rattle.catalog.specs.declared.fault.RecordFault.{RecordFault}
-use Rattle.catalog.specs.declared.fault.RecordFault.TheVariants as r
+use Rattle.catalog.specs.declared.fault.ListFault.{ListFault}
+use Rattle.catalog.specs.declared.fault.ListFault.TheVariants as l
+use Rattle.catalog.specs.declared.fault.IndexFault.{IndexFault}
+use Rattle.catalog.specs.declared.fault.IndexFault.TheVariants as i
+use Rattle.catalog.specs.declared.fault.TableFiguresFault.{TableFiguresFault}
+use Rattle.catalog.specs.declared.fault.TableFiguresFault.TheVariants as t
+use Rattle.catalog.specs.declared.fault.FiguresFault.{FiguresFault}
+use Rattle.catalog.specs.declared.fault.FiguresFault.TheVariants as f
 
--- the columns of a new table, of which nothing is asked
-abbrev pub definition_of : NewColumn → ColumnDefinition
-definition_of n = record { name = n.name.now; type = declared_of n.declared; constraint = Nullable }
-
-abbrev pub definitions_of : List NewColumn → List ColumnDefinition
-definitions_of = map definition_of
-
--- the refusal that a fault of CREATE TABLE is; none where memory was wanting
+-- the refusals that faults are; none where memory was wanting
 abbrev pub create_refusal : CreateFault → Option refusal.Refusal
 create_refusal c.TableTaken = Some refusal.NameTaken
 create_refusal (c.ColumnTwice column) = Some refusal.NameTaken
 create_refusal c.ManyTables = Some refusal.OverLimit
 create_refusal c.ManyColumns = Some refusal.OverLimit
+create_refusal c.ManyKeys = Some refusal.OverLimit
+create_refusal (c.TwoPrimaryKeys column) = Some refusal.OverLimit
 create_refusal (c.Type column fault) = Some refusal.OverLimit
 create_refusal c.Memory = None
 
--- the refusal of a record
-abbrev pub record_refusal : RecordFault → refusal.Refusal
-record_refusal (r.FieldCount fields) = refusal.FieldCount
-record_refusal (r.Field fault column) = refusal.Field (field_error_of fault)
+abbrev pub list_refusal : ListFault → Option refusal.Refusal
+list_refusal l.NoTable = Some refusal.NotFound
+list_refusal (l.NoColumn column) = Some refusal.NotFound
+list_refusal l.Empty = Some refusal.NotFound
+list_refusal l.ManyColumns = Some refusal.OverLimit
+list_refusal l.Memory = None
+
+abbrev pub index_refusal : IndexFault → Option refusal.Refusal
+index_refusal (i.List fault) = list_refusal fault
+index_refusal (i.ColumnTwice column) = Some refusal.NameTaken
+index_refusal (i.ListTaken index) = Some refusal.NameTaken
+index_refusal i.ManyIndexes = Some refusal.OverLimit
+index_refusal (i.Repeated key) = Some refusal.NullOrRepeated
+index_refusal i.Memory = None
+
+abbrev pub table_figures_refusal : TableFiguresFault → refusal.Refusal
+table_figures_refusal t.NoTable = refusal.NotFound
+table_figures_refusal t.Rows = refusal.OverLimit
+table_figures_refusal t.Pages = refusal.OverLimit
+
+abbrev pub figures_refusal : FiguresFault → Option refusal.Refusal
+figures_refusal (f.List fault) = list_refusal fault
+figures_refusal f.NoIndex = Some refusal.NotFound
+figures_refusal f.Keys = Some refusal.OverLimit
+figures_refusal f.Pages = Some refusal.OverLimit
+figures_refusal f.Texts = Some refusal.MixedKinds
+figures_refusal (f.Unfit end) = Some refusal.OverLimit
+figures_refusal f.Falls = Some refusal.OverLimit
 
 -- the value in a row and a column of a table
 abbrev pub cell_at : table.Table → (row column : ℕ) → value.Value

@@ -1,19 +1,26 @@
 //! Databases.
 
-ghost use Rattle.std.specs.Prelude.{◌≡◌, ◌<◌, ◌∷◌, [], ◌++◌, ◌||◌, true, Some, IfSome, IfOk, IfErr, OnOk, OnErr, OnSome, IsNone, length, bytes_eq};
+ghost use Rattle.std.specs.Prelude.{◌≡◌, ◌<◌, [], Some, IfSome, IfOk, IfErr, OnOk, OnErr, map, length, bytes_eq};
 ghost use Rattle.std.specs.Option.{option_copied};
-ghost use Rattle.std.specs.List.{list_any, position_from};
-ghost use Rattle.definitions.specs.Statement.{CreateTable};
-ghost use Rattle.definitions.specs.Table as spec;
-ghost use Rattle.definitions.specs.Table.{AreDistinct, new_table, table_named};
-ghost use Rattle.definitions.specs.Faults.{Faulty, IsAccepted, definition_names};
-ghost use Rattle.catalog.specs.Meaning.{create_refusal, definitions_of};
+ghost use Rattle.std.specs.List.{position_from};
+ghost use Rattle.definitions.specs.Statement.{CreateTable, CreateIndex, SetTable, SetIndex};
+ghost use Rattle.definitions.specs.Table.{table_named};
+ghost use Rattle.definitions.specs.Invariant as invariant;
+ghost use Rattle.definitions.specs.Change.{Makes};
+ghost use Rattle.definitions.specs.Faults.{Faulty, IsAccepted};
+ghost use Rattle.trees.specs.Trees.{name_of, definitions_of, figures_of};
+ghost use Rattle.catalog.specs.Meaning.{create_refusal, table_figures_refusal, figures_refusal};
+ghost use Rattle.catalog.specs.Changes.{RefusesIndex};
 ghost use Rattle.catalog.specs.Loads.{LoadsNamed, RefusesNamed};
 
-use crate::fault::{CreateFault, LoadFault};
-use crate::table::{NewColumn, Table};
+use crate::creation::judge_definitions;
+use crate::fault::{
+    CreateFault, FiguresFault, IndexFault, ListFault, LoadFault, TableFiguresFault,
+};
+use crate::table::Table;
 use std::alloc::Global;
 use std::marker::Model;
+use trees::{ColumnDefinition, Name};
 
 /// How many tables a database may have (own).
 pub const MAX_TABLES: usize = 256;
@@ -29,7 +36,8 @@ pub struct Database {
 }
 
 impl Model for Database {
-    ghost use Rattle.definitions.specs.Table.{Database, IsDatabase};
+    ghost use Rattle.definitions.specs.Table.{Database};
+    ghost use Rattle.definitions.specs.Invariant.{IsDatabase};
 
     ghost Value = { Database };
 
@@ -49,32 +57,53 @@ impl Database {
         }
     }
 
-    /// CREATE TABLE (ISO/IEC 9075:1992, 11.3; the limits are own). Of several faults any one may
-    /// be told, and an `Err` leaves the database as it was.
-    pub fn create_table(&mut self, name: &str, columns: &[NewColumn]) -> Result<(), CreateFault>
-        ensures accepted { OnOk result (IsAccepted self.old (CreateTable name.now (definitions_of columns.now))) }
-        ensures made { OnOk result (self.new ≡ self.old ++ new_table name.now (definitions_of columns.now) ∷ []) }
-        ensures refused { IfErr result (λ f. IfSome (create_refusal f) (Faulty self.old (CreateTable name.now (definitions_of columns.now)))) }
+    /// CREATE TABLE (ISO/IEC 9075:1992, 11.3; the limits and the indexes of keys are own). Of several faults any one
+    /// may be told, and an `Err` leaves the database as it was.
+    pub fn create_table(
+        &mut self,
+        name: &str,
+        definitions: &[ColumnDefinition],
+    ) -> Result<(), CreateFault>
+        ensures accepted { OnOk result (IsAccepted self.old (CreateTable name.now (definitions_of definitions.now))) }
+        ensures made { OnOk result (Makes self.old (CreateTable name.now (definitions_of definitions.now)) self.new) }
+        ensures refused { IfErr result (λ fault. IfSome (create_refusal fault) (Faulty self.old (CreateTable name.now (definitions_of definitions.now)))) }
         ensures err { OnErr result (self.new ≡ self.old) }
     {
         if self.tables.len() >= MAX_TABLES {
             return Err(CreateFault::ManyTables);
         }
-        if columns.len() > MAX_COLUMNS {
-            return Err(CreateFault::ManyColumns);
-        }
         if self.table(name).is_some() {
             return Err(CreateFault::TableTaken);
         }
-        if let Some(column) = second_twin(columns) {
-            return Err(CreateFault::ColumnTwice { column });
+        if let Err(fault) = judge_definitions(definitions) {
+            return Err(fault);
         }
-        let table = Table::new(self.alloc, name, columns)?;
+        let table = Table::new(self.alloc, name, definitions)?;
         self.tables.push(table).map_err(|_| CreateFault::Memory)
     }
 
-    /// LOAD of the bytes of a file (own): a row for each record, or else the first record that is no
-    /// row. Tells how many rows came; an `Err` leaves the database as it was.
+    /// CREATE INDEX (own), whose columns are told by their names. Of several faults any one may be told, and that a
+    /// key comes again where there is none. An `Err` leaves the database as it was.
+    pub fn create_index(
+        &mut self,
+        unique: bool,
+        table: &str,
+        columns: &[Name],
+    ) -> Result<(), IndexFault>
+        ensures accepted { OnOk result (IsAccepted self.old (CreateIndex unique table.now (map name_of columns.now))) }
+        ensures made { OnOk result (Makes self.old (CreateIndex unique table.now (map name_of columns.now)) self.new) }
+        ensures refused { IfErr result (RefusesIndex self.old unique table.now (map name_of columns.now)) }
+        ensures err { OnErr result (self.new ≡ self.old) }
+    {
+        let alloc = self.alloc;
+        match self.place(table) {
+            Some(place) => self.tables[place].add_index(alloc, unique, columns),
+            None => Err(IndexFault::List(ListFault::NoTable)),
+        }
+    }
+
+    /// LOAD of the bytes of a file (own): a row for each record, or else what goes wrong first in the order of the
+    /// records. Tells how many rows came; an `Err` leaves the database as it was.
     pub fn load(&mut self, table: &str, bytes: &[u8]) -> Result<u64, LoadFault>
         ensures ok { IfOk result (λ n. LoadsNamed table.now bytes.now self.old n self.new) }
         ensures refused { IfErr result (RefusesNamed table.now bytes.now self.old) }
@@ -84,6 +113,45 @@ impl Database {
         match self.place(table) {
             Some(place) => self.tables[place].load(alloc, bytes),
             None => Err(LoadFault::NoTable),
+        }
+    }
+
+    /// SET STATISTICS of a table (own), which holds until the next LOAD into it. An `Err` leaves the database as it
+    /// was.
+    pub fn set_table(
+        &mut self,
+        table: &str,
+        rows: u128,
+        pages: u128,
+    ) -> Result<(), TableFiguresFault>
+        ensures accepted { OnOk result (IsAccepted self.old (SetTable table.now rows pages)) }
+        ensures made { OnOk result (Makes self.old (SetTable table.now rows pages) self.new) }
+        ensures refused { IfErr result (λ fault. Faulty self.old (SetTable table.now rows pages) (table_figures_refusal fault)) }
+        ensures err { OnErr result (self.new ≡ self.old) }
+    {
+        match self.place(table) {
+            Some(place) => self.tables[place].set_figures(rows, pages),
+            None => Err(TableFiguresFault::NoTable),
+        }
+    }
+
+    /// SET STATISTICS of the index on a list of columns (own), which holds until the next LOAD into its table. Of
+    /// several faults any one may be told, and an `Err` leaves the database as it was.
+    pub fn set_index(
+        &mut self,
+        table: &str,
+        columns: &[Name],
+        figures: &trees::IndexFigures,
+    ) -> Result<(), FiguresFault>
+        ensures accepted { OnOk result (IsAccepted self.old (SetIndex table.now (map name_of columns.now) (figures_of figures.now))) }
+        ensures made { OnOk result (Makes self.old (SetIndex table.now (map name_of columns.now) (figures_of figures.now)) self.new) }
+        ensures refused { IfErr result (λ fault. IfSome (figures_refusal fault) (Faulty self.old (SetIndex table.now (map name_of columns.now) (figures_of figures.now)))) }
+        ensures err { OnErr result (self.new ≡ self.old) }
+    {
+        let alloc = self.alloc;
+        match self.place(table) {
+            Some(place) => self.tables[place].set_index_figures(alloc, columns, figures),
+            None => Err(FiguresFault::List(ListFault::NoTable)),
         }
     }
 
@@ -97,7 +165,7 @@ impl Database {
     /// The table of a name.
     pub fn table(&self, name: &str) -> Option<&Table>
         ensures named { option_copied result ≡ table_named self.now name.now }
-        ensures valid { spec.IsDatabase self.now }
+        ensures valid { invariant.IsDatabase self.now }
     {
         match self.place(name) {
             Some(place) => Some(&self.tables[place]),
@@ -117,35 +185,4 @@ impl Database {
         }
         None
     }
-}
-
-/// The place of a column that has the name of one before it.
-fn second_twin(columns: &[NewColumn]) -> Option<usize>
-    ensures twins { OnSome result (¬ (AreDistinct (definition_names (definitions_of columns.now)))) }
-    ensures none { IsNone result → AreDistinct (definition_names (definitions_of columns.now)) }
-{
-    for (i, column) in columns.iter().enumerate() {
-        if has_name(&columns[i + 1..], column.name) {
-            return Some(place_behind(columns, i));
-        }
-    }
-    None
-}
-
-/// The place of the next column of the name of one.
-fn place_behind(columns: &[NewColumn], place: usize) -> usize
-    requires { place < length columns.now }
-{
-    let name = columns[place].name;
-    let others = columns[place + 1..]
-        .iter()
-        .take_while(|column| column.name != name)
-        .count();
-    place.saturating_add(others).saturating_add(1)
-}
-
-fn has_name(columns: &[NewColumn], name: &str) -> bool
-    ensures { result ≡ list_any (λ c. bytes_eq name.now c.name.now) columns.now }
-{
-    columns.iter().any(|column| name == column.name)
 }

@@ -1,15 +1,23 @@
-//! The tables of a database in memory: CREATE TABLE, and LOAD of files of comma-separated values.
+//! The tables of a database in memory: CREATE TABLE, CREATE INDEX, LOAD of files of comma-separated values, and SET
+//! STATISTICS.
 #![tactic(auto)]
 
-mod cells;
-mod column;
+mod bound;
+mod creation;
 mod database;
 mod fault;
-mod field;
-mod file;
-mod number_type;
+mod growth;
+mod naming;
 mod table;
 
+pub use bound::MAX_FIGURE;
 pub use database::{Database, MAX_COLUMNS, MAX_TABLES};
-pub use fault::{CreateFault, LoadFault, RecordFault, RefusedRecord};
-pub use table::{MAX_ROWS, NewColumn, Table};
+pub use fault::{
+    CreateFault, EarlierRow, FiguresFault, IndexFault, ListFault, LoadFault, RangeEnd,
+    RepeatedRecord, TableFiguresFault,
+};
+pub use indexes::RepeatedKey;
+pub use loading::{RecordFault, RefusedRecord};
+pub use naming::MAX_INDEX_COLUMNS;
+pub use table::{MAX_INDEXES, MAX_ROWS, Table};
+pub use table_indexes::{Index, IndexFigures, KeyRange, TableFigures};

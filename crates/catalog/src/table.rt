@@ -1,38 +1,44 @@
 //! Tables.
 
-ghost use Rattle.std.specs.Prelude.{◌≡◌, ◌<◌, ◌≤◌, ◌+◌, ◌↔◌, Some, None, IsNone, IfOk, IfErr, OnOk, OnErr, IfSome, length, bytes_eq, option_map, slice_get};
+ghost use Rattle.std.specs.Prelude.{Bool, ◌≡◌, ◌<◌, ◌≤◌, ◌+◌, ◌↔◌, Some, None, IsNone, IfOk, IfErr, OnOk, OnErr, IfSome, length, map, bytes_eq, option_map, slice_get};
 ghost use Rattle.std.specs.List.{AllByRecursion, position_from};
 ghost use Rattle.definitions.specs.Limits.{most_columns, most_rows};
 ghost use Rattle.definitions.specs.Table as spec;
+ghost use Rattle.definitions.specs.Change as change;
+ghost use Rattle.definitions.specs.Invariant.{IsCount, IsPageCount, IsTable};
 ghost use Rattle.definitions.specs.Value.{IsType};
 ghost use Rattle.catalog.specs.Places.{IsColumnPlace};
 ghost use Rattle.definitions.specs.Scanning.{true_word, unknown_word};
 ghost use Rattle.sqlvalue.specs.Meaning.{op_of, type_of, value_of};
 
-use crate::column::Column;
-use crate::fault::{CreateFault, LoadFault};
-use crate::file;
-use sqlvalue::{DeclaredType, Op, SqlType, Value};
+use crate::bound::{kept_figures, page_count, row_count};
+use crate::creation::{key_indexes, new_columns};
+use crate::fault::{CreateFault, FiguresFault, IndexFault, LoadFault, TableFiguresFault};
+use crate::growth::{Grown, grow};
+use crate::naming::{number_of, numbers, second_twin};
+use indexes::UniqueFault;
+use loading::{Column, cut_columns};
+use sqlvalue::{Op, SqlType, Value};
 use std::alloc::Global;
 use std::marker::Model;
+use table_indexes::{Index, TableFigures};
+use trees::{ColumnDefinition, Constraint, Name};
 
 /// How many rows a table may have (own).
 pub const MAX_ROWS: usize = 100_000_000;
 
-/// A column of a table to be made, by its name and its type (ISO/IEC 9075:1992, 11.4).
-#[derive(Clone, Copy, Debug)]
-pub struct NewColumn<'a> {
-    pub name: &'a str,
-    pub declared: DeclaredType,
-}
+/// How many indexes a table may have (own).
+pub const MAX_INDEXES: usize = 16;
 
-/// A table: its columns in order, and its rows in the order in which they came
-/// (ISO/IEC 9075:1992, 4.9; that order is own).
+/// A table: its columns in order, its indexes, its rows in the order in which they came (ISO/IEC 9075:1992, 4.9; that
+/// order is own), and its figures.
 #[derive(Drop)]
 pub struct Table {
     name: String,
     columns: Vec<Column>,
+    indexes: Vec<Index>,
     len: usize,
+    figures: TableFigures,
 }
 
 impl Model for Table {
@@ -48,42 +54,37 @@ impl Model for Table {
 }
 
 impl Table {
-    ghost use Rattle.catalog.specs.Meaning.{cell_at, cells_in, definitions_of};
-    ghost use Rattle.catalog.specs.Creates.{AreTypes, RefusesTypes};
+    ghost use Rattle.catalog.specs.Meaning.{cell_at, cells_in};
+    ghost use Rattle.catalog.specs.Creates.{AreJudged, AreTypes, RefusesTypes};
     ghost use Rattle.catalog.specs.Loads.{LoadsTable, RefusesTable};
-    ghost use Rattle.definitions.specs.Faults.{definition_names};
+    ghost use Rattle.catalog.specs.Changes.{AddsIndex, MayIndex, RefusesNewIndex, SetsIndex, RefusesFigures, RefusesTableFigures};
+    ghost use Rattle.catalog.specs.Tables.{IsIndexRun};
+    ghost use Rattle.table_indexes.specs.Indexes.{StoredIndex, AreIndexColumns};
+    ghost use Rattle.table_indexes.specs.Meaning.{table_figures_of};
+    ghost use Rattle.trees.specs.Trees.{constraint_of, name_of, definitions_of, figures_of};
 
     /// A table without rows.
     pub(crate) fn new(
         alloc: Global,
         name: &str,
-        columns: &[NewColumn],
+        definitions: &[ColumnDefinition],
     ) -> Result<Table, CreateFault>
-        requires narrow { length columns.now ≤ most_columns }
-        requires distinct { spec.AreDistinct (definition_names (definitions_of columns.now)) }
-        ensures ok { IfOk result (λ t. t ≡ spec.new_table name.now (definitions_of columns.now)) }
-        ensures types { OnOk result (AreTypes (definitions_of columns.now)) }
-        ensures valid { IfOk result spec.IsTable }
-        ensures err { IfErr result (RefusesTypes (definitions_of columns.now)) }
+        requires { AreJudged (definitions_of definitions.now) }
+        ensures ok { IfOk result (λ t. t ≡ change.new_table name.now (definitions_of definitions.now)) }
+        ensures types { OnOk result (AreTypes (definitions_of definitions.now)) }
+        ensures valid { IfOk result IsTable }
+        ensures err { IfErr result (RefusesTypes (definitions_of definitions.now)) }
     {
-        let mut made = Vec::new(alloc);
-        for (place, column) in columns.iter().enumerate() {
-            let sql_type = match column.declared.sql_type() {
-                Ok(sql_type) => sql_type,
-                Err(fault) => {
-                    return Err(CreateFault::Type {
-                        column: place,
-                        fault,
-                    });
-                }
-            };
-            made.push(Column::new(alloc, column.name, sql_type)?)?;
-        }
+        let columns = new_columns(alloc, definitions)?;
+        let indexes = key_indexes(alloc, definitions, columns.as_slice())?;
         let name = String::from_str(alloc, name)?;
+        let figures = TableFigures::counted(columns.as_slice(), 0);
         Ok(Table {
             name,
-            columns: made,
+            columns,
+            indexes,
             len: 0,
+            figures,
         })
     }
 
@@ -119,7 +120,7 @@ impl Table {
     pub fn len(&self) -> usize
         ensures exact { result ≡ length self.now.rows }
         ensures bound { result ≤ most_rows }
-        ensures valid { spec.IsTable self.now }
+        ensures valid { IsTable self.now }
         ensures whole { AllByRecursion (λ row. length row ≡ length self.now.columns) self.now.rows }
     {
         self.len
@@ -132,12 +133,7 @@ impl Table {
         ensures place { IfSome result (IsColumnPlace self.now.columns name.now) }
         ensures none { IsNone result ↔ (spec.type_named self.now.columns name.now ≡ None) }
     {
-        for (place, column) in self.columns.iter().enumerate() {
-            if column.is_named(name) {
-                return Some(place);
-            }
-        }
-        None
+        number_of(self.columns.as_slice(), name)
     }
 
     /// The type of a column.
@@ -147,6 +143,14 @@ impl Table {
         ensures valid { IsType (type_of result) }
     {
         self.columns[column].sql_type()
+    }
+
+    /// What is asked of a column's values.
+    pub fn constraint(&self, column: usize) -> Constraint
+        requires { column < length self.now.columns }
+        ensures { option_map (λ (c : spec.Column). c.constraint) (slice_get self.now.columns column) ≡ Some (constraint_of result) }
+    {
+        self.columns[column].constraint()
     }
 
     /// The value in a row and a column.
@@ -178,23 +182,149 @@ impl Table {
         self.columns[column].scan(op, value, first, rows)
     }
 
+    /// How many indexes the table has: those of its UNIQUE and PRIMARY KEY columns in column order, and then those
+    /// that were created (own).
+    pub fn index_count(&self) -> usize
+        ensures { result ≡ length self.now.indexes }
+    {
+        self.indexes.len()
+    }
+
+    /// The index of a number, from 0, in the order of which it has the table's rows.
+    pub fn index(&self, number: usize) -> &Index
+        requires { number < length self.now.indexes }
+        ensures exact { slice_get self.now.indexes number ≡ Some result.now.index }
+        ensures run { IsIndexRun self.now result.now }
+    {
+        &self.indexes[number]
+    }
+
+    /// How many rows the table is taken to have, and on how many pages.
+    pub fn figures(&self) -> TableFigures
+        ensures { table_figures_of result ≡ self.now.figures }
+    {
+        self.figures
+    }
+
     /// LOAD of the bytes of a file (own): adds a row for each record, and says how many. An `Err`
     /// leaves the table as it was.
     pub(crate) fn load(&mut self, alloc: Global, bytes: &[u8]) -> Result<u64, LoadFault>
-        ensures ok { IfOk result (λ n. LoadsTable self.old bytes.now n (λ rows. self.new ≡ spec.with_rows self.old rows)) }
+        ensures ok { IfOk result (λ n. LoadsTable self.old bytes.now n (λ rows. self.new ≡ change.with_rows self.old rows)) }
         ensures refused { IfErr result (RefusesTable self.old bytes.now) }
         ensures err { OnErr result (self.new ≡ self.old) }
     {
-        let room = (MAX_ROWS - self.len) as u64;
-        match file::push_records(alloc, &mut self.columns, bytes, room) {
-            Ok(count) => {
-                self.len += count as usize;
-                Ok(count)
+        match grow(alloc, &mut self.columns, self.len, &self.indexes, bytes) {
+            Ok(Grown { rows, indexes }) => {
+                self.indexes = indexes;
+                self.len += rows;
+                self.figures = TableFigures::counted(&self.columns, self.len);
+                Ok(rows as u64)
             }
             Err(fault) => {
-                file::cut_columns(&mut self.columns, self.len);
+                cut_columns(&mut self.columns, self.len);
                 Err(fault)
             }
+        }
+    }
+
+    /// CREATE INDEX (own). An `Err` leaves the table as it was.
+    pub(crate) fn add_index(
+        &mut self,
+        alloc: Global,
+        unique: bool,
+        names: &[Name],
+    ) -> Result<(), IndexFault>
+        ensures ok { OnOk result (AddsIndex self.old unique (map name_of names.now) self.new) }
+        ensures refused { IfErr result (RefusesNewIndex self.old unique (map name_of names.now)) }
+        ensures err { OnErr result (self.new ≡ self.old) }
+    {
+        let list = match self.new_list(alloc, names) {
+            Ok(list) => list,
+            Err(fault) => return Err(fault),
+        };
+        match Index::new(alloc, self.columns.as_slice(), self.len, list, unique) {
+            Ok(index) => self.indexes.push(index).map_err(|_| IndexFault::Memory),
+            Err(UniqueFault::Repeated(key)) => Err(IndexFault::Repeated(key)),
+            Err(UniqueFault::Memory) => Err(IndexFault::Memory),
+        }
+    }
+
+    /// The numbers of the columns that the next index is on.
+    fn new_list(&self, alloc: Global, names: &[Name]) -> Result<Vec<usize>, IndexFault>
+        ensures ok { IfOk result (λ list. MayIndex self.now (map name_of names.now) list.items) }
+        ensures there { IfOk result (λ list. AreIndexColumns (length self.now.columns) list.items) }
+        ensures refused { IfErr result (λ fault. (unique : Bool) → RefusesNewIndex self.now unique (map name_of names.now) fault) }
+    {
+        let list = match numbers(alloc, self.columns.as_slice(), names) {
+            Ok(list) => list,
+            Err(fault) => return Err(IndexFault::List(fault)),
+        };
+        if let Some(column) = second_twin(names) {
+            return Err(IndexFault::ColumnTwice { column });
+        }
+        if let Some(index) = self.index_place(list.as_slice()) {
+            return Err(IndexFault::ListTaken { index });
+        }
+        if self.indexes.len() >= MAX_INDEXES {
+            return Err(IndexFault::ManyIndexes);
+        }
+        Ok(list)
+    }
+
+    /// The number of the index on a list of columns.
+    fn index_place(&self, list: &[usize]) -> Option<usize>
+        ensures place { result ≡ position_from (spec.is_on list.now) 0 self.now.indexes }
+        ensures within { IfSome result (λ place. place < length self.now.indexes) }
+    {
+        for (place, index) in self.indexes.iter().enumerate() {
+            if index.is_on(list) {
+                return Some(place);
+            }
+        }
+        None
+    }
+
+    /// SET STATISTICS of the table (own). An `Err` leaves it as it was.
+    pub(crate) fn set_figures(&mut self, rows: u128, pages: u128) -> Result<(), TableFiguresFault>
+        ensures given { OnOk result (IsCount rows × IsPageCount pages) }
+        ensures set { OnOk result (self.new ≡ change.with_table_figures self.old (record { rows = rows; pages = pages })) }
+        ensures refused { IfErr result (RefusesTableFigures rows pages) }
+        ensures err { OnErr result (self.new ≡ self.old) }
+    {
+        let Some(rows) = row_count(rows) else {
+            return Err(TableFiguresFault::Rows);
+        };
+        let Some(pages) = page_count(pages) else {
+            return Err(TableFiguresFault::Pages);
+        };
+        self.figures = TableFigures { rows, pages };
+        Ok(())
+    }
+
+    /// SET STATISTICS of an index (own). An `Err` leaves the table as it was.
+    pub(crate) fn set_index_figures(
+        &mut self,
+        alloc: Global,
+        names: &[Name],
+        given: &trees::IndexFigures,
+    ) -> Result<(), FiguresFault>
+        ensures ok { OnOk result (SetsIndex self.old (map name_of names.now) (figures_of given.now) self.new) }
+        ensures refused { IfErr result (RefusesFigures self.old (map name_of names.now) (figures_of given.now)) }
+        ensures err { OnErr result (self.new ≡ self.old) }
+    {
+        let list = match numbers(alloc, self.columns.as_slice(), names) {
+            Ok(list) => list,
+            Err(fault) => return Err(FiguresFault::List(fault)),
+        };
+        let Some(place) = self.index_place(list.as_slice()) else {
+            return Err(FiguresFault::NoIndex);
+        };
+        match kept_figures(given, self.columns[list[0]].sql_type()) {
+            Ok(kept) => {
+                self.indexes[place].set_figures(kept);
+                Ok(())
+            }
+            Err(fault) => Err(fault),
         }
     }
 }

@@ -3,11 +3,16 @@ pub mod Alike
 pub mod Grammar
 pub mod Loading
 pub mod Ranking
-mod Quoting
-mod Examples
-mod Runs
-pub mod PlanTheory
 pub mod KeyRanks
 mod IndexRuns
 mod IndexParts
 mod KeyCounts
+pub mod FigureBounds
+pub mod Repeats
+pub mod Counting
+pub mod Steps
+mod Quoting
+mod Examples
+mod TableExamples
+mod Runs
+pub mod PlanTheory

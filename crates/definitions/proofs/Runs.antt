@@ -12,6 +12,7 @@ use Rattle.definitions.specs.NotYet.{CanRun}
 use Rattle.definitions.specs.Faults as faults
 use Rattle.definitions.specs.Faults.{IsAccepted, Faulty}
 use Rattle.definitions.specs.Answer.{answer}
+use Rattle.definitions.specs.Change as made
 use Rattle.definitions.specs.Step as step
 use Rattle.definitions.specs.Step.{State, Answering, Step, Run, Ended, Well, Faulted, Loaded}
 use Rattle.std.proofs.lemmas.List.Sorted.{sum_by-IsPermutation}
@@ -44,8 +45,10 @@ first (x ∷ xs) = x
 abbrev three : Table
 three = record {
   name = codes "T";
-  columns = record { name = codes "A"; type = Integer } ∷ record { name = codes "B"; type = Char 3 } ∷ [];
+  columns = record { name = codes "A"; type = Integer; constraint = s.Nullable } ∷ record { name = codes "B"; type = Char 3; constraint = s.Nullable } ∷ [];
+  indexes = [];
   rows = (Number (pos 5) 0 ∷ Text (codes "ab ") ∷ []) ∷ (Null ∷ Text (codes "cd ") ∷ []) ∷ (Number (pos 7) 0 ∷ Text (codes "x  ") ∷ []) ∷ [];
+  figures = record { rows = 3; pages = 1 };
 }
 
 abbrev above_five : Select
@@ -104,12 +107,13 @@ one_row_printed answers lib = step.query above_five _ three _ refl accepted refl
 -- an error line leaves the database as it was
 loaded_fault : (db db' : Database) (n : List ℕ) (t : Table) (records : _) (text : List ℕ) → Loaded db n t records db' text Faulted → db' ≡ db
 loaded_fault db db' n t records text (step.loaded rows a l d e f) = absurd cc
-loaded_fault db db' n t records text (step.too_many rows a l d e f) = d
+loaded_fault db db' n t records text (step.too_many a d e f) = d
 loaded_fault db db' n t records text (step.refused r k f d e g) = d
 
 pub faults_change_nothing : {L : Type 0} (answers : Answering L) (old new : State L) (s : Statement) (text : List ℕ) → Step answers old s new text Faulted → new.database ≡ old.database
 faults_change_nothing answers old new s text (step.refused r f n t e) = rw n refl
-faults_change_nothing answers old new s text (step.created a b c d e f g) = absurd cc
+faults_change_nothing answers old new s text (step.repeated a b n t e) = rw n refl
+faults_change_nothing answers old new s text (step.made db a b n t e) = absurd cc
 faults_change_nothing answers old new s text (step.no_file a b l c d e n t f) = rw n refl
 faults_change_nothing answers old new s text (step.load a b c l t r db e f g h lo n) = rw n (loaded_fault _ _ _ _ _ _ lo)
 faults_change_nothing answers old new s text (step.query a b c d e f g h i j k l) = absurd cc
@@ -120,7 +124,11 @@ same_query q q' e = cc
 -- what is printed for a query that is not refused is its answer
 pub select_prints_answer : SelectPrintsAnswer
 select_prints_answer L answers old new q text (step.refused r f n t e) = absurd cc
-select_prints_answer L answers old new q text (step.created a b c d e f g) = absurd cc
+select_prints_answer L answers old new q text (step.repeated a b n t e) = absurd cc
+select_prints_answer L answers old new q text (step.made db a (made.created n c e f) g t w) = absurd cc
+select_prints_answer L answers old new q text (step.made db a (made.indexed u n c x m e f g h i) j t w) = absurd cc
+select_prints_answer L answers old new q text (step.made db a (made.table_set n r p e f) g t w) = absurd cc
+select_prints_answer L answers old new q text (step.made db a (made.index_set n c v x m y k e f g h i j) l t w) = absurd cc
 select_prints_answer L answers old new q text (step.no_file a b l c d e n t f) = absurd cc
 select_prints_answer L answers old new q text (step.load a b c l t r db e f g h lo n) = absurd cc
 select_prints_answer L answers old new q text (step.query q' source table rows s a single named permuted n t e) =

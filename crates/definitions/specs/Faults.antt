@@ -1,11 +1,13 @@
 -- Which faults a statement has over a database.
-use Rattle.std.specs.Prelude.{ℕ, ◌<◌, ◌≤◌, ◌≡◌, ◌≢◌, ◌⊎◌, List, [], ◌∷◌, Option, Some, None, length, map, option_map}
-use Rattle.definitions.specs.Limits.{most_tables, most_columns, most_items, greatest_scale}
+use Rattle.std.specs.Prelude.{ℕ, Bool, ◌<◌, ◌≤◌, ◌≡◌, ◌≢◌, ◌⊎◌, List, [], ◌∷◌, Option, Some, None, length, map, count_by, option_map}
+use Rattle.definitions.specs.Limits.{most_tables, most_columns, most_indexes, most_items, greatest_scale}
 use Rattle.definitions.specs.Refusal.{Refusal, NameTaken, NotFound, OverLimit, ScaleTooGreat, UnknownColumn, MixedKinds, OverQueryLimit}
 use Rattle.definitions.specs.Value.{IsType, Kind, Numbers, Texts, kind_of}
-use Rattle.definitions.specs.Statement.{Name, Expr, Column, Numeral, String, Signed, Compare, Item, Source, Block, block_items, block_sources, block_condition, Select, ColumnDefinition, Statement, CreateTable, Load, Query}
+use Rattle.definitions.specs.Statement.{Name, Expr, Column, Numeral, String, Signed, Compare, Item, Source, Block, block_items, block_sources, block_condition, Select, Constraint, ColumnDefinition, IndexFigures, Statement, CreateTable, CreateIndex, Load, SetTable, SetIndex, Query}
 use Rattle.definitions.specs.NotYet.{CanRun}
-use Rattle.definitions.specs.Table.{Table, Database, table_named, type_named, AreDistinct}
+use Rattle.definitions.specs.Table.{Table, Database, table_named, type_named, is_key, is_primary, AreDistinct}
+use Rattle.definitions.specs.Invariant.{IsCount, IsPageCount}
+use Rattle.definitions.specs.IndexFaults.{IndexFaulty, FiguresFaulty}
 
 -- a literal's scale is too great somewhere in an expression (own)
 abbrev pub HasGreatScale : Expr → Type 0
@@ -52,6 +54,10 @@ InBlock P b = AnyOf (λ (i : Item). P i.value) (block_items b) ⊎ IfPresent P (
 abbrev pub definition_names : List ColumnDefinition → List Name
 definition_names = map (λ (d : ColumnDefinition). d.name)
 
+-- how many columns ask this of their values
+abbrev pub count_of : (Constraint → Bool) → List ColumnDefinition → ℕ
+count_of test = count_by (λ (d : ColumnDefinition). test d.constraint)
+
 -- the faults of a block over one table
 pub data BlockFaulty (db : Database) (b : Block) : Refusal → Type 0 where
   no_table : AnyOf (λ (s : Source). table_named db s.table ≡ None) (block_sources b) → BlockFaulty db b NotFound
@@ -67,6 +73,12 @@ pub data Faulty (db : Database) : Statement → Refusal → Type 0 where
   many_tables : (name : Name) (columns : List ColumnDefinition) → most_tables ≤ length db → Faulty db (CreateTable name columns) OverLimit
   many_columns : (name : Name) (columns : List ColumnDefinition) → most_columns < length columns → Faulty db (CreateTable name columns) OverLimit
   no_type : (name : Name) (columns : List ColumnDefinition) → AnyOf (λ (d : ColumnDefinition). ¬ (IsType d.type)) columns → Faulty db (CreateTable name columns) OverLimit
+  many_keys : (name : Name) (columns : List ColumnDefinition) → most_indexes < count_of is_key columns → Faulty db (CreateTable name columns) OverLimit
+  two_primary : (name : Name) (columns : List ColumnDefinition) → 1 < count_of is_primary columns → Faulty db (CreateTable name columns) OverLimit
+  index : (unique : Bool) (table : Name) (columns : List Name) (r : Refusal) → IndexFaulty db table columns r → Faulty db (CreateIndex unique table columns) r
+  no_such_table : (table : Name) (rows pages : ℕ) → table_named db table ≡ None → Faulty db (SetTable table rows pages) NotFound
+  out_of_range : (table : Name) (rows pages : ℕ) → ¬ (IsCount rows × IsPageCount pages) → Faulty db (SetTable table rows pages) OverLimit
+  figures : (table : Name) (columns : List Name) (given : IndexFigures) (r : Refusal) → FiguresFaulty db table columns given r → Faulty db (SetIndex table columns given) r
   no_table : (name : Name) (file : List ℕ) → table_named db name ≡ None → Faulty db (Load name file) NotFound
   not_yet : (s : Statement) → ¬ (CanRun s) → Faulty db s OverQueryLimit
   block : (q : Select) (r : Refusal) → BlockFaulty db q.block r → Faulty db (Query q) r

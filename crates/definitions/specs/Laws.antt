@@ -14,7 +14,8 @@ use Rattle.definitions.specs.Lexing.{LexFault, Reads, quoted}
 use Rattle.definitions.specs.Statement.{Select, Source, Statement, Query, block_items, block_sources}
 use Rattle.definitions.specs.Table.{Row, Table, Database, table_named}
 use Rattle.definitions.specs.Answer.{answer}
-use Rattle.definitions.specs.Step.{Answering, State, Step, Well}
+use Rattle.definitions.specs.Invariant.{IsDatabase}
+use Rattle.definitions.specs.Step.{Answering, State, Step, Ended, Well}
 use Rattle.definitions.specs.Grammar.{Derives}
 use Rattle.definitions.specs.Printing.{doubled, item_name, table_text}
 
@@ -50,6 +51,10 @@ RankAgreesWithComparison = (a b : Value) (o : Ordering) → compare a b ≡ Some
 -- values of equal rank are those that are not distinct
 abbrev pub EqualRankIsNotDistinct : Type 0
 EqualRankIsNotDistinct = (a b : Value) → (rank a b ≡ Equal) ↔ AreNotDistinct a b
+
+-- each statement keeps a database a database
+abbrev pub StepKeepsDatabase : Type 1
+StepKeepsDatabase = (L : Type 0) (answers : Answering L) (old new : State L) (s : Statement) (text : List ℕ) (ended : Ended) → IsDatabase old.database → Step answers old s new text ended → IsDatabase new.database
 
 -- a text is that of a query's answer: the rows of the definition and no others, each as often as there
 pub record PrintsAnswer (db : Database) (q : Select) (text : List ℕ) : Type 0 where

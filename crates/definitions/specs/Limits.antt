@@ -1,5 +1,5 @@
 -- The limits (all own, but that there are some: ISO/IEC 9075:1992, 4.1).
-use Rattle.std.specs.Prelude.{ℕ}
+use Rattle.std.specs.Prelude.{ℕ, ◌^◌}
 
 -- of a script's text: the characters of a name and of a string, the digits of a number
 abbrev pub most_name_characters : ℕ
@@ -31,6 +31,16 @@ most_columns = 64
 
 abbrev pub most_rows : ℕ
 most_rows = 100000000
+
+-- and its indexes, the columns of an index, and the figures that SET STATISTICS may give
+abbrev pub most_indexes : ℕ
+most_indexes = 16
+
+abbrev pub most_index_columns : ℕ
+most_index_columns = 4
+
+abbrev pub greatest_figure : ℕ
+greatest_figure = 10 ^ 18
 
 -- of a query: the items of a select list, the scale of a literal
 abbrev pub most_items : ℕ

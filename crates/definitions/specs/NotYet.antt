@@ -1,7 +1,7 @@
 -- Which statements can be run so far. The others of the language are refused, whatever they say (own).
 use Rattle.std.specs.Prelude.{◌≡◌, ⊤, [], ◌∷◌, false, None}
 use Rattle.std.specs.List.{AllByRecursion}
-use Rattle.definitions.specs.Statement.{Source, Expr, Column, Numeral, String, Signed, Compare, Item, Listed, listed, Condition, Absent, Present, Block, Specification, Select, ColumnDefinition, Nullable, Statement, CreateTable, Load, Query}
+use Rattle.definitions.specs.Statement.{Source, Expr, Column, Numeral, String, Signed, Compare, Item, Listed, listed, Condition, Absent, Present, Block, Specification, Select, Statement, Query, Explain}
 
 -- an unqualified column
 abbrev pub IsColumn : Expr → Type 0
@@ -42,11 +42,7 @@ IsPlainBlock _ = ⊥
 abbrev pub IsPlain : Select → Type 0
 IsPlain q = IsPlainBlock q.block × (q.order ≡ [])
 
-abbrev pub IsPlainDefinition : ColumnDefinition → Type 0
-IsPlainDefinition d = d.constraint ≡ Nullable
-
 abbrev pub CanRun : Statement → Type 0
-CanRun (CreateTable name columns) = AllByRecursion IsPlainDefinition columns
-CanRun (Load table file) = ⊤
 CanRun (Query q) = IsPlain q
-CanRun _ = ⊥
+CanRun (Explain q) = ⊥
+CanRun _ = ⊤

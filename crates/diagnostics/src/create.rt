@@ -1,9 +1,9 @@
 //! Why a table is not made.
 
-use catalog::{CreateFault, MAX_COLUMNS, MAX_TABLES};
+use catalog::{CreateFault, MAX_COLUMNS, MAX_INDEXES, MAX_TABLES};
 use sqlvalue::{MAX_LENGTH, MAX_PRECISION, TypeFault};
 use std::fmt::{self, Formatter};
-use syntax::{ColumnDefinition, Name};
+use syntax::{ColumnDefinition, Constraint, Name};
 
 /// The name that a fault of CREATE TABLE is about.
 pub(crate) fn name_at_fault<'a>(
@@ -12,12 +12,12 @@ pub(crate) fn name_at_fault<'a>(
     fault: CreateFault,
 ) -> &'a Name {
     match fault {
-        CreateFault::ColumnTwice { column } | CreateFault::Type { column, .. } => {
-            match columns.get(column) {
-                Some(definition) => &definition.name,
-                None => name,
-            }
-        }
+        CreateFault::ColumnTwice { column }
+        | CreateFault::TwoPrimaryKeys { column }
+        | CreateFault::Type { column, .. } => match columns.get(column) {
+            Some(definition) => &definition.name,
+            None => name,
+        },
         _ => name,
     }
 }
@@ -38,12 +38,41 @@ pub(crate) fn write_create<W: fmt::Write>(
             "a table has at most {MAX_COLUMNS} columns, and this one has {}",
             columns.len()
         ),
+        CreateFault::ManyKeys => write!(
+            f,
+            "a table has at most {MAX_INDEXES} indexes, and this one has {} columns that are UNIQUE or PRIMARY KEY",
+            columns
+                .iter()
+                .filter(|column| is_key(column.constraint))
+                .count()
+        ),
+        CreateFault::TwoPrimaryKeys { .. } => {
+            write!(f, "{at_fault} can't be PRIMARY KEY: ")?;
+            write_first_primary(f, columns)
+        }
         CreateFault::Type { column, fault } => match columns.get(column) {
             Some(definition) => write_type(f, definition, fault),
             None => Ok(()),
         },
         CreateFault::Memory => Ok(()),
     }
+}
+
+/// `A is it already`.
+fn write_first_primary<W: fmt::Write>(
+    f: &mut Formatter<W>,
+    columns: &[ColumnDefinition],
+) -> fmt::Result {
+    for column in columns {
+        if matches!(column.constraint, Constraint::PrimaryKey) {
+            return write!(f, "{} is it already", column.name.text);
+        }
+    }
+    Ok(())
+}
+
+fn is_key(constraint: Constraint) -> bool {
+    matches!(constraint, Constraint::Unique | Constraint::PrimaryKey)
 }
 
 fn write_type<W: fmt::Write>(

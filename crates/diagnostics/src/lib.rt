@@ -4,17 +4,18 @@
 #![tactic(auto)]
 
 mod create;
-mod excerpt;
-mod lines;
+mod figures;
+mod index;
+mod list;
 mod near;
 mod not_yet;
 mod places;
 mod query;
 mod record;
+mod repeated;
 mod report;
 mod text;
-mod visible;
 mod wanted;
 
-pub use lines::{Lines, Place};
+pub use excerpts::{Lines, Place};
 pub use report::{Report, Reporter};

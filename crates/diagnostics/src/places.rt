@@ -1,6 +1,8 @@
 //! Where causes stand in the script.
 
 use crate::create::name_at_fault;
+use crate::figures::{offset_of_figures, offset_of_table_figures};
+use crate::index::name_of_index;
 use crate::not_yet::offset_not_yet;
 use crate::query::offset_of_query;
 use lexer::LexFault;
@@ -22,8 +24,12 @@ pub(crate) fn offset_of(cause: &Cause) -> usize {
             columns,
             fault,
         } => name_at_fault(name, columns, *fault).start,
+        Cause::Index { list, fault } => name_of_index(*list, *fault).start,
+        Cause::TableFigures(cause) => offset_of_table_figures(*cause),
+        Cause::Figures(cause) => offset_of_figures(*cause),
         Cause::NoTable(name) | Cause::ManyRows(name) => name.start,
-        Cause::NoFile(file) | Cause::Record { file, .. } => file.start,
+        Cause::NoFile(file) => file.start,
+        Cause::Record { load, .. } | Cause::Repeated { load, .. } => load.file.start,
         Cause::Query(cause) => offset_of_query(*cause),
     }
 }

@@ -1,8 +1,10 @@
 //! Why a record of a file is no row of a table.
 
-use crate::visible::VisibleBytes;
-use catalog::{Database, RecordFault, RefusedRecord, Table};
+ghost use Rattle.std.specs.Prelude.{◌<◌, length};
+
+use catalog::{RecordFault, RefusedRecord, Table};
 use csv::{ByteRecord, ReaderBuilder};
+use excerpts::VisibleBytes;
 use lexer::MAX_DIGITS;
 use refusals::FieldFault;
 use sqlvalue::SqlType;
@@ -21,9 +23,10 @@ pub(crate) struct FileRecord<'a> {
 }
 
 impl<'a> FileRecord<'a> {
-    /// Reads a record again. Where memory is wanting it has no fields.
-    pub(crate) fn new(alloc: Global, bytes: &'a [u8], refused: &RefusedRecord) -> FileRecord<'a> {
-        let behind = bytes.get(refused.start as usize..).unwrap_or(b"");
+    /// Reads a record again, from the byte behind the one before it and that byte's line. Where memory is wanting
+    /// it has no fields.
+    pub(crate) fn new(alloc: Global, bytes: &'a [u8], start: u64, line: u64) -> FileRecord<'a> {
+        let behind = bytes.get(start as usize..).unwrap_or(b"");
         let ends = behind
             .iter()
             .take_while(|byte| matches!(**byte, b'\n' | b'\r'))
@@ -35,7 +38,7 @@ impl<'a> FileRecord<'a> {
             Err(_) => (None, 0),
         };
         FileRecord {
-            line: refused.line.saturating_add(feeds as u64),
+            line: line.saturating_add(feeds as u64),
             fields,
             rest,
             length,
@@ -87,14 +90,25 @@ pub(crate) fn write_record<W: fmt::Write>(
     write!(f, "record {}", refused.number)?;
     match refused.fault {
         RecordFault::FieldCount { fields } => write_count(f, table, fields),
-        RecordFault::Field { fault, column } if column < table.width() => {
-            let (name, sql_type) = (table.column_name(column), table.sql_type(column));
-            let field = column.saturating_add(1);
-            write!(f, ", field {field} ({name} {sql_type}): ")?;
-            write_field(f, fault, sql_type, record.field(column))
+        RecordFault::Null { column } if column < table.width() => {
+            write_column(f, table, column)?;
+            f.write_str("NULL in a column that is NOT NULL")
         }
-        RecordFault::Field { .. } => Ok(()),
+        RecordFault::Field { fault, column } if column < table.width() => {
+            write_column(f, table, column)?;
+            write_field(f, fault, table.sql_type(column), record.field(column))
+        }
+        RecordFault::Null { .. } | RecordFault::Field { .. } => Ok(()),
     }
+}
+
+/// `, field 3 (M NUMERIC(5,2)): `.
+fn write_column<W: fmt::Write>(f: &mut Formatter<W>, table: &Table, column: usize) -> fmt::Result
+    requires { column < length table.now.columns }
+{
+    let (name, sql_type) = (table.column_name(column), table.sql_type(column));
+    let field = column.saturating_add(1);
+    write!(f, ", field {field} ({name} {sql_type}): ")
 }
 
 fn write_count<W: fmt::Write>(f: &mut Formatter<W>, table: &Table, fields: usize) -> fmt::Result {
@@ -188,14 +202,10 @@ fn write_too_long<W: fmt::Write>(f: &mut Formatter<W>, sql_type: SqlType) -> fmt
 /// A hint for what may be wrong with the file.
 pub(crate) fn write_record_hint<W: fmt::Write>(
     f: &mut Formatter<W>,
-    database: &Database,
-    table: &str,
+    table: &Table,
     refused: &RefusedRecord,
     record: &FileRecord,
 ) -> fmt::Result {
-    let Some(table) = database.table(table) else {
-        return Ok(());
-    };
     match hint_of(table, refused, record) {
         Some(hint) => writeln!(f, "hint: {hint}"),
         None => Ok(()),

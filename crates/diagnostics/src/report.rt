@@ -1,20 +1,26 @@
 //! Messages as they are shown.
 
 use crate::create::write_create;
-use crate::excerpt::write_excerpt;
-use crate::lines::{Lines, Place};
+use crate::figures::{write_figures, write_table_figures};
+use crate::index::write_index;
+use crate::list::write_list_hint;
 use crate::near::write_near_table;
 use crate::not_yet::{write_not_yet, write_not_yet_hint};
 use crate::places::offset_of;
 use crate::query::{write_query, write_query_hint};
 use crate::record::{FileRecord, write_record, write_record_hint};
+use crate::repeated::write_repeated;
 use crate::text::{write_lexical, write_lexical_hint};
 use crate::wanted::{write_too_deep, write_unexpected, write_unexpected_hint};
-use catalog::{Database, MAX_ROWS, RefusedRecord};
-use sqlr::{Cause, Refused};
+use catalog::{
+    Database, FiguresFault, IndexFault, ListFault, MAX_ROWS, RefusedRecord, RepeatedRecord,
+    TableFiguresFault,
+};
+use excerpts::{Lines, Place, write_excerpt};
+use sqlr::{Cause, ColumnList, FileLoad, Refused};
 use std::alloc::Global;
 use std::fmt::{self, Display, Formatter};
-use syntax::{Name, StringLiteral};
+use syntax::Name;
 
 /// Makes the messages on a script, one after another.
 #[derive(Drop)]
@@ -74,12 +80,8 @@ pub struct Report<'r> {
 impl Display for Report<'_> {
     fn fmt<W: fmt::Write>(&self, f: &mut Formatter<W>) -> fmt::Result {
         match &self.refused.cause {
-            Cause::Record {
-                table,
-                file,
-                bytes,
-                record,
-            } => self.write_record(f, table, file, bytes, record),
+            Cause::Record { load, record } => self.write_record(f, load, record),
+            Cause::Repeated { load, record } => self.write_repeated(f, load, record),
             cause => {
                 self.write_place(f)?;
                 self.write_label(f)?;
@@ -116,11 +118,14 @@ impl Report<'_> {
                 columns,
                 fault,
             } => write_create(f, name, columns, *fault),
+            Cause::Index { list, fault } => write_index(f, self.database, *list, *fault),
+            Cause::TableFigures(cause) => write_table_figures(f, *cause),
+            Cause::Figures(cause) => write_figures(f, self.script, self.database, *cause),
             Cause::NoTable(name) => write!(f, "there is no table {}", name.text),
             Cause::NoFile(file) => write!(f, "there is no file '{}'", file.text),
             Cause::ManyRows(_) => write!(f, "a table has at most {MAX_ROWS} rows"),
             Cause::Query(cause) => write_query(f, self.database, *cause),
-            Cause::Record { .. } => Ok(()),
+            Cause::Record { .. } | Cause::Repeated { .. } => Ok(()),
         }
     }
 
@@ -131,33 +136,83 @@ impl Report<'_> {
                 write_unexpected_hint(f, self.alloc, self.script, unexpected)
             }
             Cause::NotYet(statement) => write_not_yet_hint(f, statement),
-            Cause::NoTable(name) => {
-                write_near_table(f, self.alloc, self.database, name.text.as_str())
-            }
+            Cause::Index { list, fault } => match fault {
+                IndexFault::List(fault) => self.write_list_hint(f, *list, *fault),
+                _ => Ok(()),
+            },
+            Cause::Figures(cause) => match cause.fault {
+                FiguresFault::List(fault) => self.write_list_hint(f, cause.list, fault),
+                _ => Ok(()),
+            },
+            Cause::TableFigures(cause) => match cause.fault {
+                TableFiguresFault::NoTable => self.write_table_hint(f, cause.table),
+                _ => Ok(()),
+            },
+            Cause::NoTable(name) => self.write_table_hint(f, name),
             Cause::Query(cause) => write_query_hint(f, self.alloc, self.database, *cause),
             _ => Ok(()),
         }
     }
 
+    fn write_list_hint<W: fmt::Write>(
+        &self,
+        f: &mut Formatter<W>,
+        list: ColumnList,
+        fault: ListFault,
+    ) -> fmt::Result {
+        write_list_hint(f, self.alloc, self.database, list, fault)
+    }
+
+    fn write_table_hint<W: fmt::Write>(&self, f: &mut Formatter<W>, name: &Name) -> fmt::Result {
+        write_near_table(f, self.alloc, self.database, name.text.as_str())
+    }
+
     fn write_record<W: fmt::Write>(
         &self,
         f: &mut Formatter<W>,
-        table: &Name,
-        file: &StringLiteral,
-        bytes: &[u8],
+        load: &FileLoad,
         refused: &RefusedRecord,
     ) -> fmt::Result {
-        let record = FileRecord::new(self.alloc, bytes, refused);
-        let line = record.line;
-        write!(f, "{}:{line}: ", file.text)?;
-        self.write_label(f)?;
-        if let Some(table) = self.database.table(table.text.as_str()) {
-            write_record(f, table, refused, &record)?;
+        let record = FileRecord::new(self.alloc, &load.bytes, refused.start, refused.line);
+        self.write_line(f, load, &record)?;
+        let Some(table) = self.database.table(load.table.text.as_str()) else {
+            return Ok(());
+        };
+        write_record(f, table, refused, &record)?;
+        self.write_load(f)?;
+        write_record_hint(f, table, refused, &record)
+    }
+
+    fn write_repeated<W: fmt::Write>(
+        &self,
+        f: &mut Formatter<W>,
+        load: &FileLoad,
+        repeated: &RepeatedRecord,
+    ) -> fmt::Result {
+        let record = FileRecord::new(self.alloc, &load.bytes, repeated.start, repeated.line);
+        self.write_line(f, load, &record)?;
+        if let Some(table) = self.database.table(load.table.text.as_str()) {
+            write_repeated(f, table, repeated)?;
         }
+        self.write_load(f)
+    }
+
+    /// `parts.csv:5: error E12 23000: `.
+    fn write_line<W: fmt::Write>(
+        &self,
+        f: &mut Formatter<W>,
+        load: &FileLoad,
+        record: &FileRecord,
+    ) -> fmt::Result {
+        write!(f, "{}:{}: ", load.file.text, record.line)?;
+        self.write_label(f)
+    }
+
+    /// The place of the LOAD.
+    fn write_load<W: fmt::Write>(&self, f: &mut Formatter<W>) -> fmt::Result {
         f.write_str("\n")?;
         self.write_place(f)?;
         f.write_str("in this LOAD\n")?;
-        write_excerpt(f, self.script, self.offset)?;
-        write_record_hint(f, self.database, table.text.as_str(), refused, &record)
+        write_excerpt(f, self.script, self.offset)
     }
 }

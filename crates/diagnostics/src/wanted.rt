@@ -1,7 +1,7 @@
 //! What could have stood where a script goes wrong.
 
 use crate::near::Nearest;
-use crate::visible::Visible;
+use excerpts::Visible;
 use lexer::{TokenKind, Word};
 use std::alloc::Global;
 use std::fmt::{self, Display, Formatter};

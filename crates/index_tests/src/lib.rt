@@ -8,4 +8,6 @@ mod look_ups;
 #[cfg(test)]
 mod orders;
 #[cfg(test)]
+mod pages;
+#[cfg(test)]
 mod repeats;

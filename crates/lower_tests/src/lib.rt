@@ -3,6 +3,10 @@
 #![tactic(auto)]
 
 #[cfg(test)]
+mod keys;
+#[cfg(test)]
+mod statements;
+#[cfg(test)]
 mod tables;
 #[cfg(test)]
 mod tokens;

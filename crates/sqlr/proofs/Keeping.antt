@@ -1,12 +1,11 @@
 -- The rows that a query keeps, as words and as numbers.
-use Rattle.std.proofs.Common.{◌≡◌, ◌∙◌, refl, sym, ap, ap₂, subst, ℕ, zero, suc, ◌+◌, ◌-◌, ◌<◌, ◌≤◌, ◌^◌, List, [], ◌∷◌, ◌++◌, Bool, true, false, length, map, take, drop, arith}
-use Rattle.std.specs.Prelude.{filter, All, unwrap_or, Option, Some, None}
+use Rattle.std.proofs.Common.{◌≡◌, ◌∙◌, refl, sym, ap, subst, ℕ, zero, suc, ◌+◌, ◌-◌, ◌<◌, ◌≤◌, ◌^◌, List, [], ◌∷◌, ◌++◌, false, length, map, take, drop, arith}
+use Rattle.std.specs.Prelude.{filter, All, unwrap_or, Some, None}
 use native.Mathlib.Nat.{pow-suc}
 use Rattle.std.proofs.lemmas.List.{length-map, length-take-le, length-drop, map-append, take_all}
-use Rattle.definitions.specs.Value.{Value, Null}
 use Rattle.definitions.specs.Answer.{truth_of}
 use Rattle.definitions.specs.Scanning.{word_of, true_word}
-use Rattle.definitions.specs.Table.{Table, Row}
+use Rattle.definitions.specs.Table.{Row}
 use Rattle.sqlvalue.specs.Meaning.{op_of, value_of}
 use Rattle.catalog.specs.Meaning.{cells_in}
 use Rattle.columns.specs.Rows.{rows_set}

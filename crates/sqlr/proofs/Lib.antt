@@ -5,5 +5,6 @@ pub mod Scripts
 pub mod Bound
 pub mod Lines
 pub mod Taking
+pub mod Changing
 pub mod Running
 pub mod Keeping

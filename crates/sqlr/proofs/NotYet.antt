@@ -7,7 +7,7 @@ use Rattle.definitions.specs.Grammar.{items}
 use Rattle.definitions.specs.NotYet.{IsColumn, IsNumeral, IsLiteral, IsComparison, IsColumnItem, IsWhere, IsPlainBlock}
 use Rattle.definitions.specs.Printing.{expr_name, item_name}
 use Rattle.definitions.specs.Statement as spec
-use Rattle.trees.specs.Trees.{OperandTree, expr_of, list_of, block_of, item_of, operand_of, source_of, condition_of, constraint_of, name_of, column_of, expr_layer, list_layer, block_layer, item_layer, operand_layer}
+use Rattle.trees.specs.Trees.{OperandTree, expr_of, list_of, block_of, item_of, operand_of, source_of, condition_of, name_of, column_of, expr_layer, list_layer, block_layer, item_layer, operand_layer}
 use Rattle.trees.specs.declared.expr.Expr.{Expr, out-Expr, roll-Expr, roll-out-Expr}
 use Rattle.trees.specs.declared.expr.Expr.TheOpen.{Expr-F}
 use Rattle.trees.specs.declared.expr.Expr.TheOpen as o
@@ -15,8 +15,6 @@ use Rattle.trees.specs.declared.expr.Expr.TheVariants as w
 use Rattle.trees.specs.declared.expr.Expr.TheFolds as folds
 use Rattle.trees.specs.declared.expr.SelectList.{SelectList}
 use Rattle.trees.specs.declared.expr.SelectList.TheVariants as list
-use Rattle.trees.specs.declared.statement.Constraint.{Constraint}
-use Rattle.trees.specs.declared.statement.Constraint.TheVariants as constraint
 use Rattle.trees.specs.declared.expr.Block.{Block}
 use Rattle.trees.specs.declared.expr.Item.{Item}
 use Rattle.trees.specs.declared.expr.Operand.{Operand}
@@ -129,9 +127,3 @@ unnamed i n = by_layer (λ z. [] ≡ expr_name z) i.value (elim [ o.Column r ↦
 
 pub item_whole : (i : Item) → IsColumnTree i → IsColumnItem (item_of i)
 item_whole i p = subst IsColumnItem (sym (of_item i)) p
-
--- ---- definitions of columns
-
-pub constrained : (c : Constraint) → (c ≡ constraint.Nullable → ⊥) → constraint_of c ≡ spec.Nullable → ⊥
-constrained constraint.Nullable n h = n refl
-constrained c n h = cc

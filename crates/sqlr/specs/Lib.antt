@@ -3,6 +3,7 @@ pub mod Binding
 pub mod Devices
 pub mod Meaning
 pub mod NotYet
+pub mod Outcomes
 pub mod Rows
 pub mod Scripts
 pub mod Selecting

@@ -4,10 +4,14 @@ ghost use Rattle.std.specs.Prelude.{◌≡◌};
 ghost use Rattle.refusals.specs.Meaning.{refusal_of};
 ghost use Rattle.sqlr.specs.Meaning.{query_refusal};
 
-use catalog::{CreateFault, RefusedRecord};
+use catalog::{
+    CreateFault, FiguresFault, IndexFault, RefusedRecord, RepeatedRecord, TableFiguresFault,
+};
 use lexer::LexFault;
 use refusals::Refusal;
-use syntax::{ColumnDefinition, Expr, Name, Statement, StringLiteral, Unexpected};
+use syntax::{
+    ColumnDefinition, Count, Expr, IndexFigures, Name, Statement, StringLiteral, Unexpected,
+};
 
 /// A refusal and its cause.
 #[derive(Drop)]
@@ -36,20 +40,62 @@ pub enum Cause<'a> {
         columns: &'a [ColumnDefinition],
         fault: CreateFault,
     },
+    /// An index is not made.
+    Index {
+        list: ColumnList<'a>,
+        fault: IndexFault,
+    },
+    TableFigures(TableFiguresCause<'a>),
+    Figures(FiguresCause<'a>),
     /// There is no table to load.
     NoTable(&'a Name),
     /// There is no file of a name.
     NoFile(&'a StringLiteral),
     /// A table would have too many rows.
     ManyRows(&'a Name),
-    /// A record of a file's bytes is no row of a table.
+    /// A record of a file is no row of a table.
     Record {
-        table: &'a Name,
-        file: &'a StringLiteral,
-        bytes: Vec<u8>,
+        load: FileLoad<'a>,
         record: RefusedRecord,
     },
+    /// The key of a record comes again.
+    Repeated {
+        load: FileLoad<'a>,
+        record: RepeatedRecord,
+    },
     Query(QueryCause<'a>),
+}
+
+/// Columns of a table as a statement lists them.
+#[derive(Clone, Copy)]
+pub struct ColumnList<'a> {
+    pub table: &'a Name,
+    pub columns: &'a [Name],
+}
+
+/// Why the figures of a table are not set.
+#[derive(Clone, Copy)]
+pub struct TableFiguresCause<'a> {
+    pub table: &'a Name,
+    pub rows: Count,
+    pub pages: Count,
+    pub fault: TableFiguresFault,
+}
+
+/// Why the figures of an index are not set.
+#[derive(Clone, Copy)]
+pub struct FiguresCause<'a> {
+    pub list: ColumnList<'a>,
+    pub figures: &'a IndexFigures,
+    pub fault: FiguresFault,
+}
+
+/// A LOAD, with the bytes of its file.
+#[derive(Drop)]
+pub struct FileLoad<'a> {
+    pub table: &'a Name,
+    pub file: &'a StringLiteral,
+    pub bytes: Vec<u8>,
 }
 
 /// Why a query is refused.

@@ -3,11 +3,11 @@
 
 mod binding;
 mod cause;
+mod changes;
 mod ended;
 mod library;
 mod not_yet;
 mod outcome;
-mod printing;
 mod rows;
 mod script;
 mod select;
@@ -15,7 +15,9 @@ mod session;
 mod sink;
 
 pub use binding::{MAX_ITEMS, MAX_SCALE};
-pub use cause::{Cause, QueryCause, Refused};
+pub use cause::{
+    Cause, ColumnList, FiguresCause, FileLoad, QueryCause, Refused, TableFiguresCause,
+};
 pub use command_line::{request, requests};
 pub use ended::{Ended, RunFault, status};
 pub use library::{FetchFault, Fetched, Library};

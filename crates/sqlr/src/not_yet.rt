@@ -3,36 +3,21 @@
 ghost use Rattle.std.specs.Prelude.{map};
 ghost use Rattle.std.specs.Bool.{Decides};
 ghost use Rattle.std.specs.List.{AllByRecursion};
-ghost use Rattle.definitions.specs.NotYet.{CanRun, IsColumn, IsColumnItem, IsComparison, IsLiteral, IsNumeral, IsPlain, IsPlainBlock, IsPlainDefinition, IsWhere};
-ghost use Rattle.trees.specs.Trees.{block_of, condition_of, definitions_of, expr_of, item_of, list_of, select_of, source_of, statement_of};
+ghost use Rattle.definitions.specs.NotYet.{CanRun, IsColumn, IsColumnItem, IsComparison, IsLiteral, IsNumeral, IsPlain, IsPlainBlock, IsWhere};
+ghost use Rattle.trees.specs.Trees.{block_of, condition_of, expr_of, item_of, list_of, select_of, source_of, statement_of};
 ghost use Rattle.sqlr.specs.NotYet.{AreColumns, IsOneTable};
 
-use syntax::{
-    Block, ColumnDefinition, Constraint, Expr, Item, Select, SelectList, Source, Statement,
-};
+use syntax::{Block, Expr, Item, Select, SelectList, Source, Statement};
 
 /// Whether a statement can be run so far (own).
 pub fn can_run(statement: &Statement) -> bool
     ensures { Decides result (CanRun (statement_of statement.now)) }
 {
     match statement {
-        Statement::CreateTable { columns, .. } => are_plain(columns),
-        Statement::Load { .. } => true,
         Statement::Query(query) => is_plain(query),
-        _ => false,
+        Statement::Explain(_) => false,
+        _ => true,
     }
-}
-
-/// Whether nothing is asked of the values of columns.
-fn are_plain(columns: &[ColumnDefinition]) -> bool
-    ensures { Decides result (AllByRecursion IsPlainDefinition (definitions_of columns.now)) }
-{
-    'columns: for column in columns {
-        if !matches!(column.constraint, Constraint::Nullable) {
-            return false;
-        }
-    }
-    true
 }
 
 /// Whether a query is one block over one table, of the rows that meet one comparison or all.

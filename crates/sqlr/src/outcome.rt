@@ -1,14 +1,15 @@
 //! What a statement prints and how it ends, and the lines of those that are refused.
 
-ghost use Rattle.std.specs.Prelude.{◌≡◌, IfOk, IfErr};
+ghost use Rattle.std.specs.Prelude.{◌≡◌, IfOk, IfErr, option_map};
 ghost use Rattle.definitions.specs.Printing.{refusal_text, record_refusal_text};
 ghost use Rattle.refusals.specs.Meaning.{refusal_of};
 ghost use Rattle.sqlr.specs.declared.ended.Ended.TheVariants as ended;
+ghost use Rattle.sqlr.specs.Outcomes.{Tells};
 ghost use Rattle.sqlr.specs.declared.outcome.StepFault.TheVariants as fault;
 
 use crate::cause::{Cause, Refused};
 use crate::ended::Ended;
-use crate::printing::{write_record_refusal, write_refusal};
+use printing::{write_record_refusal, write_refusal};
 use refusals::Refusal;
 use std::alloc::{AllocError, Global};
 
@@ -63,6 +64,21 @@ pub fn refused<'a>(
         ended: Ended::Faulted,
         refused: Some(Refused { refusal, cause }),
     })
+}
+
+/// The line of a statement that a fault refuses. One that is no refusal is want of memory.
+pub fn refused_by<'a>(
+    alloc: Global,
+    refusal: Option<Refusal>,
+    cause: Cause<'a>,
+) -> Result<Printed<'a>, StepFault>
+    ensures tells { IfOk result (Tells (option_map refusal_of refusal)) }
+    ensures memory { IfErr result (λ f. f ≡ fault.Memory) }
+{
+    match refusal {
+        Some(refusal) => refused(alloc, refusal, cause),
+        None => Err(StepFault::Memory),
+    }
 }
 
 /// The line of a LOAD whose record of this number is refused.

@@ -9,9 +9,9 @@ ghost use Rattle.sqlr.specs.Binding.{IsPlaced, row_of, bind_refusal, values_at};
 ghost use Rattle.sqlr.specs.Selecting.{PrintsTable};
 
 use crate::binding::{BindFault, Bound, bind, items};
-use crate::printing::{write_decimal, write_value};
 use crate::rows::answer_rows;
 use catalog::Database;
+use printing::{write_decimal, write_value};
 use std::alloc::{AllocError, Global};
 use syntax::{Block, Expr, Item};
 

@@ -1,33 +1,32 @@
 //! Sessions.
 
-ghost use Rattle.std.specs.Prelude.{◌≡◌, ◌≢◌, ◌≤◌, [], None, map, IfOk, IfErr, OnErr};
-ghost use Rattle.std.specs.List.{AllByRecursion};
-ghost use Rattle.definitions.specs.NotYet.{IsPlain, IsPlainDefinition};
+ghost use Rattle.std.specs.Prelude.{◌≡◌, ◌≢◌, ◌≤◌, [], None, IfOk, IfErr, OnErr};
+ghost use Rattle.definitions.specs.NotYet.{IsPlain};
 ghost use Rattle.definitions.specs.Printing.{fault_text};
 ghost use Rattle.definitions.specs.Statement as tree;
 ghost use Rattle.definitions.specs.Step.{AreStatements};
 ghost use Rattle.definitions.specs.Table.{table_named};
 ghost use Rattle.refusals.specs.Meaning.{refusal_of};
-ghost use Rattle.catalog.specs.Meaning as catalog;
-ghost use Rattle.trees.specs.Trees.{definitions_of, name_of, select_of, statement_of, statements_of, text_of};
+ghost use Rattle.trees.specs.Trees.{name_of, select_of, statement_of, statements_of, text_of};
 ghost use Rattle.sqlr.specs.declared.outcome.StepFault.TheVariants as fault;
 ghost use Rattle.sqlr.specs.Sessions.{BreaksIn, BreaksLine, BreaksOff, IsBlamed, IsBoth, IsLibraryBlamed, IsSinkBlamed, Prints, Runs, RunsAll, Takes, TakesBytes};
 
 use crate::binding::BindFault;
-use crate::cause::{Cause, Refused};
+use crate::cause::{Cause, FileLoad, Refused};
+use crate::changes::{create_index, create_table, set_index, set_table};
 use crate::ended::{Ended, RunFault};
 use crate::library::{FetchFault, Fetched, Library};
 use crate::not_yet::can_run;
 use crate::outcome::{Printed, StepFault, done, refused, refused_record};
-use crate::printing::{LOADED_ROOM, write_fault, write_loaded};
 use crate::script::{ScriptFault, parse_script};
 use crate::select::select;
 use crate::sink::Sink;
-use catalog::{Database, LoadFault, NewColumn};
+use catalog::{Database, LoadFault};
+use printing::{LOADED_ROOM, write_fault, write_loaded};
 use refusals::Refusal;
-use std::alloc::{AllocError, Global};
+use std::alloc::Global;
 use std::marker::Model;
-use syntax::{ColumnDefinition, Name, Select, Statement, StringLiteral};
+use syntax::{Name, Select, Statement, StringLiteral};
 
 /// A database, and the library that LOAD finds its files in.
 #[derive(Drop)]
@@ -146,40 +145,28 @@ impl<L: Library> Session<L> {
             let cause = Cause::NotYet(statement);
             return refused(self.alloc, Refusal::OverQueryLimit, cause);
         }
+        let alloc = self.alloc;
         match statement {
-            Statement::CreateTable { name, columns } => self.create_table(name, columns),
+            Statement::CreateTable { name, columns } => {
+                create_table(alloc, &mut self.database, name, columns)
+            }
+            Statement::CreateIndex {
+                unique,
+                table,
+                columns,
+            } => create_index(alloc, &mut self.database, *unique, table, columns),
             Statement::Load { table, file } => self.load(table, file),
+            Statement::SetTable { table, rows, pages } => {
+                set_table(alloc, &mut self.database, table, *rows, *pages)
+            }
+            Statement::SetIndex {
+                table,
+                columns,
+                figures,
+            } => set_index(alloc, &mut self.database, table, columns, figures),
             Statement::Query(query) => self.query(query),
-            _ => unreachable!(),
+            Statement::Explain(_) => unreachable!(),
         }
-    }
-
-    fn create_table<'a>(
-        &mut self,
-        name: &'a Name,
-        columns: &'a [ColumnDefinition],
-    ) -> Result<Printed<'a>, StepFault>
-        requires { AllByRecursion IsPlainDefinition (definitions_of columns.now) }
-        ensures takes { IfOk result (Takes L.answers self.old (tree.CreateTable (name_of name.now) (definitions_of columns.now)) self.new) }
-        ensures kept { OnErr result (self.new.database ≡ self.old.database) }
-        ensures memory { IfErr result (λ f. f ≡ fault.Memory) }
-        ensures library { self.new.library ≡ self.old.library }
-    {
-        let made = new_columns(self.alloc, columns)?;
-        let text = Vec::from_slice(self.alloc, b"OK\n")?;
-        let fault = match self.database.create_table(name.text.as_str(), &made) {
-            Ok(()) => return Ok(done(text)),
-            Err(fault) => fault,
-        };
-        let Some(refusal) = fault.refusal() else {
-            return Err(StepFault::Memory);
-        };
-        let cause = Cause::Create {
-            name,
-            columns,
-            fault,
-        };
-        refused(self.alloc, refusal, cause)
     }
 
     fn load<'a>(
@@ -196,7 +183,7 @@ impl<L: Library> Session<L> {
             return refused(self.alloc, Refusal::NotFound, Cause::NoTable(table));
         }
         match self.library.fetch(file.text.as_str()) {
-            Ok(Fetched::Bytes(bytes)) => self.load_bytes(table, file, bytes),
+            Ok(Fetched::Bytes(bytes)) => self.load_bytes(FileLoad { table, file, bytes }),
             Ok(Fetched::Absent) => refused(self.alloc, Refusal::NoFile, Cause::NoFile(file)),
             Err(FetchFault::Device) => Err(StepFault::Library),
             Err(FetchFault::Memory) => Err(StepFault::Memory),
@@ -204,36 +191,30 @@ impl<L: Library> Session<L> {
     }
 
     /// Loads the bytes of a file into a table that is there.
-    fn load_bytes<'a>(
-        &mut self,
-        table: &'a Name,
-        file: &'a StringLiteral,
-        bytes: Vec<u8>,
-    ) -> Result<Printed<'a>, StepFault>
-        requires { table_named self.old.database (name_of table.now) ≢ None }
-        ensures takes { IfOk result (TakesBytes self.old.database (name_of table.now) bytes.items self.new.database) }
+    fn load_bytes<'a>(&mut self, load: FileLoad<'a>) -> Result<Printed<'a>, StepFault>
+        requires { table_named self.old.database (name_of load.table.now) ≢ None }
+        ensures takes { IfOk result (TakesBytes self.old.database (name_of load.entry.table.now) load.entry.bytes.items self.new.database) }
         ensures kept { OnErr result (self.new.database ≡ self.old.database) }
         ensures memory { IfErr result (λ f. f ≡ fault.Memory) }
         ensures library { self.new.library ≡ self.old.library }
     {
         let mut text = Vec::with_capacity(self.alloc, LOADED_ROOM)?;
-        match self.database.load(table.text.as_str(), &bytes) {
+        match self.database.load(load.table.text.as_str(), &load.bytes) {
             Ok(rows) => {
                 write_loaded(&mut text, rows);
                 Ok(done(text))
             }
             Err(LoadFault::NoTable) => unreachable!(),
             Err(LoadFault::Record(record)) => {
-                let cause = Cause::Record {
-                    table,
-                    file,
-                    bytes,
-                    record,
-                };
+                let cause = Cause::Record { load, record };
                 refused_record(self.alloc, record.fault.refusal(), record.number, cause)
             }
+            Err(LoadFault::Repeated(record)) => {
+                let cause = Cause::Repeated { load, record };
+                refused_record(self.alloc, Refusal::NullOrRepeated, record.number, cause)
+            }
             Err(LoadFault::ManyRows) => {
-                refused(self.alloc, Refusal::OverLimit, Cause::ManyRows(table))
+                refused(self.alloc, Refusal::OverLimit, Cause::ManyRows(load.table))
             }
             Err(LoadFault::Memory) => Err(StepFault::Memory),
         }
@@ -287,22 +268,4 @@ fn both(first: Ended, second: Ended) -> Ended
         Ended::Well => second,
         _ => first,
     }
-}
-
-/// The columns of a new table, of whose values nothing is asked.
-fn new_columns<'a>(
-    alloc: Global,
-    definitions: &'a [ColumnDefinition],
-) -> Result<Vec<NewColumn<'a>>, AllocError>
-    requires { AllByRecursion IsPlainDefinition (definitions_of definitions.now) }
-    ensures { IfOk result (λ columns. catalog.definitions_of columns.items ≡ definitions_of definitions.now) }
-{
-    let mut columns = Vec::new(alloc);
-    'definitions: for definition in definitions {
-        columns.push(NewColumn {
-            name: definition.name.text.as_str(),
-            declared: definition.declared,
-        })?;
-    }
-    Ok(columns)
 }

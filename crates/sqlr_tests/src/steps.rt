@@ -26,15 +26,30 @@ pub(crate) struct Step {
 /// A script that shows what the steps have left.
 pub(crate) const LOOK: &str = "SELECT A FROM T;";
 
-pub(crate) static STEPS: [Step; 5] = [
+pub(crate) static STEPS: [Step; 8] = [
     Step {
         statement: "CREATE TABLE T (A INTEGER, B CHAR(3)); ",
         printed: "OK\n",
         seen: "A\n0 rows\n",
     },
     Step {
+        statement: "CREATE UNIQUE INDEX ON T (A, B); ",
+        printed: "OK\n",
+        seen: "A\n0 rows\n",
+    },
+    Step {
         statement: "LOAD T FROM 'two.csv'; ",
         printed: "2 rows loaded\n",
+        seen: "A\n1\n2\n2 rows\n",
+    },
+    Step {
+        statement: "SET STATISTICS T (A, B) KEYS 9 PAGES 1; ",
+        printed: "OK\n",
+        seen: "A\n1\n2\n2 rows\n",
+    },
+    Step {
+        statement: "LOAD T FROM 'two.csv'; ",
+        printed: "error E12 23000 record 1\n",
         seen: "A\n1\n2\n2 rows\n",
     },
     Step {

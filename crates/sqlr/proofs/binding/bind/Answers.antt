@@ -5,7 +5,7 @@ use Rattle.definitions.specs.Statement.{block_items}
 use Rattle.definitions.specs.Table.{table_named}
 use Rattle.definitions.specs.Limits.{most_items}
 use Rattle.definitions.specs.Faults as faults
-use Rattle.definitions.specs.Table as table
+use Rattle.definitions.specs.Invariant.{IsTable}
 use Rattle.trees.specs.Trees.{item_of, block_of, name_of}
 use Rattle.sqlr.specs.Binding.{BindsCondition, IsFrom}
 use Rattle.sqlr.proofs.NotYet.{condition_is, plain_items, where_of}
@@ -45,5 +45,5 @@ returns-clause-accepted c =
 pub returns-clause-rows : goal.returns-clause-rows
 returns-clause-rows c =
     let named : table_named c.args.database.now (name_of c.source_name-name.result.now) ≡ Some c.in-Some.table.now = sym (rw c.as_str.ensures.value at c.in-Some.ensures.named) in
-    let valid : table.IsTable c.in-Some.table.now = found_each table.IsTable _ _ _ c.table.ensures.valid.each named in
+    let valid : IsTable c.in-Some.table.now = found_each IsTable _ _ _ c.table.ensures.valid.each named in
     rows_answered _ (block_of c.args.block.now) _ _ _ c.requires (rw c.items-items.ensures at c.in_ok-columns.ensures.places) (subst (λ o. BindsCondition c.in-Some.table.now o c.in_ok-condition.condition) (sym (condition_is c.args.block.now)) c.in_ok-condition.ensures.binds) valid.typed

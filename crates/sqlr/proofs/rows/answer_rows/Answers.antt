@@ -1,4 +1,4 @@
-use Rattle.std.proofs.Common.{◌≡◌, ◌≤◌, ◌∙◌, length, arith, rules}
+use Rattle.std.proofs.Common.{arith}
 use Rattle.sqlr.proofs.Keeping.{further_rows, kept_within, kept_rows}
 use Rattle.sqlr.proofs.rows.answer_rows.Goals as goal
 

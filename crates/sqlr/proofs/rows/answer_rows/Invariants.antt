@@ -1,4 +1,4 @@
-use Rattle.std.proofs.Common.{◌≡◌, ◌≤◌, ◌-◌, length}
+use Rattle.std.proofs.Common.{◌≡◌, ◌≤◌, ◌-◌}
 use Rattle.columns.specs.Rows.{rows_set}
 use Rattle.sqlr.specs.Rows.{kept_flags}
 use Rattle.sqlr.proofs.rows.answer_rows.Given as goal

@@ -1,4 +1,4 @@
-use Rattle.std.proofs.Common.{◌≡◌, ◌≤◌, ◌<◌, ◌+◌, ◌++◌, ◌∷◌, [], ◌^◌, ◌∙◌, refl, sym, ap, length, drop, ◌-◌, arith, rules}
+use Rattle.std.proofs.Common.{◌≡◌, ◌≤◌, ◌+◌, ◌++◌, ◌∙◌, refl, sym, ap, length, drop, ◌-◌, arith, rules}
 use Rattle.std.proofs.lemmas.List.{append-nil}
 use Rattle.columns.proofs.Rows.{next_row, no_rows}
 use Rattle.definitions.specs.Scanning.{word_of}

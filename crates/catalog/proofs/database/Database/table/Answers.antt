@@ -1,6 +1,6 @@
 use Rattle.std.proofs.Common.{◌∙◌, sym, ap, Some, List, get_or}
 use Rattle.definitions.specs.Table.{Table}
-use Rattle.catalog.proofs.Naming.{named_some, named_none}
+use Rattle.catalog.proofs.NamedTables.{named_some, named_none}
 use Rattle.catalog.proofs.database.Database.table.Goals as goal
 
 pub returns-in-Some-clause-named : goal.returns-in-Some-clause-named

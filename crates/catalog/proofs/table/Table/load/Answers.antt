@@ -1,50 +1,79 @@
-use Rattle.std.proofs.Common.{◌≡◌, ◌∙◌, refl, ap}
+use Rattle.std.proofs.Common.{◌≡◌, ◌∙◌, ◌+◌, refl, ap, arith}
 use Rattle.std.specs.Vec.{with_items}
 use Rattle.std.specs.String.{string_bytes}
 use Rattle.std.proofs.lemmas.List.{with_items_is}
-use Rattle.catalog.specs.Stored.{table_of}
-use Rattle.catalog.proofs.Loading.{LoadedTable, loads_table, refuses_table, columns_back, columns_long}
-use Rattle.catalog.proofs.Typing.{table_with_rows}
+use Rattle.definitions.specs.Invariant.{IsTable}
+use Rattle.table_indexes.specs.Meaning.{table_figures_of}
+use Rattle.catalog.specs.Tables.{table_of}
+use Rattle.catalog.proofs.Rows.{of_view}
+use Rattle.catalog.proofs.TableGrowth.{LoadedTable, loading_own, loaded_own, types_now, own_refusal, columns_back, columns_long}
 use Rattle.catalog.proofs.table.Table.load.Goals as goal
 
--- the columns as they were pushed onto
-pushed : (c : goal.After-self-in-Ok-1) → (with_items c.self.inside.columns c.push_records.new.columns).items ≡ c.push_records.new.columns
-pushed c = with_items_is c.self.inside.columns c.push_records.new.columns (c.push_records.auto.columns ∙ c.deref_mut.ensures.len)
+-- ---- the rows came
 
-loaded : (c : goal.After-self-in-Ok-1) → LoadedTable (string_bytes c.self.inside.name) c.args.bytes.now c.self.inside.len c.args.self.now (with_items c.self.inside.columns c.push_records.new.columns).items c.in-Ok.count
+pub overflow_add-self : goal.overflow_add-self
+overflow_add-self c =
+    let now = (loading_own (string_bytes c.self.inside.name) c.args.bytes.now c.self.inside.columns.items c.deref_mut.result.now c.grow.new.columns c.grow.new.columns c.self.inside.indexes.items c.deref.result.now c.self.inside.len (table_figures_of c.self.inside.figures) c.args.self.now c.in-Ok.field-0 c.self.view_is c.self.invariant.filled c.self.invariant.ordered
+    c.deref_mut.ensures.value c.deref.ensures.value (c.in-Ok.ensures).ok refl).1 in
+    omega (arith, now.few)
+
+pub counted-self-inside-requires-clause-few : goal.counted-self-inside-requires-clause-few
+counted-self-inside-requires-clause-few c =
+    let now = (loading_own (string_bytes c.self.inside.name) c.args.bytes.now c.self.inside.columns.items c.deref_mut.result.now c.grow.new.columns c.grow.new.columns c.self.inside.indexes.items c.deref.result.now c.self.inside.len (table_figures_of c.self.inside.figures) c.args.self.now c.in-Ok.field-0 c.self.view_is c.self.invariant.filled c.self.invariant.ordered
+    c.deref_mut.ensures.value c.deref.ensures.value (c.in-Ok.ensures).ok refl).1 in
+    now.few
+
+pub counted-self-inside-requires-clause-types : goal.counted-self-inside-requires-clause-types
+counted-self-inside-requires-clause-types c =
+    let now = (loading_own (string_bytes c.self.inside.name) c.args.bytes.now c.self.inside.columns.items c.deref_mut.result.now c.grow.new.columns c.deref-in-Ok.result.now c.self.inside.indexes.items c.deref.result.now c.self.inside.len (table_figures_of c.self.inside.figures) c.args.self.now c.in-Ok.field-0 c.self.view_is c.self.invariant.filled c.self.invariant.ordered
+    c.deref_mut.ensures.value c.deref.ensures.value (c.in-Ok.ensures).ok (c.deref-in-Ok.ensures.value ∙ with_items_is c.self.inside.columns c.grow.new.columns (c.grow.auto.columns ∙ c.deref_mut.ensures.len))).1 in
+    let valid : IsTable c.args.self.now = rw c.self.view_is at c.self.invariant.valid in
+    (types_now _ _ _ _ _ valid now).0
+
+pub counted-self-inside-requires-clause-narrow : goal.counted-self-inside-requires-clause-narrow
+counted-self-inside-requires-clause-narrow c =
+    let now = (loading_own (string_bytes c.self.inside.name) c.args.bytes.now c.self.inside.columns.items c.deref_mut.result.now c.grow.new.columns c.deref-in-Ok.result.now c.self.inside.indexes.items c.deref.result.now c.self.inside.len (table_figures_of c.self.inside.figures) c.args.self.now c.in-Ok.field-0 c.self.view_is c.self.invariant.filled c.self.invariant.ordered
+    c.deref_mut.ensures.value c.deref.ensures.value (c.in-Ok.ensures).ok (c.deref-in-Ok.ensures.value ∙ with_items_is c.self.inside.columns c.grow.new.columns (c.grow.auto.columns ∙ c.deref_mut.ensures.len))).1 in
+    let valid : IsTable c.args.self.now = rw c.self.view_is at c.self.invariant.valid in
+    (types_now _ _ _ _ _ valid now).1
+
+loaded : (c : goal.After-self-in-Ok-2-1) → LoadedTable (string_bytes c.self.inside.name) c.args.bytes.now (with_items c.self.inside.columns c.grow.new.columns).items c.in-Ok.field-0.indexes.items (c.self.inside.len + c.in-Ok.field-0.rows) c.in-Ok.field-0.rows
+    (table_figures_of c.counted-self-inside.result) c.args.self.now
 loaded c =
-    loads_table (string_bytes c.self.inside.name) c.args.bytes.now c.self.inside.columns.items c.deref_mut.result.now c.push_records.new.columns _ c.self.inside.len _ c.in-Ok.count c.args.self.now
-    c.self.view_is c.self.invariant.filled c.self.invariant.few c.deref_mut.ensures.value refl (pushed c) (c.in-Ok.ensures).ok
+    let valid : IsTable c.args.self.now = rw c.self.view_is at c.self.invariant.valid in
+    loaded_own (string_bytes c.self.inside.name) c.args.bytes.now c.self.inside.columns.items c.deref_mut.result.now c.grow.new.columns (with_items c.self.inside.columns c.grow.new.columns).items c.self.inside.indexes.items c.deref.result.now c.self.inside.len
+    (table_figures_of c.self.inside.figures) (table_figures_of c.counted-self-inside.result) c.args.self.now c.in-Ok.field-0 c.self.view_is c.self.invariant.filled c.self.invariant.ordered valid
+    c.deref_mut.ensures.value c.deref.ensures.value (c.in-Ok.ensures).ok (with_items_is c.self.inside.columns c.grow.new.columns (c.grow.auto.columns ∙ c.deref_mut.ensures.len))
+    (rw c.deref-in-Ok.ensures.value at c.counted-self-inside.ensures)
 
 pub invariant_of-self : goal.invariant_of-self
-invariant_of-self c =
-    let t = loaded c in
-    let (rows, loads, few, count, new) = t.loads in
-    let valid = rw c.self.view_is at c.self.invariant.valid in
-    record { filled = t.filled; few = t.few; valid = rw new (table_with_rows c.args.self.now loads.0 rows valid loads.2 few) }
+invariant_of-self c = let t = loaded c in record { filled = t.filled; few = t.few; ordered = t.ordered; valid = t.valid }
 
 pub returns-in-Ok-clause-ok : goal.returns-in-Ok-clause-ok
 returns-in-Ok-clause-ok c = (loaded c).loads
 
-pub cut_columns-requires : goal.cut_columns-requires
-cut_columns-requires c = columns_long c.self.inside.columns.items c.deref_mut.result.now c.push_records.new.columns _ c.self.inside.len c.self.invariant.filled c.deref_mut.ensures.value (c.in-Err.ensures).err
-    (c.deref_mut-in-Err.ensures.value ∙ with_items_is c.self.inside.columns c.push_records.new.columns (c.push_records.auto.columns ∙ c.deref_mut.ensures.len))
-
--- the columns are as they were
-back : (c : goal.After-self-in-Err-1) → (with_items (with_items c.self.inside.columns c.push_records.new.columns) c.cut_columns.new.columns).items ≡ c.self.inside.columns.items
-back c =
-    columns_back c.self.inside.columns.items c.deref_mut.result.now c.push_records.new.columns _ _ c.cut_columns.new.columns c.self.inside.len c.self.invariant.filled c.deref_mut.ensures.value (c.in-Err.ensures).err
-    (c.deref_mut-in-Err.ensures.value ∙ with_items_is c.self.inside.columns c.push_records.new.columns (c.push_records.auto.columns ∙ c.deref_mut.ensures.len))
-    c.cut_columns.ensures
-    (with_items_is (with_items c.self.inside.columns c.push_records.new.columns) c.cut_columns.new.columns (c.cut_columns.auto.columns ∙ c.deref_mut-in-Err.ensures.len))
-
-pub invariant_of-self-in-Err : goal.invariant_of-self-in-Err
-invariant_of-self-in-Err c = record { filled = rw (back c) c.self.invariant.filled; few = c.self.invariant.few; valid = rw (back c) c.self.invariant.valid }
+-- ---- they did not
 
 pub returns-in-Err-clause-refused : goal.returns-in-Err-clause-refused
 returns-in-Err-clause-refused c =
-    refuses_table (string_bytes c.self.inside.name) c.args.bytes.now c.self.inside.columns.items c.deref_mut.result.now c.self.inside.len _ c.args.self.now c.in-Err.fault
-    c.self.view_is c.self.invariant.few c.deref_mut.ensures.value refl (c.in-Err.ensures).refused
+    own_refusal c.args.bytes.now c.self.inside.columns.items c.deref_mut.result.now c.self.inside.indexes.items c.deref.result.now c.self.inside.len c.args.self.now c.in-Err.fault c.deref_mut.ensures.value c.deref.ensures.value
+    (c.in-Err.ensures).refused (of_view _ _ _ c.self.inside.len _ _ c.self.view_is)
+
+pub cut_columns-requires : goal.cut_columns-requires
+cut_columns-requires c = columns_long c.self.inside.columns.items c.deref_mut.result.now c.grow.new.columns _ c.self.inside.len c.self.invariant.filled c.deref_mut.ensures.value (c.in-Err.ensures).err
+    (c.deref_mut-in-Err.ensures.value ∙ with_items_is c.self.inside.columns c.grow.new.columns (c.grow.auto.columns ∙ c.deref_mut.ensures.len))
+
+-- the columns are as they were
+back : (c : goal.After-self-in-Err-1) → (with_items (with_items c.self.inside.columns c.grow.new.columns) c.cut_columns.new.columns).items ≡ c.self.inside.columns.items
+back c =
+    columns_back c.self.inside.columns.items c.deref_mut.result.now c.grow.new.columns _ _ c.cut_columns.new.columns c.self.inside.len c.self.invariant.filled c.deref_mut.ensures.value (c.in-Err.ensures).err
+    (c.deref_mut-in-Err.ensures.value ∙ with_items_is c.self.inside.columns c.grow.new.columns (c.grow.auto.columns ∙ c.deref_mut.ensures.len))
+    c.cut_columns.ensures
+    (with_items_is (with_items c.self.inside.columns c.grow.new.columns) c.cut_columns.new.columns (c.cut_columns.auto.columns ∙ c.deref_mut-in-Err.ensures.len))
+
+pub invariant_of-self-in-Err : goal.invariant_of-self-in-Err
+invariant_of-self-in-Err c = record { filled = rw (back c) c.self.invariant.filled; few = c.self.invariant.few; ordered = rw (back c) c.self.invariant.ordered; valid = rw (back c) c.self.invariant.valid }
 
 pub returns-in-Err-clause-err : goal.returns-in-Err-clause-err
-returns-in-Err-clause-err c = ap (λ cs. table_of (string_bytes c.self.inside.name) cs c.self.inside.len) (back c) ∙ c.self.view_is
+returns-in-Err-clause-err c =
+    ap (λ cs. table_of (string_bytes c.self.inside.name) cs c.self.inside.indexes.items c.self.inside.len (table_figures_of c.self.inside.figures)) (back c) ∙ c.self.view_is

@@ -1,47 +1,34 @@
-use Rattle.std.proofs.Common.{refl, ◌≡◌, ◌∙◌, ap, rules, take, map, arith, true, false}
+use Rattle.std.proofs.Common.{◌∙◌, refl, arith, rules}
 use Rattle.std.specs.String.{string_bytes}
-use Rattle.std.proofs.lemmas.List.{take_all, length-map}
-use Rattle.catalog.specs.Meaning.{definition_of, definitions_of}
-use Rattle.catalog.specs.Creates.{AreTypes}
-use Rattle.catalog.proofs.Typing.{new_is_table}
-use Rattle.catalog.specs.Stored.{empty_column, table_of}
-use Rattle.definitions.specs.Table.{IsTable}
-use Rattle.catalog.proofs.Rows.{untyped_at, empty_filled, new_is}
+use Rattle.trees.specs.Trees.{definitions_of}
+use Rattle.catalog.proofs.Creating.{empty_filled}
+use Rattle.catalog.proofs.NewTables.{new_is, new_valid, types_of_new}
 use Rattle.catalog.proofs.table.Table.new.Goals as goal
 
--- all columns are made
-made : (c : goal.In_ok-name) → c.loop-place.made.items ≡ map empty_column (definitions_of c.args.columns.now)
-made c =
-    let all : take c.loop-place.place c.args.columns.now ≡ c.args.columns.now = take_all c.loop-place.place c.args.columns.now c.loop-place-test.false in
-    c.loop-place.invariant.made ∙ ap (λ ns. map empty_column (definitions_of ns)) all
+pub key_indexes-requires-clause-filled : goal.key_indexes-requires-clause-filled
+key_indexes-requires-clause-filled c = rw (c.as_slice.ensures.value ∙ (c.in_ok-columns.ensures).ok) (empty_filled (definitions_of c.args.definitions.now))
 
-pub returns-in-Err-clause-err : goal.returns-in-Err-clause-err
-returns-in-Err-clause-err c = untyped_at c.args.columns.now c.loop-place.place _ c.loop-place-test.true (λ t. let clash : false ≡ true = (c.in-Err.ensures).in_range.1 t in cc)
-
--- and have types
-typed : (c : goal.In_ok-name) → AreTypes (definitions_of c.args.columns.now)
-typed c =
-    let all : take c.loop-place.place c.args.columns.now ≡ c.args.columns.now = take_all c.loop-place.place c.args.columns.now c.loop-place-test.false in
-    let types = c.loop-place.invariant.types in
-    rw all at types
-
--- and are those of a table
-valid : (c : goal.In_ok-name) → IsTable (table_of (string_bytes c.in_ok-name.name) c.loop-place.made.items 0)
-valid c =
-    rw (new_is (string_bytes c.in_ok-name.name) _ _ (definitions_of c.args.columns.now) refl (made c))
-    (new_is_table (string_bytes c.in_ok-name.name) (definitions_of c.args.columns.now) (omega (arith, c.requires.narrow, length-map c.args.columns.now definition_of)) c.requires.distinct (typed c))
-
-pub invariant_of-result : goal.invariant_of-result
-invariant_of-result c = record {
-  filled = rw (made c) (empty_filled (definitions_of c.args.columns.now));
-  few = omega arith;
-  valid = valid c;
-}
-
-pub returns-clause-valid : goal.returns-clause-valid
-returns-clause-valid c = valid c
+pub counted-figures-requires-clause-types : goal.counted-figures-requires-clause-types
+counted-figures-requires-clause-types c = rw (c.as_slice-2.ensures.value ∙ (c.in_ok-columns.ensures).ok) (types_of_new (definitions_of c.args.definitions.now) (c.in_ok-columns.ensures).types)
 
 pub returns-clause-ok : goal.returns-clause-ok
 returns-clause-ok c =
-    let name : string_bytes c.in_ok-name.name ≡ c.args.name.now = search rules in
-    new_is _ _ _ (definitions_of c.args.columns.now) name (made c)
+    new_is (string_bytes c.in_ok-name.name) c.args.name.now (definitions_of c.args.definitions.now) c.in_ok-columns.columns.items c.as_slice.result.now c.as_slice-2.result.now c.in_ok-indexes.indexes.items _ (search rules) (c.in_ok-columns.ensures).ok
+    c.as_slice.ensures.value c.as_slice-2.ensures.value (c.in_ok-indexes.ensures).ok c.counted-figures.ensures
+
+pub returns-clause-valid : goal.returns-clause-valid
+returns-clause-valid c =
+    rw (new_is (string_bytes c.in_ok-name.name) (string_bytes c.in_ok-name.name) (definitions_of c.args.definitions.now) c.in_ok-columns.columns.items c.as_slice.result.now c.as_slice-2.result.now c.in_ok-indexes.indexes.items _ refl (c.in_ok-columns.ensures).ok
+    c.as_slice.ensures.value c.as_slice-2.ensures.value (c.in_ok-indexes.ensures).ok c.counted-figures.ensures)
+    (new_valid (string_bytes c.in_ok-name.name) (definitions_of c.args.definitions.now) c.requires (c.in_ok-columns.ensures).types)
+
+pub invariant_of-result : goal.invariant_of-result
+invariant_of-result c = record {
+  filled = rw (c.in_ok-columns.ensures).ok (empty_filled (definitions_of c.args.definitions.now));
+  few = omega arith;
+  ordered = rw (← c.as_slice.ensures.value) (c.in_ok-indexes.ensures).ordered;
+  valid =
+      rw (new_is (string_bytes c.in_ok-name.name) (string_bytes c.in_ok-name.name) (definitions_of c.args.definitions.now) c.in_ok-columns.columns.items c.as_slice.result.now c.as_slice-2.result.now c.in_ok-indexes.indexes.items _ refl (c.in_ok-columns.ensures).ok
+      c.as_slice.ensures.value c.as_slice-2.ensures.value (c.in_ok-indexes.ensures).ok c.counted-figures.ensures)
+      (new_valid (string_bytes c.in_ok-name.name) (definitions_of c.args.definitions.now) c.requires (c.in_ok-columns.ensures).types);
+}

@@ -1,0 +1,34 @@
+-- A table as CREATE TABLE makes it.
+use Rattle.std.proofs.Common.{◌≡◌, ◌∙◌, ap, ap₂, List, [], ◌∷◌, map}
+use Rattle.std.specs.List.{AllByRecursion}
+use Rattle.definitions.specs.Value.{IsType}
+use Rattle.definitions.specs.Statement.{Name, ColumnDefinition}
+use Rattle.definitions.specs.Table.{Column, TableFigures}
+use Rattle.definitions.specs.Figures.{row_width, pages_for}
+use Rattle.definitions.specs.Change.{column_of, key_indexes, new_table}
+use Rattle.definitions.specs.Invariant.{IsTable}
+use Rattle.definitions.proofs.Counting.{new_is_table}
+use Rattle.loading.specs.Stored.{StoredColumn, headers}
+use Rattle.table_indexes.specs.Indexes.{StoredIndex}
+use Rattle.catalog.specs.Creates.{AreJudged, AreTypes, empty_column, without_rows}
+use Rattle.catalog.specs.Tables.{table_of}
+use Rattle.catalog.proofs.Creating.{empty_headers}
+
+columns_typed : (ds : List ColumnDefinition) → AreTypes ds → AllByRecursion (λ (c : Column). IsType c.type) (map column_of ds)
+columns_typed [] h = tt
+columns_typed (d ∷ ds) h = (h.0, columns_typed ds h.1)
+
+pub types_of_new : (ds : List ColumnDefinition) → AreTypes ds → AllByRecursion (λ (c : Column). IsType c.type) (headers (map empty_column ds))
+types_of_new ds h = rw (empty_headers ds) (columns_typed ds h)
+
+pub new_is : (own name : Name) (ds : List ColumnDefinition) (cs lent lent' : List StoredColumn) (is : List StoredIndex) (f : TableFigures) → own ≡ name → cs ≡ map empty_column ds → lent ≡ cs → lent' ≡ cs
+    → map (λ (i : StoredIndex). i.index) is ≡ without_rows (headers lent) (key_indexes 0 ds) → f ≡ record { rows = 0; pages = pages_for 0 (row_width (headers lent')) } → table_of own cs is 0 f ≡ new_table name ds
+new_is own name ds cs lent lent' is f e c l l' i g =
+    let columns : headers cs ≡ map column_of ds = ap headers c ∙ empty_headers ds in
+    ap₂ (λ n cs'. record { name = n; columns = cs'; indexes = map (λ (x : StoredIndex). x.index) is; rows = []; figures = f }) e columns
+    ∙ ap₂ (λ xs x. record { name = name; columns = map column_of ds; indexes = xs; rows = []; figures = x })
+    (i ∙ ap (λ cs'. without_rows (headers cs') (key_indexes 0 ds)) l ∙ ap (λ hs. without_rows hs (key_indexes 0 ds)) columns)
+    (g ∙ ap (λ cs'. record { rows = 0; pages = pages_for 0 (row_width (headers cs')) }) l' ∙ ap (λ hs. record { rows = 0; pages = pages_for 0 (row_width hs) }) columns)
+
+pub new_valid : (name : Name) (ds : List ColumnDefinition) → AreJudged ds → AreTypes ds → IsTable (new_table name ds)
+new_valid name ds j t = new_is_table name ds j.narrow j.distinct t j.keys j.primary

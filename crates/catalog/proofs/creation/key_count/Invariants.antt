@@ -1,0 +1,10 @@
+use Rattle.std.proofs.Common.{◌≡◌, take}
+use Rattle.std.specs.Prelude.{count_by}
+use Rattle.definitions.specs.Table.{is_key}
+use Rattle.trees.specs.Trees.{constraint_of}
+use Rattle.trees.specs.declared.statement.ColumnDefinition.{ColumnDefinition}
+use Rattle.catalog.proofs.creation.key_count.Given as goal
+
+-- those so far
+abbrev pub invariant-loop-definition : goal.invariant-loop-definition
+invariant-loop-definition l = l.count ≡ count_by (λ (d : ColumnDefinition). is_key (constraint_of d.constraint)) (take l.definition-index l.definitions)

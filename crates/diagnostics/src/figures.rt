@@ -1,0 +1,126 @@
+//! Why the figures of a table or of an index are not set.
+
+use crate::list::{Listed, name_at, name_in_list, write_list};
+use catalog::{Database, FiguresFault, MAX_FIGURE, RangeEnd, TableFiguresFault};
+use sqlr::{ColumnList, FiguresCause, TableFiguresCause};
+use std::fmt::{self, Display, Formatter};
+use syntax::{Bound, Count, Range};
+
+/// The byte of the script that a fault of a table's figures is about.
+pub(crate) fn offset_of_table_figures(cause: TableFiguresCause) -> usize {
+    match cause.fault {
+        TableFiguresFault::NoTable => cause.table.start,
+        TableFiguresFault::Rows => cause.rows.start,
+        TableFiguresFault::Pages => cause.pages.start,
+    }
+}
+
+pub(crate) fn write_table_figures<W: fmt::Write>(
+    f: &mut Formatter<W>,
+    cause: TableFiguresCause,
+) -> fmt::Result {
+    match cause.fault {
+        TableFiguresFault::NoTable => write!(f, "there is no table {}", cause.table.text),
+        TableFiguresFault::Rows => write_out_of_range(f, "ROWS", cause.rows, 0),
+        TableFiguresFault::Pages => write_out_of_range(f, "PAGES", cause.pages, 1),
+    }
+}
+
+fn write_out_of_range<W: fmt::Write>(
+    f: &mut Formatter<W>,
+    figure: &str,
+    given: Count,
+    least: u8,
+) -> fmt::Result {
+    let units = given.units;
+    write!(
+        f,
+        "{figure} can't be {units}: it is {least} to {MAX_FIGURE}"
+    )
+}
+
+/// The byte of the script that a fault of an index's figures is about.
+pub(crate) fn offset_of_figures(cause: FiguresCause) -> usize {
+    match (cause.fault, cause.figures.range) {
+        (FiguresFault::List(fault), _) => name_in_list(cause.list, fault).start,
+        (FiguresFault::Keys, _) => cause.figures.keys.start,
+        (FiguresFault::Pages, _) => cause.figures.pages.start,
+        (FiguresFault::Unfit { end }, Some(range)) => bound_at(range, end).number.start,
+        (FiguresFault::Texts | FiguresFault::Falls, Some(range)) => range.low.number.start,
+        _ => name_at(cause.list, 0).start,
+    }
+}
+
+fn bound_at(range: Range, end: RangeEnd) -> Bound {
+    match end {
+        RangeEnd::Low => range.low,
+        RangeEnd::High => range.high,
+    }
+}
+
+pub(crate) fn write_figures<W: fmt::Write>(
+    f: &mut Formatter<W>,
+    script: &str,
+    database: &Database,
+    cause: FiguresCause,
+) -> fmt::Result {
+    let (list, figures) = (cause.list, cause.figures);
+    match (cause.fault, figures.range) {
+        (FiguresFault::List(fault), _) => write_list(f, list, fault),
+        (FiguresFault::NoIndex, _) => {
+            let columns = Listed(list.columns);
+            write!(f, "table {} has no index on {columns}", list.table.text)
+        }
+        (FiguresFault::Keys, _) => write_out_of_range(f, "KEYS", figures.keys, 0),
+        (FiguresFault::Pages, _) => write_out_of_range(f, "PAGES", figures.pages, 1),
+        (FiguresFault::Texts, _) => {
+            f.write_str("LOW and HIGH are numbers")?;
+            write_first_type(f, database, list)
+        }
+        (FiguresFault::Unfit { end }, Some(range)) => {
+            let word = if end == RangeEnd::Low { "LOW" } else { "HIGH" };
+            write!(
+                f,
+                "{word} can't be {}",
+                Written(script, bound_at(range, end))
+            )?;
+            write_first_type(f, database, list)
+        }
+        (FiguresFault::Falls, Some(Range { low, high })) => {
+            let (low, high) = (Written(script, low), Written(script, high));
+            write!(f, "LOW {low} is above HIGH {high}")
+        }
+        (FiguresFault::Unfit { .. } | FiguresFault::Falls, None) => Ok(()),
+    }
+}
+
+/// `: A is INTEGER`, of the first column of a list.
+fn write_first_type<W: fmt::Write>(
+    f: &mut Formatter<W>,
+    database: &Database,
+    list: ColumnList,
+) -> fmt::Result {
+    let name = name_at(list, 0).text.as_str();
+    if let Some(table) = database.table(list.table.text.as_str())
+        && let Some(column) = table.column(name)
+    {
+        write!(f, ": {name} is {}", table.sql_type(column))?;
+    }
+    Ok(())
+}
+
+/// A bound as a script has it.
+#[derive(Clone, Copy)]
+struct Written<'a>(&'a str, Bound);
+
+impl Display for Written<'_> {
+    fn fmt<W: fmt::Write>(&self, f: &mut Formatter<W>) -> fmt::Result {
+        if self.1.minus {
+            f.write_str("-")?;
+        }
+        let behind = self.0.get(self.1.number.start..).unwrap_or("");
+        let bytes = behind.as_bytes().iter();
+        let digits = bytes.take_while(|byte| matches!(**byte, b'0'..=b'9' | b'.'));
+        f.write_str(behind.get(..digits.count()).unwrap_or(""))
+    }
+}

@@ -1,0 +1,9 @@
+pub mod Scaling
+pub mod Numerals
+pub mod Stored
+pub mod TextFields
+pub mod Rows
+pub mod Pushing
+pub mod Reading
+pub mod Loading
+pub mod Typing

@@ -1,0 +1,11 @@
+pub use Rattle.definitions.specs.Table
+pub use Rattle.definitions.specs.Refusal
+pub use Rattle.definitions.specs.Loading
+pub mod Meaning
+pub mod Stored
+pub mod Pushes
+pub mod NumberTypes
+pub mod Fields
+pub mod Cells
+pub mod Columns
+pub mod Files

@@ -1,0 +1,48 @@
+//! Statements that change a database, from their text.
+
+use catalog::Database;
+use lexer::lex;
+use std::alloc::Global;
+use syntax::{Statement, parse};
+
+/// Whether each statement of a script changes a database.
+pub(crate) fn apply(alloc: Global, database: &mut Database, script: &str) -> bool {
+    let Ok(tokens) = lex(alloc, script) else {
+        return false;
+    };
+    let Ok(statements) = parse(alloc, &tokens, script.len()) else {
+        return false;
+    };
+    for statement in &statements {
+        if !changes(database, statement) {
+            return false;
+        }
+    }
+    true
+}
+
+fn changes(database: &mut Database, statement: &Statement) -> bool {
+    match statement {
+        Statement::CreateTable { name, columns } => {
+            database.create_table(name.text.as_str(), columns).is_ok()
+        }
+        Statement::CreateIndex {
+            unique,
+            table,
+            columns,
+        } => database
+            .create_index(*unique, table.text.as_str(), columns)
+            .is_ok(),
+        Statement::SetTable { table, rows, pages } => database
+            .set_table(table.text.as_str(), rows.units, pages.units)
+            .is_ok(),
+        Statement::SetIndex {
+            table,
+            columns,
+            figures,
+        } => database
+            .set_index(table.text.as_str(), columns, figures)
+            .is_ok(),
+        _ => false,
+    }
+}

@@ -1,0 +1,107 @@
+//! Statements that print OK: CREATE TABLE, CREATE INDEX and SET STATISTICS.
+
+ghost use Rattle.std.specs.Prelude.{◌≡◌, map, IfOk, IfErr, OnErr};
+ghost use Rattle.definitions.specs.Statement as tree;
+ghost use Rattle.trees.specs.Trees.{definitions_of, figures_of, name_of};
+ghost use Rattle.sqlr.specs.declared.outcome.StepFault.TheVariants as fault;
+ghost use Rattle.sqlr.specs.Outcomes.{Changes};
+
+use crate::cause::{Cause, ColumnList, FiguresCause, TableFiguresCause};
+use crate::outcome::{Printed, StepFault, done, refused, refused_by};
+use catalog::Database;
+use std::alloc::Global;
+use syntax::{ColumnDefinition, Count, IndexFigures, Name};
+
+pub fn create_table<'a>(
+    alloc: Global,
+    database: &mut Database,
+    name: &'a Name,
+    columns: &'a [ColumnDefinition],
+) -> Result<Printed<'a>, StepFault>
+    ensures changes { IfOk result (Changes database.old (tree.CreateTable (name_of name.now) (definitions_of columns.now)) database.new) }
+    ensures kept { OnErr result (database.new ≡ database.old) }
+    ensures memory { IfErr result (λ f. f ≡ fault.Memory) }
+{
+    let text = Vec::from_slice(alloc, b"OK\n")?;
+    let fault = match database.create_table(name.text.as_str(), columns) {
+        Ok(()) => return Ok(done(text)),
+        Err(fault) => fault,
+    };
+    let cause = Cause::Create {
+        name,
+        columns,
+        fault,
+    };
+    refused_by(alloc, fault.refusal(), cause)
+}
+
+pub fn create_index<'a>(
+    alloc: Global,
+    database: &mut Database,
+    unique: bool,
+    table: &'a Name,
+    columns: &'a [Name],
+) -> Result<Printed<'a>, StepFault>
+    ensures changes { IfOk result (Changes database.old (tree.CreateIndex unique (name_of table.now) (map name_of columns.now)) database.new) }
+    ensures kept { OnErr result (database.new ≡ database.old) }
+    ensures memory { IfErr result (λ f. f ≡ fault.Memory) }
+{
+    let text = Vec::from_slice(alloc, b"OK\n")?;
+    let fault = match database.create_index(unique, table.text.as_str(), columns) {
+        Ok(()) => return Ok(done(text)),
+        Err(fault) => fault,
+    };
+    let list = ColumnList { table, columns };
+    refused_by(alloc, fault.refusal(), Cause::Index { list, fault })
+}
+
+/// SET STATISTICS of a table.
+pub fn set_table<'a>(
+    alloc: Global,
+    database: &mut Database,
+    table: &'a Name,
+    rows: Count,
+    pages: Count,
+) -> Result<Printed<'a>, StepFault>
+    ensures changes { IfOk result (Changes database.old (tree.SetTable (name_of table.now) rows.units pages.units) database.new) }
+    ensures kept { OnErr result (database.new ≡ database.old) }
+    ensures memory { IfErr result (λ f. f ≡ fault.Memory) }
+{
+    let text = Vec::from_slice(alloc, b"OK\n")?;
+    let fault = match database.set_table(table.text.as_str(), rows.units, pages.units) {
+        Ok(()) => return Ok(done(text)),
+        Err(fault) => fault,
+    };
+    let cause = TableFiguresCause {
+        table,
+        rows,
+        pages,
+        fault,
+    };
+    refused(alloc, fault.refusal(), Cause::TableFigures(cause))
+}
+
+/// SET STATISTICS of an index.
+pub fn set_index<'a>(
+    alloc: Global,
+    database: &mut Database,
+    table: &'a Name,
+    columns: &'a [Name],
+    figures: &'a IndexFigures,
+) -> Result<Printed<'a>, StepFault>
+    ensures changes { IfOk result (Changes database.old (tree.SetIndex (name_of table.now) (map name_of columns.now) (figures_of figures.now)) database.new) }
+    ensures kept { OnErr result (database.new ≡ database.old) }
+    ensures memory { IfErr result (λ f. f ≡ fault.Memory) }
+{
+    let text = Vec::from_slice(alloc, b"OK\n")?;
+    let fault = match database.set_index(table.text.as_str(), columns, figures) {
+        Ok(()) => return Ok(done(text)),
+        Err(fault) => fault,
+    };
+    let cause = FiguresCause {
+        list: ColumnList { table, columns },
+        figures,
+        fault,
+    };
+    refused_by(alloc, fault.refusal(), Cause::Figures(cause))
+}
