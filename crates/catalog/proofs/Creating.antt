@@ -13,7 +13,8 @@ use Rattle.definitions.specs.Figures.{index_figures}
 use Rattle.definitions.specs.Change as made
 use Rattle.definitions.specs.Change.{Makes, column_of, new_index, key_indexes, new_table}
 use Rattle.definitions.specs.Faults as faults
-use Rattle.definitions.specs.Faults.{Faulty, IsAccepted, AnyOf, count_of, definition_names}
+use Rattle.definitions.specs.Faults.{Faulty, IsAccepted, count_of, definition_names}
+use Rattle.definitions.specs.Lists.{AnyOf}
 use Rattle.definitions.specs.Invariant.{IsDatabase}
 use Rattle.definitions.proofs.Steps.{made_database}
 use Rattle.loading.specs.Stored.{StoredColumn, AreFilled, headers}

@@ -6,7 +6,8 @@ use Rattle.definitions.specs.Value.{IsType}
 use Rattle.definitions.specs.Statement.{ColumnDefinition}
 use Rattle.definitions.specs.Table.{Column, Index, AreDistinct, is_key, is_primary}
 use Rattle.definitions.specs.Figures.{index_figures}
-use Rattle.definitions.specs.Faults.{AnyOf, count_of, definition_names}
+use Rattle.definitions.specs.Faults.{count_of, definition_names}
+use Rattle.definitions.specs.Lists.{AnyOf}
 use Rattle.loading.specs.Stored.{StoredColumn, named}
 use Rattle.catalog.specs.declared.fault.CreateFault.{CreateFault}
 use Rattle.catalog.specs.declared.fault.CreateFault.TheVariants as c

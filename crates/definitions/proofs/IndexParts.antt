@@ -1,6 +1,6 @@
 -- The entries of a run whose keys begin with values, or lie in a range, stand together: a key between two such is one too.
-use Rattle.std.proofs.Common.{◌≡◌, ◌≢◌, ◌∙◌, refl, sym, ap, ap₂, ◌⊎◌, inl, inr, ℕ, suc, ◌+◌, List, [], ◌∷◌, ◌++◌, Bool, true, false, map}
-use Rattle.std.specs.Prelude.{not, ◌&&◌, filter, cond, IsTrue, Option, Some, None, option_map, unwrap_or, is_none, IsPermutation, All}
+use Rattle.std.proofs.Common.{◌≡◌, ◌≢◌, ◌∙◌, refl, sym, ap, ap₂, inl, inr, ℕ, ◌+◌, List, [], ◌∷◌, ◌++◌, Bool, true, false}
+use Rattle.std.specs.Prelude.{not, ◌&&◌, filter, IsTrue, Option, Some, None, option_map, unwrap_or, is_none}
 use Rattle.std.specs.List.{AllByRecursion}
 use Rattle.std.proofs.lemmas.Bool.{false≢true}
 use Rattle.std.proofs.lemmas.List.Elements.{All-from_recursion, recursion_from_All}

@@ -16,3 +16,5 @@ mod Examples
 mod TableExamples
 mod Runs
 pub mod PlanTheory
+pub mod QueryTheory
+pub mod BindingTheory

@@ -24,7 +24,8 @@ use Rattle.definitions.specs.Change.{new_table, with_index, with_table_figures, 
 use Rattle.definitions.specs.IndexFaults as index
 use Rattle.definitions.specs.IndexFaults.{ListFaulty, IndexFaulty, FiguresFaulty, Falls}
 use Rattle.definitions.specs.Faults as faults
-use Rattle.definitions.specs.Faults.{Faulty, IsAccepted, AnyOf, count_of, definition_names}
+use Rattle.definitions.specs.Faults.{Faulty, IsAccepted, count_of, definition_names}
+use Rattle.definitions.specs.Lists.{AnyOf}
 use Rattle.definitions.specs.Invariant.{IsCount, IsPageCount, IsRange, IsIndex, IsTable, IsDatabase, AreApart, type_at}
 use Rattle.definitions.specs.Step as step
 use Rattle.definitions.specs.Step.{State, Answering, Step, Ended, Loaded}

@@ -1,5 +1,6 @@
 -- Which faults a statement has over a database.
 use Rattle.std.specs.Prelude.{ℕ, Bool, ◌<◌, ◌≤◌, ◌≡◌, ◌≢◌, ◌⊎◌, List, [], ◌∷◌, Option, Some, None, length, map, count_by, option_map}
+use Rattle.definitions.specs.Lists.{AnyOf}
 use Rattle.definitions.specs.Limits.{most_tables, most_columns, most_indexes, most_items, greatest_scale}
 use Rattle.definitions.specs.Refusal.{Refusal, NameTaken, NotFound, OverLimit, ScaleTooGreat, UnknownColumn, MixedKinds, OverQueryLimit}
 use Rattle.definitions.specs.Value.{IsType, Kind, Numbers, Texts, kind_of}
@@ -41,11 +42,6 @@ MixesKinds t _ = ⊥
 abbrev pub IfPresent : (Expr → Type 0) → Option Expr → Type 0
 IfPresent P None = ⊥
 IfPresent P (Some e) = P e
-
--- some element of a list has a property
-abbrev pub AnyOf : {X : Type 0} → (X → Type 0) → List X → Type 0
-AnyOf P [] = ⊥
-AnyOf P (x ∷ xs) = P x ⊎ AnyOf P xs
 
 -- an expression of a block has a property
 abbrev pub InBlock : (Expr → Type 0) → Block → Type 0

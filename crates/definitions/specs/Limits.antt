@@ -42,9 +42,28 @@ most_index_columns = 4
 abbrev pub greatest_figure : ℕ
 greatest_figure = 10 ^ 18
 
--- of a query: the items of a select list, the scale of a literal
+-- of a query: its blocks, and of a block the tables, the items of its select list, the conjuncts of WHERE, the members of an IN list, the
+-- columns of GROUP BY, the keys of ORDER BY, and the scale of a number
+abbrev pub most_blocks : ℕ
+most_blocks = 32
+
+abbrev pub most_from_tables : ℕ
+most_from_tables = 14
+
 abbrev pub most_items : ℕ
 most_items = 64
+
+abbrev pub most_conjuncts : ℕ
+most_conjuncts = 64
+
+abbrev pub most_members : ℕ
+most_members = 256
+
+abbrev pub most_group_columns : ℕ
+most_group_columns = 16
+
+abbrev pub most_keys : ℕ
+most_keys = 16
 
 abbrev pub greatest_scale : ℕ
 greatest_scale = 18

@@ -9,6 +9,7 @@ use Rattle.definitions.specs.Table as table
 use Rattle.definitions.specs.Table.{Row, Table, Database, table_named, type_named, IsRow}
 use Rattle.definitions.specs.Refusal as r
 use Rattle.definitions.specs.Limits.{most_items}
+use Rattle.definitions.specs.Lists.{AnyOf}
 use Rattle.definitions.specs.Faults as faults
 use Rattle.definitions.specs.Answer.{value, is_kept, projected}
 use Rattle.definitions.specs.Printing.{expr_name}
@@ -25,9 +26,9 @@ use Rattle.definitions.specs.NotYet.{IsColumn, IsColumnItem, IsComparison, IsPla
 -- ---- the items of a select list
 
 abbrev pub AreKnown : Table → List Item → Type 0
-AreKnown t is = faults.AnyOf (λ (i : Item). faults.NamesUnknown t i.value) is → ⊥
+AreKnown t is = AnyOf (λ (i : Item). faults.NamesUnknown t i.value) is → ⊥
 
-pub any_at : {A X : Type 0} (P : X → Type 0) (f : A → X) (xs : List A) (i : ℕ) (x : A) → i < length xs → x ≡ get_or xs i x → P (f x) → faults.AnyOf P (map f xs)
+pub any_at : {A X : Type 0} (P : X → Type 0) (f : A → X) (xs : List A) (i : ℕ) (x : A) → i < length xs → x ≡ get_or xs i x → P (f x) → AnyOf P (map f xs)
 any_at P f [] i x l e h = absurd (omega (arith, l))
 any_at P f (y ∷ xs) zero x l e h = inl (subst (λ z. P (f z)) e h)
 any_at P f (y ∷ xs) (suc i) x l e h = inr (any_at P f xs i x (omega (arith, l)) e h)
@@ -123,7 +124,7 @@ only_table db b t u s h e n =
 column_has_no_scale : (e : Expr) → IsColumn e → faults.HasGreatScale e → ⊥
 column_has_no_scale e s h = subst faults.HasGreatScale (column_of e s).1 h
 
-columns_have_no_scale : (is : List Item) → AllByRecursion IsColumnItem is → faults.AnyOf (λ (i : Item). faults.HasGreatScale i.value) is → ⊥
+columns_have_no_scale : (is : List Item) → AllByRecursion IsColumnItem is → AnyOf (λ (i : Item). faults.HasGreatScale i.value) is → ⊥
 columns_have_no_scale [] s h = h
 columns_have_no_scale (i ∷ is) s (inl h) = column_has_no_scale i.value s.0.0 h
 columns_have_no_scale (i ∷ is) s (inr h) = columns_have_no_scale is s.1 h
@@ -131,7 +132,7 @@ columns_have_no_scale (i ∷ is) s (inr h) = columns_have_no_scale is s.1 h
 column_mixes_nothing : (t : Table) (e : Expr) → IsColumn e → faults.MixesKinds t e → ⊥
 column_mixes_nothing t e s h = subst (faults.MixesKinds t) (column_of e s).1 h
 
-columns_mix_nothing : (t : Table) (is : List Item) → AllByRecursion IsColumnItem is → faults.AnyOf (λ (i : Item). faults.MixesKinds t i.value) is → ⊥
+columns_mix_nothing : (t : Table) (is : List Item) → AllByRecursion IsColumnItem is → AnyOf (λ (i : Item). faults.MixesKinds t i.value) is → ⊥
 columns_mix_nothing t [] s h = h
 columns_mix_nothing t (i ∷ is) s (inl h) = column_mixes_nothing t i.value s.0.0 h
 columns_mix_nothing t (i ∷ is) s (inr h) = columns_mix_nothing t is s.1 h
@@ -154,10 +155,10 @@ faultless_kinds t (Some e) (Some c) h i = h.1.kinds i
 some_is_not_none : (t : Table) → Some t ≡ None → ⊥
 some_is_not_none t e = cc
 
-single_found : (db : Database) (b : Block) (t : Table) → IsFrom db b t → faults.AnyOf (λ (s : Source). table_named db s.table ≡ None) (block_sources b) → ⊥
-single_found db b t h a = found (subst (λ ss. faults.AnyOf (λ (s : Source). table_named db s.table ≡ None) ss) h.single a)
+single_found : (db : Database) (b : Block) (t : Table) → IsFrom db b t → AnyOf (λ (s : Source). table_named db s.table ≡ None) (block_sources b) → ⊥
+single_found db b t h a = found (subst (λ ss. AnyOf (λ (s : Source). table_named db s.table ≡ None) ss) h.single a)
   where
-    found : faults.AnyOf (λ (s : Source). table_named db s.table ≡ None) (h.source ∷ []) → ⊥
+    found : AnyOf (λ (s : Source). table_named db s.table ≡ None) (h.source ∷ []) → ⊥
     found (inl e) = some_is_not_none t (sym h.named ∙ e)
     found (inr n) = n
 
@@ -166,9 +167,9 @@ unfaulty : (db : Database) (b : Block) (t : Table) (c : Option Comparison) → I
 unfaulty db b t c s h l k n f (faults.no_table a) = single_found db b t h a
 unfaulty db b t c s h l k n f (faults.great_scale (inl a)) = columns_have_no_scale (block_items b) (plain_items b s) a
 unfaulty db b t c s h l k n f (faults.great_scale (inr a)) = faultless_scale t (block_condition b) c n a
-unfaulty db b t c s h l k n f (faults.unknown_column so u e m (inl a)) = k (subst (λ z. faults.AnyOf (λ (i : Item). faults.NamesUnknown z i.value) (block_items b)) (only_table db b t u so h e m) a)
+unfaulty db b t c s h l k n f (faults.unknown_column so u e m (inl a)) = k (subst (λ z. AnyOf (λ (i : Item). faults.NamesUnknown z i.value) (block_items b)) (only_table db b t u so h e m) a)
 unfaulty db b t c s h l k n f (faults.unknown_column so u e m (inr a)) = faultless_names t (block_condition b) c n (subst (λ z. faults.IfPresent (faults.NamesUnknown z) (block_condition b)) (only_table db b t u so h e m) a)
-unfaulty db b t c s h l k n f (faults.mixed_kinds so u e m (inl a)) = columns_mix_nothing t (block_items b) (plain_items b s) (subst (λ z. faults.AnyOf (λ (i : Item). faults.MixesKinds z i.value) (block_items b)) (only_table db b t u so h e m) a)
+unfaulty db b t c s h l k n f (faults.mixed_kinds so u e m (inl a)) = columns_mix_nothing t (block_items b) (plain_items b s) (subst (λ z. AnyOf (λ (i : Item). faults.MixesKinds z i.value) (block_items b)) (only_table db b t u so h e m) a)
 unfaulty db b t c s h l k n f (faults.mixed_kinds so u e m (inr a)) = faultless_kinds t (block_condition b) c n (subst (λ z. faults.IfPresent (faults.MixesKinds z) (block_condition b)) (only_table db b t u so h e m) a)
 unfaulty db b t c s h l k n f (faults.many_items a) = omega (arith, l, a)
 
@@ -178,7 +179,7 @@ pub bound_accepted : (db : Database) (b : Block) (t : Table) (c : Option Compari
 bound_accepted db b t c s h l k n f (faults.block q g a) = unfaulty db b t c s h l k n f a
 bound_accepted db b t c s h l k n f (faults.not_yet q a) = a (s, refl)
 
-pub unknown_item : (o : Option r.Refusal) (db : Database) (b : Block) (t : Table) → IsFrom db b t → IfSome o (λ f. (f ≡ r.UnknownColumn) × faults.AnyOf (λ (i : Item). faults.NamesUnknown t i.value) (block_items b)) → IfSome o (faults.BlockFaulty db b)
+pub unknown_item : (o : Option r.Refusal) (db : Database) (b : Block) (t : Table) → IsFrom db b t → IfSome o (λ f. (f ≡ r.UnknownColumn) × AnyOf (λ (i : Item). faults.NamesUnknown t i.value) (block_items b)) → IfSome o (faults.BlockFaulty db b)
 unknown_item None db b t h e = tt
 unknown_item (Some f) db b t h e = rw e.0 (faults.unknown_column h.source t h.single h.named (inl e.1))
 

@@ -5,6 +5,7 @@ ghost use Rattle.std.specs.List.{AllByRecursion};
 ghost use Rattle.definitions.specs.Answer as answer;
 ghost use Rattle.definitions.specs.Printing.{expr_name};
 ghost use Rattle.definitions.specs.Limits.{greatest_scale};
+ghost use Rattle.definitions.specs.Lists.{AnyOf};
 ghost use Rattle.definitions.specs.Faults as faults;
 ghost use Rattle.definitions.specs.Refusal as refusal;
 ghost use Rattle.definitions.specs.Statement.{Column, Query, Signed, block_items, block_sources, condition_expr};
@@ -141,8 +142,8 @@ fn item_columns<'a>(
     requires { AllByRecursion IsColumnItem (map item_of items.now) }
     ensures within { IfOk result (λ columns. All (λ place. place < length table.now.columns) columns.items) }
     ensures places { IfOk result (λ columns. ArePlaces table.now.columns (map item_of items.now) columns.items) }
-    ensures known { IfOk result (λ columns. faults.AnyOf (λ i. faults.NamesUnknown table.now i.value) (map item_of items.now) → ⊥) }
-    ensures refused { IfErr result (λ f. IfSome (bind_refusal f) (λ r. (r ≡ refusal.UnknownColumn) × faults.AnyOf (λ i. faults.NamesUnknown table.now i.value) (map item_of items.now))) }
+    ensures known { IfOk result (λ columns. AnyOf (λ i. faults.NamesUnknown table.now i.value) (map item_of items.now) → ⊥) }
+    ensures refused { IfErr result (λ f. IfSome (bind_refusal f) (λ r. (r ≡ refusal.UnknownColumn) × AnyOf (λ i. faults.NamesUnknown table.now i.value) (map item_of items.now))) }
 {
     let mut columns = Vec::new(alloc);
     'items: for item in items {

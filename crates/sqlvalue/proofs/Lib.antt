@@ -1,1 +1,3 @@
 pub mod Comparing
+mod Calculating
+pub mod Likeness

@@ -1,8 +1,9 @@
 -- What the values and types of this crate stand for.
-use Rattle.std.specs.Prelude.{◌<◌, ◌≤◌, ◌⊎◌, Bool, true, false}
+use Rattle.std.specs.Prelude.{◌<◌, ◌⊎◌, Bool, true, false}
 use Rattle.definitions.specs.Limits.{greatest_precision, greatest_length}
 use Rattle.definitions.specs.Value as spec
 use Rattle.definitions.specs.Statement as tree
+use Rattle.sqlvalue.specs.declared.number.Num.{Num}
 use Rattle.sqlvalue.specs.declared.value.Value.{Value}
 use Rattle.sqlvalue.specs.declared.value.Value.TheVariants as v
 use Rattle.sqlvalue.specs.declared.op.Op.{Op}
@@ -14,9 +15,12 @@ use Rattle.sqlvalue.specs.declared.sql_type.TypeFault.TheVariants as f
 use Rattle.sqlvalue.specs.declared.sql_type.SqlType.{SqlType}
 use Rattle.sqlvalue.specs.declared.sql_type.SqlType.TheVariants as t
 
+abbrev pub number_of : Num → spec.Value
+number_of n = spec.Number n.units n.scale
+
 abbrev pub value_of : Value → spec.Value
 value_of v.Null = spec.Null
-value_of (v.Num n) = spec.Number n.units n.scale
+value_of (v.Num n) = number_of n
 value_of (v.Text text) = spec.Text text.now
 
 abbrev pub op_of : Op → tree.Op

@@ -1,6 +1,6 @@
 //! Exact numbers.
 
-ghost use Rattle.std.specs.Prelude.{◌≡◌, ◌/◌, ◌%◌, ◌^◌, ◌<◌, ◌≤◌, pos, int_lt, nat_abs};
+ghost use Rattle.std.specs.Prelude.{◌≡◌, ◌/◌, ◌%◌, ◌^◌, ◌<◌, ◌≤◌, pos, int_lt, nat_abs, neg_ℤ};
 ghost use Rattle.definitions.specs.Limits.{most_digits, greatest_scale};
 
 /// An exact number: a whole number of units at a scale, `units / 10^scale`
@@ -19,6 +19,17 @@ impl Num {
         ensures { result ≡ int_lt self.units (pos 0) }
     {
         self.units < 0
+    }
+
+    /// The number on the other side of zero.
+    pub fn negated(self) -> Num
+        ensures units { result.units ≡ neg_ℤ self.units }
+        ensures scale { result.scale ≡ self.scale }
+    {
+        Num {
+            units: -self.units,
+            scale: self.scale,
+        }
     }
 
     /// Its units without their sign.

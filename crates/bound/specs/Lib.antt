@@ -1,0 +1,2 @@
+pub use Rattle.definitions.specs.Queries.BoundBlock
+pub mod Bound

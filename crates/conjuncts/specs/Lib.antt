@@ -1,0 +1,3 @@
+pub use Rattle.definitions.specs.Queries.Conjuncts
+pub mod Parts
+pub mod Naming

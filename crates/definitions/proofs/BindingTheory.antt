@@ -1,0 +1,11 @@
+mod ListFacts
+mod FoundColumns
+mod SoundBlocks
+mod ExprTypes
+mod FormedValues
+mod FormedConditions
+mod FormedParts
+mod FormedBlocks
+pub mod AcceptedQueries
+mod WorkedBindings
+mod WorkedForms

@@ -1,0 +1,59 @@
+-- The law of formed blocks on a query, and why its literals have to be such as can be written. No claim rests on it.
+use Rattle.std.proofs.Common.{refl, lit≤, lit<, [], arith}
+use Rattle.std.proofs.lemmas.Int.{ints}
+use Rattle.definitions.specs.Invariant.{IsDatabase}
+use Rattle.definitions.specs.Queries.BoundBlock as b
+use Rattle.definitions.specs.Binding.BoundForm.{bound_form}
+use Rattle.definitions.specs.Binding.Formed.{AreWritten, AreFormed, IsFormedValue}
+use Rattle.definitions.proofs.BindingTheory.WorkedBindings.{t_and_u, faultless, faultless_is_accepted, two_blocks, outer_block}
+use Rattle.definitions.proofs.BindingTheory.AcceptedQueries.{accepted_queries_are_formed}
+
+t_and_u_is_database : IsDatabase t_and_u
+t_and_u_is_database = record {
+  tables = lit≤ tt;
+  distinct = ((refl, tt), (tt, tt));
+  each = (
+    record {
+      columns = lit≤ tt;
+      rows = lit≤ tt;
+      indexes = lit≤ tt;
+      primary = lit≤ tt;
+      distinct = ((refl, tt), (tt, tt));
+      types = (tt, ((lit≤ tt, lit≤ tt), tt));
+      typed = (((refl, (omega (arith, ints), omega (arith, ints))), (tt, tt)), tt);
+      no_nulls = ((refl, (refl, tt)), tt);
+      each_index = tt;
+      apart = tt;
+      row_count = lit≤ tt;
+      page_count = (lit≤ tt, lit≤ tt);
+    },
+    (
+      record {
+        columns = lit≤ tt;
+        rows = lit≤ tt;
+        indexes = lit≤ tt;
+        primary = lit≤ tt;
+        distinct = (tt, tt);
+        types = (tt, tt);
+        typed = (((refl, (omega (arith, ints), omega (arith, ints))), tt), (((refl, (omega (arith, ints), omega (arith, ints))), tt), tt));
+        no_nulls = ((refl, tt), ((refl, tt), tt));
+        each_index = tt;
+        apart = tt;
+        row_count = lit≤ tt;
+        page_count = (lit≤ tt, lit≤ tt);
+      },
+      tt,
+    ),
+  );
+}
+
+-- SELECT X FROM T WHERE X = 1
+faultless_is_written : AreWritten t_and_u faultless
+faultless_is_written = ((tt, (tt, ((lit< tt, lit≤ tt), (tt, tt)))), tt)
+
+pub faultless_is_formed : AreFormed t_and_u (bound_form t_and_u faultless) [] 0
+faultless_is_formed = accepted_queries_are_formed t_and_u faultless t_and_u_is_database faultless_is_written faultless_is_accepted
+
+-- a numeral of one digit that has the units 10 is none that can be written, and not formed
+pub ten_of_one_digit : IsFormedValue t_and_u two_blocks [] 0 outer_block (b.Numeral 10 1 0) → ⊥
+ten_of_one_digit h = omega (arith, h)

@@ -1,0 +1,12 @@
+use Rattle.std.proofs.Common.{map, drop}
+use Rattle.definitions.specs.Queries.Evaluation as meaning
+use Rattle.bound.specs.Bound.{operand_of, operands, value_of as tree_of}
+use Rattle.expr.specs.Answers.{answer_of}
+use Rattle.expr.proofs.Chains.{Reached}
+use Rattle.expr.proofs.evaluation.+value.Given as goal
+
+abbrev pub decreases-value : goal.decreases-value
+decreases-value g l = goal.size-value g l
+
+abbrev pub invariant-loop-operand : goal.invariant-loop-operand
+invariant-loop-operand g l = Reached (g.S.Surroundings.environment l.env) (meaning.value (g.S.Surroundings.environment l.env) (tree_of l.expr)) (operands (map operand_of (drop l.operand-index l.operand-items))) (answer_of l.left)

@@ -1,0 +1,161 @@
+//! Truth values of conditions.
+
+ghost use Rattle.std.specs.Prelude.{[], ◌∷◌, map};
+ghost use Rattle.std.specs.List.{AllByRecursion};
+ghost use Rattle.definitions.specs.Arithmetic.{Meaning};
+ghost use Rattle.definitions.specs.Statement.{Equals, GreaterOrEquals, LessOrEquals};
+ghost use Rattle.definitions.specs.Truth as is;
+ghost use Rattle.definitions.specs.Truth.{and};
+ghost use Rattle.definitions.specs.Value as spec;
+ghost use Rattle.definitions.specs.Queries.Conjuncts.{member_values, values_of};
+ghost use Rattle.definitions.specs.Queries.Evaluation as meaning;
+ghost use Rattle.definitions.specs.Queries.Laws.{FitsTypes};
+ghost use Rattle.definitions.specs.Queries.Telling.{MayAnswer};
+ghost use Rattle.bound.specs.Bound.{condition_of, member_of};
+ghost use Rattle.expr.specs.Answers.{answer_of, truth_answer_of, IsTyped};
+
+use crate::evaluation::value;
+use crate::predicate::{
+    both, compared, either, fits, has_row, is_null, opposite, quantified, unless,
+};
+use crate::surroundings::Surroundings;
+use bound::{Condition, Quantifier, ValueExpr};
+use sqlvalue::{Op, Raise, Tri, Value};
+
+/// The truth value of a condition, or what it raises first in text order: all parts are evaluated (own; ISO/IEC 9075:1992,
+/// 8.1 to 8.12). Takes no memory.
+pub fn truth<'a, S: Surroundings>(condition: &'a Condition, env: &'a S) -> Result<Tri, Raise>
+    requires fits { AllByRecursion (FitsTypes (S.environment env.now)) (values_of (condition_of condition.now)) }
+    requires typed { AllByRecursion IsTyped (values_of (condition_of condition.now)) }
+    ensures { MayAnswer (meaning.truth (S.environment env.now) (condition_of condition.now)) (truth_answer_of result) }
+{
+    match condition {
+        Condition::Compare { op, left, right } => compared(
+            *op,
+            value(left, env),
+            value(right, env),
+        ),
+        Condition::Quantified {
+            op,
+            quantifier,
+            value: operand,
+            block,
+        } => quantified(
+            *op,
+            *quantifier,
+            value(operand, env),
+            env.first_values(*block),
+        ),
+        Condition::IsNull {
+            negated,
+            value: operand,
+        } => is_null(*negated, value(operand, env)),
+        Condition::Between {
+            negated,
+            value: operand,
+            low,
+            high,
+        } => unless(
+            *negated,
+            between(value(operand, env), value(low, env), value(high, env)),
+        ),
+        Condition::Like {
+            negated,
+            value: operand,
+            pattern,
+        } => unless(*negated, fits(value(operand, env), pattern.as_str())),
+        Condition::InList {
+            negated,
+            value: operand,
+            members,
+        } => unless(*negated, is_member(value(operand, env), members, env)),
+        Condition::InQuery {
+            negated,
+            value: operand,
+            block,
+        } => unless(
+            *negated,
+            quantified(
+                Op::Equals,
+                Quantifier::Any,
+                value(operand, env),
+                env.first_values(*block),
+            ),
+        ),
+        Condition::Exists { block } => has_row(env.first_values(*block)),
+        Condition::Not(operand) => opposite(truth(operand, env)),
+        Condition::And(parts) => {
+            let mut all = Ok(Tri::True);
+            for part in parts {
+                all = both(all, truth(part, env));
+            }
+            all
+        }
+        Condition::Or(parts) => {
+            let mut any = Ok(Tri::False);
+            for part in parts {
+                any = either(any, truth(part, env));
+            }
+            any
+        }
+    }
+}
+
+/// Whether a value lies from one to another, both included (ISO/IEC 9075:1992, 8.3).
+fn between(
+    operand: Result<Value, Raise>,
+    low: Result<Value, Raise>,
+    high: Result<Value, Raise>,
+) -> Result<Tri, Raise>
+    ensures { (m l h : Meaning spec.Value) → MayAnswer m (answer_of operand.entry) → MayAnswer l (answer_of low.entry) → MayAnswer h (answer_of high.entry) → MayAnswer (meaning.on_two and (meaning.on_two (is.compared GreaterOrEquals) m l) (meaning.on_two (is.compared LessOrEquals) m h)) (truth_answer_of result) }
+{
+    both(
+        compared(Op::GreaterOrEquals, operand, low),
+        compared(Op::LessOrEquals, operand, high),
+    )
+}
+
+/// Whether a value is equal to a member of a list (ISO/IEC 9075:1992, 8.4).
+fn is_member<'a, S: Surroundings>(
+    operand: Result<Value<'a>, Raise>,
+    members: &'a [Option<ValueExpr>],
+    env: &'a S,
+) -> Result<Tri, Raise>
+    requires fits { AllByRecursion (FitsTypes (S.environment env.now)) (member_values (map member_of members.now)) }
+    requires typed { AllByRecursion IsTyped (member_values (map member_of members.now)) }
+    ensures { (m : Meaning spec.Value) → MayAnswer m (answer_of operand.entry) → MayAnswer (meaning.on_two (is.compared_with_any Equals) m (meaning.in_order (map (meaning.member (S.environment env.now)) (map member_of members.now)))) (truth_answer_of result) }
+{
+    let mut any = nowhere(operand);
+    for member in members {
+        any = either(
+            any,
+            compared(Op::Equals, operand, member_value(member, env)),
+        );
+    }
+    any
+}
+
+/// That a value is equal to no member yet.
+fn nowhere(operand: Result<Value, Raise>) -> Result<Tri, Raise>
+    ensures { (m : Meaning spec.Value) → MayAnswer m (answer_of operand.entry) → MayAnswer (meaning.on_one (λ v. is.False) m) (truth_answer_of result) }
+{
+    match operand {
+        Ok(_) => Ok(Tri::False),
+        Err(raise) => Err(raise),
+    }
+}
+
+/// The value of a member of a list, which may be NULL (own).
+fn member_value<'a, S: Surroundings>(
+    member: &'a Option<ValueExpr>,
+    env: &'a S,
+) -> Result<Value<'a>, Raise>
+    requires fits { AllByRecursion (FitsTypes (S.environment env.now)) (member_values (member_of member.now ∷ [])) }
+    requires typed { AllByRecursion IsTyped (member_values (member_of member.now ∷ [])) }
+    ensures { MayAnswer (meaning.member (S.environment env.now) (member_of member.now)) (answer_of result) }
+{
+    match member {
+        Some(expr) => value(expr, env),
+        None => Ok(Value::Null),
+    }
+}

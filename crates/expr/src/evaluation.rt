@@ -1,0 +1,43 @@
+//! Values of expressions.
+
+ghost use Rattle.std.specs.Prelude.{◌≡◌, Some};
+ghost use Rattle.definitions.specs.ValueType.{ValueType};
+ghost use Rattle.definitions.specs.Queries.BoundTypes.{value_type};
+ghost use Rattle.definitions.specs.Queries.Evaluation as meaning;
+ghost use Rattle.definitions.specs.Queries.Laws.{FitsTypes};
+ghost use Rattle.definitions.specs.Queries.Telling.{MayAnswer};
+ghost use Rattle.bound.specs.Bound.{value_of as tree_of};
+ghost use Rattle.expr.specs.Answers.{answer_of};
+
+use crate::operation::{only_value, operated, signed};
+use crate::surroundings::Surroundings;
+use bound::ValueExpr;
+use sqlvalue::{Raise, Value};
+
+/// The value of an expression, or what it raises first in text order (own; ISO/IEC 9075:1992, 6.11 and 6.12). Takes no memory.
+pub fn value<'a, S: Surroundings>(expr: &'a ValueExpr, env: &'a S) -> Result<Value<'a>, Raise>
+    requires fits { FitsTypes (S.environment env.now) (tree_of expr.now) }
+    requires typed { (type : ValueType) × (value_type (tree_of expr.now) ≡ Some type) }
+    ensures { MayAnswer (meaning.value (S.environment env.now) (tree_of expr.now)) (answer_of result) }
+{
+    match expr {
+        ValueExpr::Column { column, .. } => Ok(env.cell(*column)),
+        ValueExpr::Parameter {
+            between,
+            column,
+            ..
+        } => Ok(env.parameter(*between, *column)),
+        ValueExpr::Number(literal) => Ok(Value::Num(literal.number())),
+        ValueExpr::Text(text) => Ok(Value::Text(text.as_str())),
+        ValueExpr::Signed { minus, operand } => signed(*minus, value(operand, env)),
+        ValueExpr::Chain { first, others } => {
+            let mut left = value(first, env);
+            for operand in others {
+                left = operated(operand.operator, left, value(&operand.value, env));
+            }
+            left
+        }
+        ValueExpr::SetValue { number, .. } => env.set_value(*number),
+        ValueExpr::Subquery { block, .. } => only_value(env.first_values(*block)),
+    }
+}

@@ -1,0 +1,109 @@
+//! What can raise, and the conjuncts of a condition.
+
+use bound::{BlockColumn, Condition, NumberLiteral, Operand, Operator, ValueExpr, ValueType};
+use conjuncts::conjuncts;
+use expr::can_raise;
+use sqlvalue::{Op, SqlType};
+use std::alloc::{AllocError, Global};
+use std::test::Fail;
+
+/// A column of the first table.
+fn column(sql_type: SqlType) -> ValueExpr {
+    ValueExpr::Column {
+        column: BlockColumn {
+            table: 0,
+            number: 0,
+        },
+        sql_type,
+    }
+}
+
+fn numeric(precision: u8, scale: u8) -> ValueExpr {
+    column(SqlType::Numeric { precision, scale })
+}
+
+fn one() -> ValueExpr {
+    ValueExpr::Number(NumberLiteral {
+        units: 1,
+        digits: 1,
+        scale: 0,
+    })
+}
+
+/// Two operands with an operator between them.
+fn joined(
+    alloc: Global,
+    first: ValueExpr,
+    operator: Operator,
+    value: ValueExpr,
+) -> Result<ValueExpr, AllocError> {
+    let mut others = Vec::new(alloc);
+    others.push(Operand { operator, value })?;
+    Ok(ValueExpr::Chain {
+        first: Box::new(alloc, first)?,
+        others,
+    })
+}
+
+fn equal(left: ValueExpr, right: ValueExpr) -> Condition {
+    Condition::Compare {
+        op: Op::Equals,
+        left,
+        right,
+    }
+}
+
+#[test]
+fn values_of_39_digits_can_raise(rt: HostRuntime) -> Result<(), Fail> {
+    let alloc = rt.alloc();
+    let integers = |operator| {
+        joined(
+            alloc,
+            column(SqlType::Integer),
+            operator,
+            column(SqlType::Integer),
+        )
+    };
+    assert!(rt; !can_raise(&column(SqlType::Integer)));
+    assert!(rt; !can_raise(&integers(Operator::Plus)?));
+    assert!(rt; !can_raise(&integers(Operator::Times)?));
+    assert!(rt; can_raise(&integers(Operator::Over)?));
+    let square = joined(alloc, numeric(18, 0), Operator::Times, numeric(18, 0))?;
+    assert!(rt; !can_raise(&square));
+    let most = joined(alloc, square, Operator::Minus, one())?;
+    assert!(rt; !can_raise(&most), "37 digits");
+    let more = joined(alloc, most, Operator::Times, one())?;
+    assert!(rt; !can_raise(&more), "38 digits");
+    let over = joined(alloc, more, Operator::Plus, one())?;
+    assert!(rt; can_raise(&over), "a carry to 39 digits");
+    let apart = joined(alloc, numeric(18, 0), Operator::Plus, numeric(18, 18))?;
+    assert!(rt; !can_raise(&apart), "37 digits");
+    assert!(rt;
+        can_raise(&ValueExpr::SetValue {
+            number: 0,
+            value_type: ValueType::Text
+        })
+    );
+    Ok(())
+}
+
+#[test]
+fn conjuncts_stand_in_text_order(rt: HostRuntime) -> Result<(), Fail> {
+    let alloc = rt.alloc();
+    let quotient = joined(alloc, one(), Operator::Over, column(SqlType::Smallint))?;
+    let mut inner = Vec::new(alloc);
+    inner.push(equal(one(), one()))?;
+    inner.push(equal(column(SqlType::Integer), one()))?;
+    let mut parts = Vec::new(alloc);
+    parts.push(equal(quotient, one()))?;
+    parts.push(Condition::And(inner))?;
+    parts.push(Condition::Exists { block: 1 })?;
+    let condition = Some(Condition::And(parts));
+    let mut late = Vec::new(alloc);
+    for conjunct in conjuncts(alloc, &condition)? {
+        late.push(conjunct.late)?;
+    }
+    assert_eq!(rt; late.as_slice(), [true, true, false, true].as_slice());
+    assert_eq!(rt; conjuncts(alloc, &None)?.len(), 0);
+    Ok(())
+}

@@ -1,0 +1,12 @@
+pub mod Lists
+pub mod Telling
+pub mod Comparing
+pub mod Testing
+pub mod Scanning
+pub mod WordRows
+pub mod InPlace
+pub mod Fields
+pub mod Columns
+pub mod Apart
+pub mod Formed
+pub mod Meaning

@@ -1,0 +1,7 @@
+pub mod Views
+pub mod Columns
+pub mod Searching
+pub mod Sources
+pub mod Blocks
+pub mod FoundColumns
+pub mod SourceFaults
