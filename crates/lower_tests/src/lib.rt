@@ -3,7 +3,15 @@
 #![tactic(auto)]
 
 #[cfg(test)]
+mod faults;
+#[cfg(test)]
 mod keys;
+#[cfg(test)]
+mod limits;
+#[cfg(test)]
+mod names;
+#[cfg(test)]
+mod queries;
 #[cfg(test)]
 mod statements;
 #[cfg(test)]

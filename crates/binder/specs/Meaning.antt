@@ -1,0 +1,111 @@
+-- What faults, types and what is bound so far stand for.
+use Rattle.std.specs.Prelude.{ℕ, List, Option, Some, None, Result, Ok, Err, true, false, [], map, option_map, IfSome}
+use Rattle.std.specs.Global.{Vec, Box}
+use Rattle.std.specs.Prelude.{◌≡◌, Bool}
+use Rattle.definitions.specs.Binding.Faults.{is_logical}
+use Rattle.definitions.specs.Grammar.{operands}
+use Rattle.trees.specs.Trees.{operand_of}
+use Rattle.trees.specs.declared.expr.Expr.{Expr as Expr'}
+use Rattle.trees.specs.declared.expr.Operand.{Operand}
+use Rattle.trees.specs.declared.expr.Expr.TheViews as v
+use Rattle.definitions.specs.Statement as t
+use Rattle.definitions.specs.Statement.{Expr, Members}
+use Rattle.definitions.specs.Table.{Database}
+use Rattle.definitions.specs.Binding.Scopes.{Scopes}
+use Rattle.definitions.specs.Queries.BoundBlock.{Blocks}
+use Rattle.definitions.specs.Refusal as r
+use Rattle.definitions.specs.Refusal.{Refusal}
+use Rattle.bound.specs.Bound.{block_of, bound_function_of, column_of, condition_of, member_of, value_of, value_type_of}
+use Rattle.bound.specs.declared.block.Block.{Block}
+use Rattle.bound.specs.declared.block.BoundFunction.{BoundFunction}
+use Rattle.bound.specs.declared.condition.Condition.{Condition}
+use Rattle.bound.specs.declared.value.ValueExpr.{ValueExpr}
+use Rattle.bound.specs.declared.leaf.ValueType.{ValueType}
+use Rattle.binder.specs.declared.fault.QueryFault.{QueryFault}
+use Rattle.binder.specs.declared.fault.QueryFault.TheVariants as q
+use Rattle.binder.specs.declared.fault.BindFault.{BindFault}
+use Rattle.binder.specs.declared.fault.BindFault.TheVariants as f
+use Rattle.binder.specs.declared.clause.Place.{Place}
+use Rattle.binder.specs.declared.clause.Place.TheVariants as p
+use Rattle.binder.specs.declared.clause.Clause.{Clause}
+use Rattle.binder.specs.declared.leaf.Typed.{Typed}
+use Rattle.binder.specs.Judging as j
+
+abbrev pub query_refusal : QueryFault → Refusal
+query_refusal (q.ManyTables n) = r.ManyTables
+query_refusal (q.NoTable n) = r.NotFound
+query_refusal (q.NameTwice n) = r.NameTaken
+query_refusal (q.NoColumn c) = r.UnknownColumn
+query_refusal (q.AmbiguousColumn c) = r.UnknownColumn
+query_refusal (q.GroupNotOwn c) = r.UnknownColumn
+query_refusal (q.OuterInFunction c) = r.MisplacedFunction
+query_refusal (q.Ungrouped c) = r.UngroupedColumn
+query_refusal (q.GreatScale e) = r.ScaleTooGreat
+query_refusal (q.GreatProduct x) = r.ScaleTooGreat
+query_refusal (q.TextForNumber e) = r.MixedKinds
+query_refusal (q.NumberForText e) = r.MixedKinds
+query_refusal (q.MixedKinds e) = r.MixedKinds
+query_refusal (q.NotOneColumn b) = r.MixedKinds
+query_refusal (q.ConditionForValue e) = r.MisplacedCondition
+query_refusal (q.ValueForCondition e) = r.MisplacedCondition
+query_refusal (q.MisplacedFunction e) = r.MisplacedFunction
+query_refusal (q.StarOfGroups b) = r.UngroupedColumn
+query_refusal (q.UnknownKey k) = r.UnknownKey
+query_refusal (q.ManyBlocks b) = r.OverQueryLimit
+query_refusal (q.MisplacedQuery b) = r.OverQueryLimit
+query_refusal (q.ManyConjuncts e) = r.OverQueryLimit
+query_refusal (q.ManyMembers e) = r.OverQueryLimit
+query_refusal (q.ManyItems b) = r.OverQueryLimit
+query_refusal (q.ManyGroups b) = r.OverQueryLimit
+query_refusal (q.ManyKeys k) = r.OverQueryLimit
+
+-- the refusal of a query that is not bound; none where memory was wanting
+abbrev pub bind_refusal : BindFault → Option Refusal
+bind_refusal (f.Refused fault) = Some (query_refusal fault)
+bind_refusal f.Memory = None
+
+abbrev pub place_of : Place → j.Place
+place_of p.Where = j.InWhere
+place_of p.Shown = j.InShown false []
+place_of (p.Grouped columns) = j.InShown true (map column_of columns.now)
+place_of p.Argument = j.InArgument
+
+abbrev pub progress_of : List Block → List BoundFunction → j.Progress
+progress_of blocks functions = record { blocks = map block_of blocks; functions = map bound_function_of functions }
+
+-- what is answered where a value or a condition is bound in a clause, a subquery, or one of one column
+abbrev pub ValueAnswer : Clause → (old new : j.Progress) → Expr → Result Typed BindFault → Type 0
+ValueAnswer c old new e (Ok t) = j.BindsValue c.database.now c.scopes.now (place_of c.place) old new e (value_of t.value) (value_type_of t.value_type)
+ValueAnswer c old new e (Err f) = IfSome (bind_refusal f) (j.RefusesValue c.database.now c.scopes.now (place_of c.place) old e)
+
+abbrev pub ConditionAnswer : Clause → (old new : j.Progress) → Expr → Result Condition BindFault → Type 0
+ConditionAnswer c old new e (Ok t) = j.BindsCondition c.database.now c.scopes.now (place_of c.place) old new e (condition_of t)
+ConditionAnswer c old new e (Err f) = IfSome (bind_refusal f) (j.RefusesCondition c.database.now c.scopes.now (place_of c.place) old e)
+
+abbrev pub MembersAnswer : Clause → (old new : j.Progress) → ValueType → Members → Result (Vec (Option ValueExpr)) BindFault → Type 0
+MembersAnswer c old new type ms (Ok xs) = j.BindsMembers c.database.now c.scopes.now (place_of c.place) old new (value_type_of type) ms (map member_of xs.items)
+MembersAnswer c old new type ms (Err f) = IfSome (bind_refusal f) (j.RefusesMembers c.database.now c.scopes.now (place_of c.place) old (value_type_of type) ms)
+
+abbrev pub QueryAnswer : Clause → (old new : j.Progress) → t.Block → Result (ℕ × Option ValueType) BindFault → Type 0
+QueryAnswer c old new query (Ok x) = j.BindsQuery c.database.now c.scopes.now (place_of c.place) old new query x.0 (option_map value_type_of x.1)
+QueryAnswer c old new query (Err f) = IfSome (bind_refusal f) (j.RefusesQuery c.database.now c.scopes.now (place_of c.place) old query)
+
+abbrev pub ColumnAnswer : Clause → (old new : j.Progress) → t.Block → Result (ℕ × ValueType) BindFault → Type 0
+ColumnAnswer c old new query (Ok x) = j.BindsColumn c.database.now c.scopes.now (place_of c.place) old new query x.0 (value_type_of x.1)
+ColumnAnswer c old new query (Err f) = IfSome (bind_refusal f) (j.RefusesColumn c.database.now c.scopes.now (place_of c.place) old query)
+
+abbrev pub BlockAnswer : Database → Scopes → (old new : Blocks) → t.Block → Result (Option ValueType) BindFault → Type 0
+BlockAnswer db outer old new query (Ok only) = j.BindsBlock db outer old new query (option_map value_type_of only)
+BlockAnswer db outer old new query (Err f) = IfSome (bind_refusal f) (j.RefusesBlock db outer old query)
+
+-- a line of operands, under AND or OR or not; an IN list
+abbrev pub IsLine : Expr' → Bool → Type 0
+IsLine e logical = (first : Box Expr') × (others : Vec Operand) × (e ≡ v.Line first others) × (is_logical (operands (map operand_of others.items)) ≡ logical)
+
+abbrev pub IsList : Expr' → Type 0
+IsList e = (start : ℕ) × (negated : Bool) × (value : Box Expr') × (ms : Vec (Option Expr')) × (e ≡ v.InList start negated value ms)
+
+-- the members of an IN list, of which other expressions have none
+abbrev pub members_in : Expr → Members
+members_in (t.InList negated e ms) = ms
+members_in _ = t.NoMember

@@ -1,0 +1,165 @@
+//! Query blocks.
+
+ghost use Rattle.std.specs.Prelude.{◌≡◌, ◌≤◌, ◌<◌, IsTrue, length, map, slice_set};
+ghost use Rattle.binder.specs.Judging.{takes_functions};
+ghost use Rattle.definitions.specs.Limits.{most_blocks};
+ghost use Rattle.bound.specs.Bound.{block_of};
+ghost use Rattle.trees.specs.Trees.{block_of as query_of, condition_of as tree_condition_of};
+ghost use Rattle.binder.specs.Blocks.{OptionAnswer};
+ghost use Rattle.binder.specs.Clauses.{ClausesAnswer};
+ghost use Rattle.binder.specs.Leaves.{InSight};
+ghost use Rattle.binder.specs.Meaning.{place_of, progress_of, BlockAnswer};
+
+use crate::clause::{Clause, Place};
+use crate::condition::condition;
+use crate::fault::{BindFault, QueryFault};
+use crate::group::{group_columns, is_grouped, shown_place};
+use crate::items::{ResultColumns, result_columns};
+use crate::limit::judge_limits;
+use bound::{Block, BoundFunction, Condition, Item, ValueType};
+use catalog::Database;
+use scopes::Scopes;
+use std::alloc::Global;
+use trees::Expr;
+
+/// How many blocks a query may have (own).
+pub const MAX_BLOCKS: usize = 32;
+
+/// A query block with those inside it, behind the blocks before, and the type of its only column.
+#[cycle(binding)]
+pub(crate) fn block<'a>(
+    alloc: Global,
+    database: &'a Database,
+    outer: &Scopes<'a>,
+    blocks: &mut Vec<Block>,
+    query: &'a trees::Block,
+) -> Result<Option<ValueType>, BindFault<'a>>
+    requires sight { InSight database.now outer.now }
+    requires few { length blocks.old.items ≤ most_blocks }
+    ensures { BlockAnswer database.now outer.now (map block_of blocks.old.items) (map block_of blocks.new.items) (query_of query.now) result }
+{
+    let number = blocks.len();
+    if number >= MAX_BLOCKS {
+        return Err(BindFault::Refused(QueryFault::ManyBlocks(query)));
+    }
+    let scopes = outer.inside(alloc, database, &query.sources)?;
+    let grouped = is_grouped(query);
+    judge_limits(query, grouped)?;
+    let groups = group_columns(alloc, &scopes, &query.groups)?;
+    let tables = scopes.own_tables(alloc)?;
+    blocks.push(empty(alloc))?;
+    let place = shown_place(grouped, &groups);
+    let Clauses {
+        items,
+        only,
+        condition,
+        having,
+        functions,
+    } = bound_clauses(alloc, database, &scopes, place, blocks, query)?;
+    let block = Block {
+        tables,
+        distinct: query.distinct,
+        items,
+        condition,
+        groups,
+        having,
+        functions,
+        order: Vec::new(alloc),
+    };
+    put(blocks, number, block);
+    Ok(only)
+}
+
+/// Puts a block in the place of the one of a number.
+fn put(blocks: &mut Vec<Block>, number: usize, block: Block)
+    requires { number < length blocks.old.items }
+    ensures { map block_of blocks.new.items ≡ slice_set (map block_of blocks.old.items) number (block_of block) }
+{
+    blocks[number] = block;
+}
+
+/// A block whose parts are not bound yet: blocks inside it are numbered behind it.
+fn empty(alloc: Global) -> Block {
+    Block {
+        tables: Vec::new(alloc),
+        distinct: false,
+        items: Vec::new(alloc),
+        condition: None,
+        groups: Vec::new(alloc),
+        having: None,
+        functions: Vec::new(alloc),
+        order: Vec::new(alloc),
+    }
+}
+
+/// What is bound of the clauses of a block: its result columns and the type of the only one, WHERE
+/// and HAVING, and the set functions in them.
+#[derive(Drop)]
+struct Clauses {
+    items: Vec<Item>,
+    only: Option<ValueType>,
+    condition: Option<Condition>,
+    having: Option<Condition>,
+    functions: Vec<BoundFunction>,
+}
+
+/// The clauses of a block, of which result columns and HAVING stand in a clause that is given.
+#[cycle(binding)]
+fn bound_clauses<'a>(
+    alloc: Global,
+    database: &'a Database,
+    scopes: &Scopes<'a>,
+    place: Place<'_>,
+    blocks: &mut Vec<Block>,
+    query: &'a trees::Block,
+) -> Result<Clauses, BindFault<'a>>
+    requires sight { InSight database.now scopes.now }
+    requires shown { IsTrue (takes_functions (place_of place)) }
+    requires few { length blocks.old.items ≤ most_blocks }
+    ensures { ClausesAnswer database.now scopes.now (place_of place.entry) (map block_of blocks.old.items) (map block_of blocks.new.items) (query_of query.now) result }
+{
+    let shown = Clause {
+        alloc,
+        database,
+        scopes,
+        place,
+    };
+    let within = Clause {
+        place: Place::Where,
+        ..shown
+    };
+    let mut functions = Vec::new(alloc);
+    let ResultColumns { items, only } = result_columns(
+        &shown,
+        blocks,
+        &mut functions,
+        &query.list,
+    )?;
+    let condition = optional_condition(&within, blocks, &mut functions, &query.condition)?;
+    let having = optional_condition(&shown, blocks, &mut functions, &query.having)?;
+    Ok(Clauses {
+        items,
+        only,
+        condition,
+        having,
+        functions,
+    })
+}
+
+/// The condition of WHERE or HAVING, if there is one.
+#[cycle(binding)]
+fn optional_condition<'a>(
+    clause: &Clause<'_, '_, 'a>,
+    blocks: &mut Vec<Block>,
+    functions: &mut Vec<BoundFunction>,
+    expr: &'a Option<Expr>,
+) -> Result<Option<Condition>, BindFault<'a>>
+    requires sight { InSight clause.now.database.now clause.now.scopes.now }
+    requires few { length blocks.old.items ≤ most_blocks }
+    ensures { OptionAnswer clause.now (progress_of blocks.old.items functions.old.items) (progress_of blocks.new.items functions.new.items) (tree_condition_of expr.now) result }
+{
+    match expr {
+        Some(expr) => Ok(Some(condition(clause, blocks, functions, expr)?)),
+        None => Ok(None),
+    }
+}

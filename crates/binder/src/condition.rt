@@ -1,0 +1,262 @@
+//! Conditions, and the subqueries in them.
+
+ghost use Rattle.std.specs.Prelude.{◌≡◌, ◌≤◌, List, length, map, true};
+ghost use Rattle.definitions.specs.Grammar.{members, operands};
+ghost use Rattle.definitions.specs.Limits.{most_blocks};
+ghost use Rattle.definitions.specs.Statement.{Line};
+ghost use Rattle.definitions.specs.Binding.Faults.{is_logical};
+ghost use Rattle.definitions.specs.Queries.BoundBlock as spec;
+ghost use Rattle.bound.specs.Bound.{block_of};
+ghost use Rattle.trees.specs.Trees.{block_of as query_of, expr_of, member_of as tree_member_of, operand_of};
+ghost use Rattle.binder.specs.Leaves.{InSight};
+ghost use Rattle.binder.specs.Meaning.{IsLine, IsList, members_in, progress_of, ColumnAnswer, ConditionAnswer, MembersAnswer, QueryAnswer};
+
+use crate::clause::{Clause, Place};
+use crate::fault::{BindFault, QueryFault};
+use crate::operand::{are_logical, judge_kinds};
+use crate::value::value;
+use bound::{Block, BoundFunction, Condition, ValueExpr, ValueType};
+use trees::{Expr, LineOperator, Operand};
+
+/// How many members an IN list may have (own).
+const MAX_MEMBERS: usize = 256;
+
+/// A condition (ISO/IEC 9075:1992, 8.12), its blocks and set functions behind those before.
+#[cycle(binding)]
+pub(crate) fn condition<'a>(
+    clause: &Clause<'_, '_, 'a>,
+    blocks: &mut Vec<Block>,
+    functions: &mut Vec<BoundFunction>,
+    expr: &'a Expr,
+) -> Result<Condition, BindFault<'a>>
+    requires sight { InSight clause.now.database.now clause.now.scopes.now }
+    requires few { length blocks.old.items ≤ most_blocks }
+    ensures { ConditionAnswer clause.now (progress_of blocks.old.items functions.old.items) (progress_of blocks.new.items functions.new.items) (expr_of expr.now) result }
+{
+    match expr {
+        Expr::Line { others, .. } if are_logical(others) => {
+            logical(clause, blocks, functions, expr)
+        }
+        Expr::Not { operand, .. } => {
+            let operand = condition(clause, blocks, functions, operand)?;
+            Ok(Condition::Not(Box::new(clause.alloc, operand)?))
+        }
+        Expr::Compare {
+            op,
+            left,
+            right,
+            ..
+        } => {
+            let left = value(clause, blocks, functions, left)?;
+            let right = value(clause, blocks, functions, right)?;
+            judge_kinds(left.value_type, right.value_type, expr)?;
+            Ok(Condition::Compare {
+                op: *op,
+                left: left.value,
+                right: right.value,
+            })
+        }
+        Expr::CompareAll {
+            op,
+            quantifier,
+            left,
+            query,
+            ..
+        } => {
+            let left = value(clause, blocks, functions, left)?;
+            let (block, value_type) = column_of_query(clause, blocks, query)?;
+            judge_kinds(left.value_type, value_type, expr)?;
+            Ok(Condition::Quantified {
+                op: *op,
+                quantifier: *quantifier,
+                value: left.value,
+                block,
+            })
+        }
+        Expr::IsNull {
+            negated,
+            value: operand,
+            ..
+        } => {
+            let typed = value(clause, blocks, functions, operand)?;
+            Ok(Condition::IsNull {
+                negated: *negated,
+                value: typed.value,
+            })
+        }
+        Expr::Between {
+            negated,
+            value: operand,
+            low,
+            high,
+            ..
+        } => {
+            let typed = value(clause, blocks, functions, operand)?;
+            let low = value(clause, blocks, functions, low)?;
+            let high = value(clause, blocks, functions, high)?;
+            judge_kinds(typed.value_type, low.value_type, expr)?;
+            judge_kinds(typed.value_type, high.value_type, expr)?;
+            Ok(Condition::Between {
+                negated: *negated,
+                value: typed.value,
+                low: low.value,
+                high: high.value,
+            })
+        }
+        Expr::Like {
+            negated,
+            value: operand,
+            pattern,
+            ..
+        } => {
+            let typed = value(clause, blocks, functions, operand)?;
+            if let ValueType::Number { .. } = typed.value_type {
+                return Err(BindFault::Refused(QueryFault::NumberForText(operand)));
+            }
+            Ok(Condition::Like {
+                negated: *negated,
+                value: typed.value,
+                pattern: String::from_str(clause.alloc, pattern.text.as_str())?,
+            })
+        }
+        Expr::InList {
+            negated,
+            value: operand,
+            members,
+            ..
+        } => {
+            if members.len() > MAX_MEMBERS {
+                return Err(BindFault::Refused(QueryFault::ManyMembers(expr)));
+            }
+            let typed = value(clause, blocks, functions, operand)?;
+            let members = bound_members(clause, blocks, functions, typed.value_type, expr)?;
+            Ok(Condition::InList {
+                negated: *negated,
+                value: typed.value,
+                members,
+            })
+        }
+        Expr::InQuery {
+            negated,
+            value: operand,
+            query,
+            ..
+        } => {
+            let typed = value(clause, blocks, functions, operand)?;
+            let (block, value_type) = column_of_query(clause, blocks, query)?;
+            judge_kinds(typed.value_type, value_type, expr)?;
+            Ok(Condition::InQuery {
+                negated: *negated,
+                value: typed.value,
+                block,
+            })
+        }
+        Expr::Exists { query, .. } => {
+            let (block, _) = inner_block(clause, blocks, query)?;
+            Ok(Condition::Exists { block })
+        }
+        _ => Err(BindFault::Refused(QueryFault::ValueForCondition(expr))),
+    }
+}
+
+/// The operands of one AND or OR (ISO/IEC 9075:1992, 8.12).
+#[cycle(binding)]
+fn logical<'a>(
+    clause: &Clause<'_, '_, 'a>,
+    blocks: &mut Vec<Block>,
+    functions: &mut Vec<BoundFunction>,
+    line: &'a Expr,
+) -> Result<Condition, BindFault<'a>>
+    requires sight { InSight clause.now.database.now clause.now.scopes.now }
+    requires few { length blocks.old.items ≤ most_blocks }
+    requires logical { IsLine line.now true }
+    ensures { ConditionAnswer clause.now (progress_of blocks.old.items functions.old.items) (progress_of blocks.new.items functions.new.items) (expr_of line.now) result }
+{
+    let Expr::Line { first, others } = line else {
+        unreachable!()
+    };
+    let mut parts = Vec::new(clause.alloc);
+    parts.push(condition(clause, blocks, functions, first)?)?;
+    'operands: for operand in others {
+        parts.push(condition(clause, blocks, functions, &operand.value)?)?;
+    }
+    match others[0].operator {
+        LineOperator::And => Ok(Condition::And(parts)),
+        _ => Ok(Condition::Or(parts)),
+    }
+}
+
+/// The members of an IN list, which are of the kind of a type (ISO/IEC 9075:1992, 8.4).
+#[cycle(binding)]
+fn bound_members<'a>(
+    clause: &Clause<'_, '_, 'a>,
+    blocks: &mut Vec<Block>,
+    functions: &mut Vec<BoundFunction>,
+    value_type: ValueType,
+    list: &'a Expr,
+) -> Result<Vec<Option<ValueExpr>>, BindFault<'a>>
+    requires sight { InSight clause.now.database.now clause.now.scopes.now }
+    requires few { length blocks.old.items ≤ most_blocks }
+    requires list { IsList list.now }
+    ensures { MembersAnswer clause.now (progress_of blocks.old.items functions.old.items) (progress_of blocks.new.items functions.new.items) value_type (members_in (expr_of list.now)) result }
+{
+    let Expr::InList { members, .. } = list else {
+        unreachable!()
+    };
+    let mut bound = Vec::new(clause.alloc);
+    'members: for member in members {
+        match member {
+            Some(expr) => {
+                let typed = value(clause, blocks, functions, expr)?;
+                judge_kinds(value_type, typed.value_type, expr)?;
+                bound.push(Some(typed.value))?;
+            }
+            None => bound.push(None)?,
+        }
+    }
+    Ok(bound)
+}
+
+/// A subquery of one column: its block's number, and the type of its column (ISO/IEC 9075:1992, 7.11).
+#[cycle(binding)]
+pub(crate) fn column_of_query<'a>(
+    clause: &Clause<'_, '_, 'a>,
+    blocks: &mut Vec<Block>,
+    query: &'a trees::Block,
+) -> Result<(usize, ValueType), BindFault<'a>>
+    requires sight { InSight clause.now.database.now clause.now.scopes.now }
+    requires few { length blocks.old.items ≤ most_blocks }
+    ensures { (functions : List spec.BoundFunction) → ColumnAnswer clause.now (record { blocks = map block_of blocks.old.items; functions = functions }) (record { blocks = map block_of blocks.new.items; functions = functions }) (query_of query.now) result }
+{
+    match inner_block(clause, blocks, query)? {
+        (block, Some(value_type)) => Ok((block, value_type)),
+        (_, None) => Err(BindFault::Refused(QueryFault::NotOneColumn(query))),
+    }
+}
+
+/// A subquery: its block's number, and the type of its column if it has one alone.
+#[cycle(binding)]
+fn inner_block<'a>(
+    clause: &Clause<'_, '_, 'a>,
+    blocks: &mut Vec<Block>,
+    query: &'a trees::Block,
+) -> Result<(usize, Option<ValueType>), BindFault<'a>>
+    requires sight { InSight clause.now.database.now clause.now.scopes.now }
+    requires few { length blocks.old.items ≤ most_blocks }
+    ensures { (functions : List spec.BoundFunction) → QueryAnswer clause.now (record { blocks = map block_of blocks.old.items; functions = functions }) (record { blocks = map block_of blocks.new.items; functions = functions }) (query_of query.now) result }
+{
+    match clause.place {
+        Place::Where => {
+            let number = blocks.len();
+            let only = crate::block::block(
+                clause.alloc,
+                clause.database,
+                clause.scopes,
+                blocks,
+                query,
+            )?;
+            Ok((number, only))
+        }
+        _ => Err(BindFault::Refused(QueryFault::MisplacedQuery(query))),
+    }
+}

@@ -1,0 +1,42 @@
+//! Queries.
+
+ghost use Rattle.std.specs.Prelude.{[], IfOk, IfErr, IfSome, map};
+ghost use Rattle.definitions.specs.Invariant.{IsDatabase};
+ghost use Rattle.definitions.specs.Binding.Faults.{Binds, Faulty};
+ghost use Rattle.definitions.specs.Binding.Formed.{AreFormed, AreWritten};
+ghost use Rattle.bound.specs.Bound.{block_of};
+ghost use Rattle.trees.specs.Trees.{select_of};
+ghost use Rattle.binder.specs.Meaning.{bind_refusal};
+
+use crate::block::block;
+use crate::fault::BindFault;
+use crate::key::bound_order;
+use bound::Block;
+use catalog::Database;
+use scopes::Scopes;
+use std::alloc::Global;
+use trees::Select;
+
+/// The blocks of a query, with its names bound in a database: the outermost first, the others in the order of their words SELECT.
+/// Or a fault that the query has: of several any one may be told.
+pub fn bind<'a>(
+    alloc: Global,
+    database: &'a Database,
+    query: &'a Select,
+) -> Result<Vec<Block>, BindFault<'a>>
+    requires valid { IsDatabase database.now }
+    ensures bound { IfOk result (λ blocks. Binds database.now (select_of query.now) (map block_of blocks.items)) }
+    ensures formed { IfOk result (λ blocks. AreWritten database.now (select_of query.now) → AreFormed database.now (map block_of blocks.items) [] 0) }
+    ensures refused { IfErr result (λ f. IfSome (bind_refusal f) (Faulty database.now (select_of query.now))) }
+{
+    let mut blocks = Vec::new(alloc);
+    block(
+        alloc,
+        database,
+        &Scopes::outside(alloc),
+        &mut blocks,
+        &query.block,
+    )?;
+    blocks[0].order = bound_order(alloc, &query.block.list, &blocks[0].items, &query.order)?;
+    Ok(blocks)
+}

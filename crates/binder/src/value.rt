@@ -1,0 +1,173 @@
+//! Values.
+
+ghost use Rattle.std.specs.Prelude.{◌≡◌, ◌≤◌, ◌++◌, ◌∷◌, [], false, length, map, IfOk, IfErr, OnOk, OnErr, IsTrue, IsFalse};
+ghost use Rattle.definitions.specs.Grammar.{operands};
+ghost use Rattle.definitions.specs.Limits.{most_blocks};
+ghost use Rattle.definitions.specs.Statement.{Function, Line};
+ghost use Rattle.definitions.specs.Binding.Faults.{is_logical};
+ghost use Rattle.definitions.specs.Queries.BoundBlock.{Blocks, SetValue};
+ghost use Rattle.definitions.specs.Refusal as refusal;
+ghost use Rattle.bound.specs.Bound.{bound_function_of, value_of, value_type_of};
+ghost use Rattle.trees.specs.Trees.{expr_of, function_of, operand_of};
+ghost use Rattle.binder.specs.Judging.{takes_functions};
+ghost use Rattle.binder.specs.Leaves.{InSight};
+ghost use Rattle.binder.specs.Meaning.{IsLine, place_of, progress_of, query_refusal, ValueAnswer};
+
+use crate::clause::{Clause, Place};
+use crate::condition::column_of_query;
+use crate::fault::{BindFault, QueryFault};
+use crate::leaf::{Typed, column, number, string};
+use crate::operand::{are_logical, function_type, joined_scale, number_scale, operator};
+use bound::{Block, BoundFunction, Operand as BoundOperand, ValueExpr, ValueType};
+use std::alloc::AllocError;
+use trees::{Expr, Operand, SetFunction};
+
+/// A value (ISO/IEC 9075:1992, 6.11), its blocks and set functions behind those before.
+#[cycle(binding)]
+pub(crate) fn value<'a>(
+    clause: &Clause<'_, '_, 'a>,
+    blocks: &mut Vec<Block>,
+    functions: &mut Vec<BoundFunction>,
+    expr: &'a Expr,
+) -> Result<Typed, BindFault<'a>>
+    requires sight { InSight clause.now.database.now clause.now.scopes.now }
+    requires few { length blocks.old.items ≤ most_blocks }
+    ensures { ValueAnswer clause.now (progress_of blocks.old.items functions.old.items) (progress_of blocks.new.items functions.new.items) (expr_of expr.now) result }
+{
+    match expr {
+        Expr::Column(reference) => column(clause, reference),
+        Expr::Numeral(numeral) => Ok(number(numeral)?),
+        Expr::String(literal) => Ok(string(clause.alloc, literal)?),
+        Expr::Signed { minus, operand, .. } => {
+            let typed = value(clause, blocks, functions, operand)?;
+            let scale = number_scale(typed.value_type, operand)?;
+            Ok(Typed {
+                value: ValueExpr::Signed {
+                    minus: *minus,
+                    operand: Box::new(clause.alloc, typed.value)?,
+                },
+                value_type: ValueType::Number { scale },
+            })
+        }
+        Expr::Line { others, .. } if !are_logical(others) => chain(clause, blocks, functions, expr),
+        Expr::Scalar { query, .. } => {
+            let (block, value_type) = column_of_query(clause, blocks, query)?;
+            Ok(Typed {
+                value: ValueExpr::Subquery { block, value_type },
+                value_type,
+            })
+        }
+        Expr::CountRows { .. } => {
+            judge_function(clause.place, expr)?;
+            let value_type = ValueType::Number { scale: 0 };
+            Ok(set_value(functions, BoundFunction::CountRows, value_type)?)
+        }
+        Expr::Function {
+            function,
+            distinct,
+            argument,
+            ..
+        } => {
+            judge_function(clause.place, expr)?;
+            set_function(clause, functions, *function, *distinct, argument)
+        }
+        _ => Err(BindFault::Refused(QueryFault::ConditionForValue(expr))),
+    }
+}
+
+/// Operands of one line (ISO/IEC 9075:1992, 6.12).
+#[cycle(binding)]
+fn chain<'a>(
+    clause: &Clause<'_, '_, 'a>,
+    blocks: &mut Vec<Block>,
+    functions: &mut Vec<BoundFunction>,
+    line: &'a Expr,
+) -> Result<Typed, BindFault<'a>>
+    requires sight { InSight clause.now.database.now clause.now.scopes.now }
+    requires few { length blocks.old.items ≤ most_blocks }
+    requires arithmetic { IsLine line.now false }
+    ensures { ValueAnswer clause.now (progress_of blocks.old.items functions.old.items) (progress_of blocks.new.items functions.new.items) (expr_of line.now) result }
+{
+    let Expr::Line { first, others } = line else {
+        unreachable!()
+    };
+    let typed = value(clause, blocks, functions, first)?;
+    let mut scale = number_scale(typed.value_type, first)?;
+    let first = Box::new(clause.alloc, typed.value)?;
+    let mut joined = Vec::new(clause.alloc);
+    'operands: for operand in others {
+        let typed = value(clause, blocks, functions, &operand.value)?;
+        let right = number_scale(typed.value_type, &operand.value)?;
+        scale = joined_scale(scale, operand, right)?;
+        joined.push(BoundOperand {
+            operator: operator(operand.operator),
+            value: typed.value,
+        })?;
+    }
+    Ok(Typed {
+        value: ValueExpr::Chain {
+            first,
+            others: joined,
+        },
+        value_type: ValueType::Number { scale },
+    })
+}
+
+/// A set function of an argument (ISO/IEC 9075:1992, 6.5).
+#[cycle(binding)]
+fn set_function<'a>(
+    clause: &Clause<'_, '_, 'a>,
+    functions: &mut Vec<BoundFunction>,
+    function: SetFunction,
+    distinct: bool,
+    argument: &'a Expr,
+) -> Result<Typed, BindFault<'a>>
+    requires sight { InSight clause.now.database.now clause.now.scopes.now }
+    requires shown { IsTrue (takes_functions (place_of clause.now.place)) }
+    ensures { (bound : Blocks) → length bound ≤ most_blocks → ValueAnswer clause.now (record { blocks = bound; functions = map bound_function_of functions.old.items }) (record { blocks = bound; functions = map bound_function_of functions.new.items }) (Function (function_of function) distinct (expr_of argument.now)) result }
+{
+    let inside = Clause {
+        place: Place::Argument,
+        ..*clause
+    };
+    let mut no_blocks = Vec::new(clause.alloc);
+    let mut no_functions = Vec::new(clause.alloc);
+    let typed = value(&inside, &mut no_blocks, &mut no_functions, argument)?;
+    let value_type = function_type(function, typed.value_type, argument)?;
+    let bound = BoundFunction::OfValues {
+        function,
+        distinct,
+        argument: typed.value,
+    };
+    Ok(set_value(functions, bound, value_type)?)
+}
+
+/// The value of one more set function.
+fn set_value(
+    functions: &mut Vec<BoundFunction>,
+    function: BoundFunction,
+    value_type: ValueType,
+) -> Result<Typed, AllocError>
+    ensures value { IfOk result (λ t. value_of t.value ≡ SetValue (length functions.old.items) (value_type_of value_type)) }
+    ensures typed { IfOk result (λ t. t.value_type ≡ value_type) }
+    ensures functions { OnOk result (functions.new.items ≡ functions.old.items ++ function ∷ []) }
+{
+    let number = functions.len();
+    functions.push(function)?;
+    Ok(Typed {
+        value: ValueExpr::SetValue { number, value_type },
+        value_type,
+    })
+}
+
+/// That a set function may stand in a place.
+fn judge_function<'a>(place: Place, expr: &'a Expr) -> Result<(), QueryFault<'a>>
+    ensures ok { OnOk result (IsTrue (takes_functions (place_of place.entry))) }
+    ensures misplaced { OnErr result (IsFalse (takes_functions (place_of place.entry))) }
+    ensures refused { IfErr result (λ f. query_refusal f ≡ refusal.MisplacedFunction) }
+{
+    match place {
+        Place::Shown | Place::Grouped(_) => Ok(()),
+        Place::Where | Place::Argument => Err(QueryFault::MisplacedFunction(expr)),
+    }
+}
