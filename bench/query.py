@@ -1,5 +1,8 @@
 #!/usr/bin/env python3
-"""Times a SELECT that prints 10 % of a table's rows, ours and sqlite3's in the same run, best of three.
+"""Times SELECTs over one table, ours and sqlite3's in the same run, best of three.
+
+One keeps a tenth of the rows by a column's comparison, and prints three columns of them; the other calculates with two
+columns and looks at the end of a text, and prints one column.
 
 Ours has no stored tables, so each run loads the table first, which takes longer than one SELECT. So a
 script that loads and asks the same SELECT ten times is timed, and the script that only loads, and a tenth
@@ -7,20 +10,52 @@ of the difference is told. Processor seconds are counted, as each program has on
 difference of two times is not one of what else the machine did.
 
 What is printed goes to files, where the rows have to be as many and have the same first columns. sqlite3
-(Debian's package) prints in its list mode, which does not quote texts, and keeps NUMERIC(9,2) as a float.
-The records are those of load.py. (A file select.py would hide Python's own module of that name.)
+(Debian's package) prints in its list mode, which does not quote texts, and keeps NUMERIC(9,2) as a float. (A file select.py
+would hide Python's own module of that name.)
 """
 import os
 import pathlib
+import re
 import subprocess
 import sys
 import tempfile
+from dataclasses import dataclass
+from typing import Callable
 
-from load import PROGRAM, TABLE, write_records
+import load
 
 SELECTS = 10
-QUERY = "SELECT I, N, C FROM T WHERE S < -13107;\n"
 LISTED = ".mode list\n.headers on\n"
+ROW = re.compile(r"(-?\d+)(\|.*)?\n")
+
+
+@dataclass(frozen=True)
+class Question:
+    """A SELECT, the table that it is asked of, and what writes so many records of it into a file."""
+
+    query: str
+    table: str
+    write_records: Callable
+
+
+def write_numbered_texts(path, count):
+    """Records of a number that goes up, two numbers below 1,000, and nine letters with a digit behind them."""
+    state = 1
+    with open(path, "w", encoding="ascii", newline="") as out:
+        for i in range(count):
+            state = (state * 48271) % 2147483647
+            letters = "".join(chr(97 + (state >> shift) % 26) for shift in range(0, 18, 2))
+            out.write(f"{i},{state % 1999 - 999},{state // 1999 % 1999 - 999},{letters}{state // 7 % 10}\n")
+
+
+QUESTIONS = {
+    "filter": Question("SELECT I, N, C FROM T WHERE S < -13107;\n", load.PLAIN, load.write_records),
+    "expression": Question(
+        "SELECT A FROM T WHERE B * 2 + C > 100 AND D LIKE '%7';\n",
+        "CREATE TABLE T (A INTEGER, B INTEGER, C INTEGER, D CHAR(10));\n",
+        write_numbered_texts,
+    ),
+}
 
 
 def seconds(command, folder, out, script=None):
@@ -36,48 +71,50 @@ def seconds(command, folder, out, script=None):
 def keys(path):
     """The first column of the rows that were printed."""
     with open(path, encoding="ascii") as lines:
-        return [line.partition("|")[0] for line in lines if "|" in line and not line.startswith("I|")]
+        return [row[1] for row in map(ROW.fullmatch, lines) if row]
 
 
-def write_scripts(folder):
-    ours = TABLE + "LOAD T FROM 't.csv';\n"
-    theirs = TABLE + ".mode csv\n.import t.csv T\n" + LISTED
+def write_scripts(folder, question):
+    ours = question.table + "LOAD T FROM 't.csv';\n"
+    theirs = question.table + ".mode csv\n.import t.csv T\n" + LISTED
     (folder / "ours_load.sql").write_text(ours)
-    (folder / "ours.sql").write_text(ours + QUERY * SELECTS)
+    (folder / "ours.sql").write_text(ours + question.query * SELECTS)
     (folder / "theirs_load.sql").write_text(theirs)
-    (folder / "theirs.sql").write_text(theirs + QUERY * SELECTS)
+    (folder / "theirs.sql").write_text(theirs + question.query * SELECTS)
 
 
 def round_of(folder):
     """The four times of one round: ours and theirs, each with the SELECTs and without."""
     sqlite = ["sqlite3", ":memory:"]
     return (
-        seconds([PROGRAM, "run", "ours.sql"], folder, "ours.txt"),
-        seconds([PROGRAM, "run", "ours_load.sql"], folder, "ours_load.txt"),
+        seconds([load.PROGRAM, "run", "ours.sql"], folder, "ours.txt"),
+        seconds([load.PROGRAM, "run", "ours_load.sql"], folder, "ours_load.txt"),
         seconds(sqlite, folder, "theirs.txt", "theirs.sql"),
         seconds(sqlite, folder, "theirs_load.txt", "theirs_load.sql"),
     )
 
 
+def timed(folder, name, question, count):
+    """A line of what a question takes over so many rows."""
+    question.write_records(folder / "t.csv", count)
+    best = [min(times) for times in zip(*(round_of(folder) for _ in range(3)))]
+    ours, theirs = ((asked - loaded) / SELECTS for asked, loaded in (best[:2], best[2:]))
+    rows = keys(folder / "ours.txt")
+    if rows != keys(folder / "theirs.txt"):
+        sys.exit("the two print other rows")
+    per_row = (time / count * 1e6 for time in (ours, theirs))
+    figures = f"{ours:.4f} {theirs:.4f} {ours / theirs:.2f} " + " ".join(f"{micros:.3f}" for micros in per_row)
+    return f"{name} {count} {len(rows) // SELECTS} {figures}"
+
+
 def main():
-    print("rows  printed  sqlr/s  sqlite3/s  ratio  sqlr/us a row  sqlite3/us a row")
+    print("query  rows  printed  sqlr/s  sqlite3/s  ratio  sqlr/us a row  sqlite3/us a row")
     with tempfile.TemporaryDirectory() as name:
         folder = pathlib.Path(name)
-        write_scripts(folder)
-        for count in (250_000, 500_000, 1_000_000):
-            write_records(folder / "t.csv", count)
-            best = [min(times) for times in zip(*(round_of(folder) for _ in range(3)))]
-            ours, theirs = ((asked - loaded) / SELECTS for asked, loaded in (best[:2], best[2:]))
-            rows = keys(folder / "ours.txt")
-            if rows != keys(folder / "theirs.txt"):
-                sys.exit("the two print other rows")
-            per_row = (time / count * 1e6 for time in (ours, theirs))
-            print(
-                count,
-                len(rows) // SELECTS,
-                f"{ours:.4f} {theirs:.4f} {ours / theirs:.2f}",
-                *(f"{micros:.3f}" for micros in per_row),
-            )
+        for name, question in QUESTIONS.items():
+            write_scripts(folder, question)
+            for count in (250_000, 500_000, 1_000_000):
+                print(timed(folder, name, question, count), flush=True)
 
 
 if __name__ == "__main__":

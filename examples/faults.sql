@@ -19,6 +19,11 @@ LOAD K FROM 'examples/faulty/null.csv';            -- E12: a null in a NOT NULL 
 SELECT A FROM T WHERE B = 0.0000000000000000001;   -- E13: a scale over 18
 SELECT C FROM T;                                   -- E14: no such column
 SELECT A FROM T WHERE B = 'cheap';                 -- E15: a number against a text
+SELECT A FROM T WHERE A + B;                       -- E16: no condition
+SELECT A FROM T WHERE COUNT(*) > 1;                -- E17: a set function in WHERE
+SELECT A, COUNT(*) FROM T GROUP BY B;              -- E18: not grouped by A
+SELECT A FROM T ORDER BY 2;                        -- E19: one result column
+SELECT A.A FROM T A, T B, T C, T D, T E, T F, T G, T H, T I, T J, T K, T L, T M, T N, T O; -- E20: 15 tables
 SELECT A, A, A, A, A, A, A, A, A, A, A, A, A, A, A, A, A, A, A, A, A, A, A, A, A, A, A, A, A, A, A, A, A, A, A, A, A, A, A, A, A, A, A, A, A, A, A, A, A, A, A, A, A, A, A, A, A, A, A, A, A, A, A, A, A FROM T; -- E21: 65 items
 EXPLAIN SELECT A FROM T;                           -- E21: can't be run yet
 LOAD T FROM 'examples/faulty/none.csv';            -- E22: no such file

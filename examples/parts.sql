@@ -13,3 +13,5 @@ SELECT NUMBER, NAME, STOCK FROM PARTS WHERE MATERIAL = 'Steel';
 -- Where there is no price the comparison is unknown, and the row does not pass.
 SELECT NAME, MATERIAL, PRICE FROM PARTS WHERE PRICE <= 0.05;
 SELECT NAME, STOCK FROM PARTS;
+-- A product has the digits behind the point that its factors have together.
+SELECT NAME, STOCK * PRICE AS WORTH FROM PARTS WHERE STOCK * PRICE BETWEEN 1 AND 100 OR MATERIAL NOT LIKE '%e%';

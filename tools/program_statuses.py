@@ -60,6 +60,10 @@ NAME|STOCK
 'Bracket, angled '|3
 'O-ring          '|40
 5 rows
+NAME|WORTH
+'Bolt M8         '|60.00
+'Washer 3/8"     '|NULL
+2 rows
 """
 
 FAULTS = b"""OK
@@ -82,6 +86,11 @@ error E12 23000 record 1
 error E13 42000
 error E14 42000
 error E15 42000
+error E16 42000
+error E17 42000
+error E18 42000
+error E19 42000
+error E20 42000
 error E21 42000
 error E21 42000
 error E22 42000

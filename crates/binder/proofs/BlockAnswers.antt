@@ -1,8 +1,7 @@
 -- What is answered for a block and its clauses.
-use Rattle.std.proofs.Common.{◌≡◌, ◌∙◌, refl, sym, ap, subst, inl, inr, ℕ, ◌+◌, ◌<◌, ◌≤◌, ◌⊎◌, Bool, true, false, List, [], ◌∷◌, ◌++◌, Option, Some, None, Result, Ok, Err, length, map, arith}
-use Rattle.std.specs.Prelude.{IfSome, IfErr, IsTrue}
+use Rattle.std.proofs.Common.{◌≡◌, sym, subst, inl, ◌∷◌, Option, Result, Ok, Err, length, map}
+use Rattle.std.specs.Prelude.{IfSome, IsTrue}
 use Rattle.std.specs.Result.{IsErr, IsErrAnd}
-use Rattle.definitions.specs.Lists.{AnyOf}
 use Rattle.definitions.specs.Refusal.{Refusal, UnknownColumn}
 use Rattle.definitions.specs.Statement as t
 use Rattle.definitions.specs.Statement.{Specification}
@@ -10,15 +9,13 @@ use Rattle.definitions.specs.Table.{Database}
 use Rattle.definitions.specs.Binding.Scopes.{Scopes, scope_of, are_there}
 use Rattle.definitions.specs.Binding.Faults as fault
 use Rattle.definitions.specs.Binding.Faults.{BlockFaulty, list_of}
-use Rattle.definitions.specs.Queries.BoundBlock as b
 use Rattle.definitions.specs.Queries.BoundBlock.{Blocks}
 use Rattle.bound.specs.declared.leaf.ValueType.{ValueType}
 use Rattle.bound.specs.declared.condition.Condition.{Condition}
 use Rattle.scopes.specs.Faults as source
 use Rattle.scopes.specs.Faults.{SourcesFaulty, source_refusal}
 use Rattle.scopes.specs.declared.fault.SourceFault.{SourceFault}
-use Rattle.trees.specs.Trees.{block_of, column_of, condition_of, source_of}
-use Rattle.trees.specs.Trees as tree
+use Rattle.trees.specs.Trees.{block_of, column_of, source_of}
 use Rattle.trees.specs.declared.expr.Block.{Block}
 use Rattle.trees.proofs.Views.{of_block}
 use Rattle.binder.specs.declared.block.Clauses.{Clauses}

@@ -5,7 +5,6 @@ use Rattle.definitions.specs.Grammar.{items}
 use Rattle.definitions.specs.Lists.{AnyOf}
 use Rattle.definitions.specs.Limits.{most_conjuncts, most_items, most_group_columns}
 use Rattle.definitions.specs.Refusal.{UngroupedColumn, OverQueryLimit}
-use Rattle.definitions.specs.Statement as t
 use Rattle.definitions.specs.Statement.{Asterisk, Listed, listed}
 use Rattle.definitions.specs.Table.{Database}
 use Rattle.definitions.specs.Binding.Scopes.{Scopes}
@@ -16,7 +15,7 @@ use Rattle.trees.specs.Trees.{block_of, column_of, condition_of, expr_of, item_o
 use Rattle.trees.specs.declared.expr.Block.{Block}
 use Rattle.trees.specs.declared.expr.Expr.{Expr}
 use Rattle.trees.specs.declared.expr.Item.{Item}
-use Rattle.trees.proofs.Views.{of_asterisk, of_block, of_items}
+use Rattle.trees.proofs.Views.{of_block}
 use Rattle.binder.specs.Blocks.{IsWithinLimits}
 
 pub as_many_items : (xs : List Item) → length (listed (items (map item_of xs))) ≡ length xs

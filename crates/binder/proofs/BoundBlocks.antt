@@ -1,25 +1,24 @@
 -- A block whose clauses are bound is bound, with the blocks inside it.
-use Rattle.std.proofs.Common.{◌≡◌, ◌∙◌, refl, sym, ap, ap₂, subst, inl, inr, ℕ, zero, suc, ◌+◌, ◌<◌, ◌≤◌, ◌⊎◌, Bool, true, false, List, [], ◌∷◌, ◌++◌, Option, Some, None, length, map, filter, arith, slice_set}
-use Rattle.std.specs.Prelude.{flat_map, if◌then◌else◌, is_some, IsTrue, IsFalse, ◌↔◌, ◌≢◌, ⊤}
+use Rattle.std.proofs.Common.{◌≡◌, ◌∙◌, refl, sym, ap, ap₂, subst, inl, ℕ, ◌+◌, ◌<◌, ◌≤◌, Bool, true, false, List, [], ◌∷◌, ◌++◌, Option, None, length, map, filter, arith, slice_set}
+use Rattle.std.specs.Prelude.{flat_map, if◌then◌else◌, is_some, IsTrue, IsFalse, ◌↔◌}
 use Rattle.std.proofs.lemmas.List.{append_assoc}
 use Rattle.definitions.specs.Lists.{AnyOf}
-use Rattle.definitions.specs.Limits.{most_blocks, most_from_tables, most_conjuncts}
-use Rattle.definitions.specs.Refusal.{Refusal, MisplacedCondition, OverQueryLimit}
+use Rattle.definitions.specs.Limits.{most_from_tables, most_conjuncts}
 use Rattle.definitions.specs.Statement as t
 use Rattle.definitions.specs.Statement.{Expr, Source, ColumnReference, SelectList, Asterisk, Listed, Condition, Absent, Present, Specification}
 use Rattle.definitions.specs.Table.{Database, AreDistinct}
 use Rattle.definitions.specs.Plans.Order.{BlockColumn}
-use Rattle.definitions.specs.Binding.Scopes.{NamedTable, Scopes, scope_of, are_there, resolve}
+use Rattle.definitions.specs.Binding.Scopes.{NamedTable, Scopes, scope_of, are_there}
 use Rattle.definitions.specs.Binding.Types.{list_type}
 use Rattle.definitions.specs.Binding.Parts.{PlacedBlock, is_function, functions_in, parts, item_values, condition_values, list_blocks, condition_blocks, block_blocks}
-use Rattle.definitions.specs.Binding.BoundForm.{Next, after_list, after_condition, bound_block, bound_blocks, bound_function, bound_option, own_column, select_items}
-use Rattle.definitions.specs.Binding.Faults.{is_condition, conjunct_count, column_count, IsGrouped, where_parts, shown_parts}
+use Rattle.definitions.specs.Binding.BoundForm.{Next, after_list, after_condition, bound_block, bound_blocks, bound_function, bound_option, select_items}
+use Rattle.definitions.specs.Binding.Faults.{is_condition, conjunct_count, column_count, IsGrouped, shown_parts}
 use Rattle.definitions.specs.Queries.BoundBlock as b
 use Rattle.definitions.specs.Queries.BoundBlock.{Blocks, BoundFunction}
-use Rattle.binder.specs.Judging.{InWhere, InShown, Refuses, IsClean, Progress, next_of, Adds, BindsBlock}
-use Rattle.binder.specs.Blocks.{IsWithinLimits, SomeNotOwn, own_columns, shown_in, condition_parts, list_parts, list_length, BindsList, BindsOption}
+use Rattle.binder.specs.Judging.{InWhere, IsClean, Progress, next_of, BindsBlock}
+use Rattle.binder.specs.Blocks.{IsWithinLimits, SomeNotOwn, own_columns, shown_in, condition_parts, list_parts, list_length}
 use Rattle.binder.specs.Clauses.{BoundClauses, BindsClauses}
-use Rattle.binder.proofs.Bundles.{add_both, clean_both, blocks_of_both, length_of_both, functions_of_both, map_of_both}
+use Rattle.binder.proofs.Bundles.{clean_both, blocks_of_both, length_of_both, functions_of_both, map_of_both}
 use Rattle.binder.proofs.BlockFaults.{IsConditionIn, HasFewConjuncts, IsJudged, accepted}
 use Rattle.binder.proofs.ClauseParts.{parts_of_both, later_refuses, no_functions}
 use Rattle.binder.proofs.Nodes.{few_after, blocks_after}

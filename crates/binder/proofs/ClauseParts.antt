@@ -1,5 +1,5 @@
 -- The clauses of a block: what is bound of them is bound of the block, and a fault of one is one of the block.
-use Rattle.std.proofs.Common.{◌≡◌, ◌∙◌, refl, sym, ap, ap₂, subst, inl, inr, ℕ, zero, suc, ◌+◌, ◌<◌, ◌≤◌, ◌⊎◌, Bool, true, false, List, [], ◌∷◌, ◌++◌, Option, Some, None, length, map, filter, arith}
+use Rattle.std.proofs.Common.{◌≡◌, ◌∙◌, refl, sym, ap, subst, inl, inr, ℕ, ◌+◌, Bool, true, false, List, [], ◌∷◌, ◌++◌, length, filter, arith}
 use Rattle.std.specs.Prelude.{flat_map, if◌then◌else◌, IsTrue, IsFalse}
 use Rattle.std.proofs.lemmas.List.{append_assoc}
 use Rattle.definitions.specs.Lists.{AnyOf}
@@ -8,17 +8,17 @@ use Rattle.definitions.specs.Statement as t
 use Rattle.definitions.specs.Statement.{Expr}
 use Rattle.definitions.specs.Table.{Database}
 use Rattle.definitions.specs.Binding.Scopes.{Scopes}
-use Rattle.definitions.specs.Binding.Parts.{PlacedBlock, is_function, functions_in, parts, item_values, condition_values, list_blocks, condition_blocks}
-use Rattle.definitions.specs.Binding.Faults.{list_of, where_of, having_of, where_parts, shown_parts}
+use Rattle.definitions.specs.Binding.Parts.{PlacedBlock, is_function, parts, item_values, condition_values, list_blocks, condition_blocks}
+use Rattle.definitions.specs.Binding.Faults.{list_of, where_of, having_of, where_parts}
 use Rattle.definitions.specs.Queries.BoundBlock.{Blocks}
 use Rattle.trees.specs.Trees.{block_of, condition_of}
 use Rattle.trees.specs.Trees as tree
 use Rattle.trees.specs.declared.expr.Block.{Block}
 use Rattle.trees.proofs.Views.{of_block}
-use Rattle.binder.specs.Judging.{Place, InWhere, InShown, InArgument, is_where, takes_functions, PartFaulty, Refuses, part, argument, inner, misplaced, misplaced_function, many, IsClean, Progress, Adds}
+use Rattle.binder.specs.Judging.{Place, InWhere, InShown, InArgument, is_where, takes_functions, Refuses, part, argument, inner, misplaced, misplaced_function, many, Progress, Adds}
 use Rattle.binder.specs.Blocks.{condition_parts, list_parts, BindsList, BindsOption, RefusesList, RefusesOption}
 use Rattle.binder.specs.Clauses.{BoundClauses, BindsClauses, RefusesClauses, in_where, in_shown, condition_for_item, value_for_condition}
-use Rattle.binder.proofs.Bundles.{any_left, any_right, fault_left, fault_right, length_of_both}
+use Rattle.binder.proofs.Bundles.{any_left, any_right, fault_left, fault_right}
 use Rattle.binder.proofs.BlockFaults.{any_map}
 use Rattle.binder.proofs.Nodes.{blocks_after}
 

@@ -1,16 +1,15 @@
 -- Which blocks are grouped.
 use Rattle.std.proofs.Common.{◌≡◌, ◌∙◌, refl, sym, ap, subst, inl, inr, ◌⊎◌, Bool, true, false, List, [], ◌∷◌, ◌++◌, Option, Some, None, map, ℕ, length, arith, ◌==◌}
 use Rattle.std.proofs.lemmas.Bool.Decides.{nat_tests}
-use Rattle.std.specs.Prelude.{◌≢◌, ◌||◌, flat_map, IsTrue, is_some}
+use Rattle.std.specs.Prelude.{◌||◌, flat_map, IsTrue, is_some}
 use Rattle.std.specs.List.{list_any}
 use Rattle.definitions.specs.Lists.{AnyOf}
 use Rattle.definitions.specs.Statement as t
 use Rattle.definitions.specs.Statement.{Absent, Specification}
-use Rattle.definitions.specs.Binding.Parts.{is_function, item_values, condition_values, parts}
+use Rattle.definitions.specs.Binding.Parts.{is_function, item_values, parts}
 use Rattle.definitions.specs.Binding.Faults.{IsGrouped}
 use Rattle.trees.specs.Trees.{block_of, column_of, condition_of, list_of, source_of}
 use Rattle.trees.specs.declared.expr.Block.{Block}
-use Rattle.trees.specs.declared.expr.Expr.{Expr}
 use Rattle.trees.proofs.Views.{of_block}
 
 any_found : {X : Type 0} (test : X → Bool) (xs : List X) → list_any test xs ≡ true → AnyOf (λ x. IsTrue (test x)) xs

@@ -1,5 +1,5 @@
 -- The columns of GROUP BY, one after another.
-use Rattle.std.proofs.Common.{◌≡◌, ◌∙◌, refl, sym, ap, ap₂, subst, inl, inr, ℕ, zero, suc, ◌+◌, ◌<◌, ◌≤◌, List, [], ◌∷◌, ◌++◌, length, map, drop, get_or}
+use Rattle.std.proofs.Common.{◌≡◌, ◌∙◌, refl, sym, ap, inl, inr, ℕ, ◌+◌, ◌<◌, ◌≤◌, List, [], ◌∷◌, ◌++◌, length, map, drop, get_or, append-nil}
 use Rattle.std.proofs.lemmas.List.{append_assoc, drop_more, drop_all}
 use Rattle.definitions.specs.Statement.{ColumnReference}
 use Rattle.definitions.specs.Table.{Database}
@@ -33,12 +33,8 @@ pub fault_at_group : (scopes : Scopes) (all : List ColumnReference) (done : List
     → ((db : Database) → IsNotOwn db scopes (resolve scopes x)) → (db : Database) → SomeNotOwn db scopes all
 fault_at_group scopes all done x rest h n db = h.forth db (inl (n db))
 
-nothing_more : (xs : List BlockColumn) → xs ++ [] ≡ xs
-nothing_more [] = refl
-nothing_more (x ∷ xs) = ap (λ ys. x ∷ ys) (nothing_more xs)
-
 pub groups_are : (scopes : Scopes) (all : List ColumnReference) (done : List BlockColumn) → GroupsLeft scopes all done [] → done ≡ own_columns scopes all
-groups_are scopes all done h = sym (nothing_more done) ∙ h.are
+groups_are scopes all done h = sym (append-nil done) ∙ h.are
 
 pub groups_are_own : (scopes : Scopes) (all : List ColumnReference) (done : List BlockColumn) → GroupsLeft scopes all done [] → (db : Database) → SomeNotOwn db scopes all → ⊥
 groups_are_own scopes all done h db n = h.back db n

@@ -1,12 +1,12 @@
 -- Result columns, one after another.
-use Rattle.std.proofs.Common.{◌≡◌, ◌∙◌, refl, sym, ap, ap₂, subst, inl, inr, ℕ, zero, suc, ◌+◌, ◌==◌, ◌<◌, ◌≤◌, ◌⊎◌, Bool, true, false, List, [], ◌∷◌, ◌++◌, Option, Some, None, length, map, drop, take, get_or, option_map, arith}
-use Rattle.std.specs.Prelude.{flat_map, is_some, IsTrue, IsFalse, IfSome, ◌↔◌}
+use Rattle.std.proofs.Common.{◌≡◌, ◌∙◌, refl, sym, ap, ap₂, subst, inl, inr, ℕ, zero, suc, ◌+◌, ◌==◌, ◌<◌, ◌≤◌, Bool, true, false, List, [], ◌∷◌, ◌++◌, Option, Some, None, length, map, drop, take, get_or, option_map, arith, append-nil}
+use Rattle.std.specs.Prelude.{flat_map, is_some, IsTrue, IfSome, ◌↔◌}
 use Rattle.std.proofs.lemmas.Bool.Decides.{nat_tests}
 use Rattle.std.proofs.lemmas.List.{append_assoc, drop_more, drop_all, take_more}
 use Rattle.definitions.specs.Grammar.{items}
 use Rattle.definitions.specs.Lists.{AnyOf}
 use Rattle.definitions.specs.Limits.{most_blocks}
-use Rattle.definitions.specs.Refusal.{Refusal, MisplacedCondition}
+use Rattle.definitions.specs.Refusal.{Refusal}
 use Rattle.definitions.specs.Statement as t
 use Rattle.definitions.specs.Statement.{Expr, Name, Items, NoItem, AddItem, Asterisk, Listed, listed}
 use Rattle.definitions.specs.Table.{Database}
@@ -15,7 +15,7 @@ use Rattle.std.specs.List.{AllByRecursion}
 use Rattle.definitions.specs.Invariant.{IsDatabase}
 use Rattle.definitions.specs.Binding.Scopes.{Scopes, Found, all_columns, own_scope, scope_of}
 use Rattle.definitions.specs.Binding.Types.{expr_type, list_type, single_type}
-use Rattle.definitions.specs.Binding.Parts.{PlacedBlock, parts, item_values, item_blocks, blocks_in}
+use Rattle.definitions.specs.Binding.Parts.{parts, item_values, item_blocks, blocks_in}
 use Rattle.definitions.specs.Binding.BoundForm.{after_items, bound_items, header_name, result_name, star_items}
 use Rattle.definitions.specs.Binding.Faults.{is_condition}
 use Rattle.definitions.specs.Queries.BoundBlock as b
@@ -33,10 +33,6 @@ use Rattle.binder.proofs.Nodes.{next_after, blocks_after}
 both_cannot : (b : Bool) → b ≡ false → IsTrue b → ⊥
 both_cannot true h k = absurd cc
 both_cannot false h k = absurd cc
-
-nothing_more : {X : Type 0} (xs : List X) → xs ++ [] ≡ xs
-nothing_more [] = refl
-nothing_more (x ∷ xs) = ap (λ ys. x ∷ ys) (nothing_more xs)
 
 -- ---- the items of a tree
 
@@ -127,7 +123,7 @@ module _ (db : Database) (scopes : Scopes) (place : Place) where
   fault_at_item old all now done e alias rest r h f = h.refuses r (item_operand now e alias rest r f)
 
   end_items : (old : Progress) (all : Items) (now : Progress) (done : List b.Item) → ItemsLeft old all now done NoItem → BindsItems old now 1 all done
-  end_items old all now done h = subst (BindsItems old now 1 all) (nothing_more done) (h.binds now [] (no_items now (length done + 1) h.few))
+  end_items old all now done h = subst (BindsItems old now 1 all) (append-nil done) (h.binds now [] (no_items now (length done + 1) h.few))
 
   -- ---- the type of the only item
 

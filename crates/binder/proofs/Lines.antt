@@ -1,22 +1,21 @@
 -- The operands of a line, one after another: of arithmetic, and of AND and OR.
-use Rattle.std.proofs.Common.{◌≡◌, ◌∙◌, refl, sym, ap, ap₂, subst, inl, inr, ℕ, ◌+◌, ◌<◌, ◌≤◌, ◌⊎◌, Bool, true, false, List, [], ◌∷◌, ◌++◌, Option, Some, None, length, arith}
-use Rattle.std.specs.Prelude.{not, ◌&&◌, IsTrue, IsFalse}
+use Rattle.std.proofs.Common.{◌≡◌, ◌∙◌, refl, sym, ap, ap₂, subst, inl, inr, ℕ, ◌<◌, ◌≤◌, ◌⊎◌, Bool, true, false, List, [], ◌∷◌, ◌++◌, Option, Some, None, length, arith}
+use Rattle.std.specs.Prelude.{◌&&◌, IsFalse}
 use Rattle.std.proofs.lemmas.List.{append_assoc}
 use Rattle.definitions.specs.Limits.{most_blocks, greatest_scale}
 use Rattle.definitions.specs.Refusal.{Refusal, MisplacedCondition, MixedKinds, ScaleTooGreat}
 use Rattle.definitions.specs.Statement as t
 use Rattle.definitions.specs.Statement.{Expr, Operands, NoOperand, Operand}
 use Rattle.definitions.specs.Table.{Database}
-use Rattle.definitions.specs.Value.{Texts}
-use Rattle.definitions.specs.ValueType.{ValueType, NumberType, TextType, type_kind}
+use Rattle.definitions.specs.ValueType.{ValueType, NumberType, TextType}
 use Rattle.definitions.specs.Binding.Scopes.{Scopes}
 use Rattle.definitions.specs.Binding.Types.{expr_type, chain_type, joined_type}
-use Rattle.definitions.specs.Binding.Parts.{PlacedBlock, parts, operand_parts, blocks_in, operand_blocks}
-use Rattle.definitions.specs.Binding.BoundForm.{Next, operator_of, connected, bound_operands, bound_parts}
-use Rattle.definitions.specs.Binding.Faults.{same, is_logical, is_condition, takes_right, operands_are, IsOf, SomeOperandIsText, IsGreat, HasGreatProduct}
+use Rattle.definitions.specs.Binding.Parts.{parts, operand_parts, blocks_in, operand_blocks}
+use Rattle.definitions.specs.Binding.BoundForm.{operator_of, connected, bound_operands, bound_parts}
+use Rattle.definitions.specs.Binding.Faults.{same, is_logical, is_condition, operands_are, SomeOperandIsText, IsGreat, HasGreatProduct}
 use Rattle.definitions.specs.Queries.BoundBlock as b
 use Rattle.bound.specs.Bound.{OperandTree, operands, conditions}
-use Rattle.binder.specs.Judging.{Place, PartFaulty, too_fine, mixed_kinds, wrong_operand, Refuses, Progress, next_of, Adds, BindsValue, BindsCondition, RefusesValue, RefusesCondition, IsFine}
+use Rattle.binder.specs.Judging.{Place, PartFaulty, too_fine, mixed_kinds, wrong_operand, Refuses, Progress, next_of, Adds, BindsValue, BindsCondition, RefusesValue, RefusesCondition}
 use Rattle.binder.proofs.Bundles.{add_node, add_none, add_both, fault_here, fault_behind, fault_left, fault_right}
 use Rattle.binder.proofs.Nodes.{sound, no_text, next_after, blocks_after}
 

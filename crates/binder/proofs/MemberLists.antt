@@ -1,22 +1,21 @@
 -- The members of an IN list, one after another.
-use Rattle.std.proofs.Common.{◌≡◌, ◌∙◌, refl, sym, ap, ap₂, subst, inl, inr, ℕ, ◌+◌, ◌<◌, ◌≤◌, ◌⊎◌, Bool, true, false, List, [], ◌∷◌, ◌++◌, Option, Some, None, length, arith}
-use Rattle.std.specs.Prelude.{not, ◌&&◌, IsTrue, IsFalse}
+use Rattle.std.proofs.Common.{◌≡◌, ◌∙◌, refl, sym, ap, ap₂, subst, inl, inr, ◌≤◌, Bool, true, false, List, [], ◌∷◌, ◌++◌, Option, Some, None, length}
+use Rattle.std.specs.Prelude.{not, ◌&&◌, IsFalse}
 use Rattle.std.proofs.lemmas.List.{append_assoc}
-use Rattle.definitions.specs.Limits.{most_blocks, most_members}
+use Rattle.definitions.specs.Limits.{most_blocks}
 use Rattle.definitions.specs.Refusal.{Refusal, MisplacedCondition, MixedKinds, OverQueryLimit}
 use Rattle.definitions.specs.Statement as t
 use Rattle.definitions.specs.Statement.{Expr, Members, NoMember, NullMember, Member}
 use Rattle.definitions.specs.Table.{Database}
 use Rattle.definitions.specs.ValueType.{ValueType, type_kind}
 use Rattle.definitions.specs.Binding.Scopes.{Scopes}
-use Rattle.definitions.specs.Binding.Types.{expr_type}
-use Rattle.definitions.specs.Binding.Parts.{PlacedBlock, parts, member_parts, blocks_in, member_blocks}
-use Rattle.definitions.specs.Binding.BoundForm.{Next, bound_members}
-use Rattle.definitions.specs.Binding.Faults.{Differ, is_condition, takes_right, SomeMemberDiffers, members_are_values, HasManyMembers}
+use Rattle.definitions.specs.Binding.Parts.{parts, member_parts, blocks_in, member_blocks}
+use Rattle.definitions.specs.Binding.BoundForm.{bound_members}
+use Rattle.definitions.specs.Binding.Faults.{is_condition, SomeMemberDiffers, members_are_values, HasManyMembers}
 use Rattle.definitions.specs.Queries.BoundBlock as b
-use Rattle.binder.specs.Judging.{Place, PartFaulty, mixed_kinds, wrong_operand, many_members, Refuses, Progress, next_of, Adds, BindsValue, BindsCondition, BindsMembers, RefusesValue, RefusesCondition, RefusesMembers}
+use Rattle.binder.specs.Judging.{Place, PartFaulty, mixed_kinds, wrong_operand, many_members, Refuses, Progress, BindsValue, BindsCondition, BindsMembers, RefusesValue, RefusesCondition, RefusesMembers}
 use Rattle.binder.proofs.Bundles.{add_node, add_none, add_both, fault_here, fault_behind, fault_left, fault_right}
-use Rattle.binder.proofs.Nodes.{sound, both_taken, first_not_taken, second_not_taken, alike, unlike, next_after, blocks_after}
+use Rattle.binder.proofs.Nodes.{sound, alike, unlike, next_after, blocks_after}
 
 module _ (db : Database) (scopes : Scopes) (place : Place) where
   pub no_members : (s : Progress) (k : ValueType) → length s.blocks ≤ most_blocks → BindsMembers db scopes place s s k NoMember []

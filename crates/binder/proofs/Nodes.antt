@@ -1,21 +1,21 @@
 -- Expressions made of other expressions: what is bound of the parts is bound of the whole, and a fault of a part is one of the whole.
-use Rattle.std.proofs.Common.{◌≡◌, ◌∙◌, refl, sym, ap, ap₂, subst, inl, inr, ℕ, ◌+◌, ◌<◌, ◌≤◌, ◌⊎◌, Bool, true, false, List, [], ◌∷◌, ◌++◌, Option, Some, None, length, map, filter, arith}
+use Rattle.std.proofs.Common.{◌≡◌, ◌∙◌, refl, sym, ap, ap₂, subst, inl, inr, ℕ, ◌+◌, ◌<◌, ◌≤◌, Bool, true, false, List, [], ◌∷◌, ◌++◌, Option, Some, length, map, filter, arith}
 use Rattle.std.specs.Prelude.{not, ◌&&◌, IsTrue, IsFalse}
-use Rattle.definitions.specs.Limits.{most_blocks, greatest_scale}
+use Rattle.definitions.specs.Limits.{most_blocks}
 use Rattle.definitions.specs.Refusal.{Refusal, MisplacedCondition, MixedKinds}
 use Rattle.definitions.specs.Statement as t
 use Rattle.definitions.specs.Statement.{Expr}
 use Rattle.definitions.specs.Table.{Database}
-use Rattle.definitions.specs.Value.{Numbers, Texts}
+use Rattle.definitions.specs.Value.{Texts}
 use Rattle.definitions.specs.ValueType.{ValueType, NumberType, TextType, type_kind}
 use Rattle.definitions.specs.Plans.Order.{BlockColumn}
 use Rattle.definitions.specs.Binding.Scopes.{Scopes}
 use Rattle.definitions.specs.Binding.Types.{expr_type}
 use Rattle.definitions.specs.Binding.Parts.{PlacedBlock, is_function, parts, blocks_in}
-use Rattle.definitions.specs.Binding.BoundForm.{Next, after, bound_value, bound_condition, bound_function}
+use Rattle.definitions.specs.Binding.BoundForm.{Next, after, bound_value, bound_function}
 use Rattle.definitions.specs.Binding.Faults.{Differ, IsTooFine, NamesNoColumn, MixesKinds, takes_right, is_condition, HasManyMembers, IsOuterColumn, argument_parts}
 use Rattle.definitions.specs.Queries.BoundBlock as b
-use Rattle.binder.specs.Judging.{Place, IsUngroupedIn, PartFaulty, too_fine, no_column, mixed_kinds, wrong_operand, many_members, misplaced_function, outer_column, ungrouped, Refuses, part, many, IsClean, Progress, next_of, IsFine, Adds, BindsValue, BindsCondition, RefusesValue, RefusesCondition}
+use Rattle.binder.specs.Judging.{Place, IsUngroupedIn, PartFaulty, too_fine, no_column, mixed_kinds, wrong_operand, many_members, misplaced_function, outer_column, ungrouped, Refuses, many, Progress, next_of, Adds, BindsValue, BindsCondition, RefusesValue, RefusesCondition}
 use Rattle.binder.specs.Leaves.{BindsLeaf}
 use Rattle.binder.proofs.Bundles.{IsSoundPart, add_node, add_none, add_both, fault_here, fault_behind, fault_left, fault_right, as_many_blocks, length_of_both}
 

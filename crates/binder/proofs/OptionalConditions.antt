@@ -1,13 +1,12 @@
 -- A condition that may be absent.
-use Rattle.std.proofs.Common.{◌≡◌, ◌∙◌, refl, sym, ap, subst, inl, inr, ◌≤◌, ◌⊎◌, Bool, true, false, List, [], ◌∷◌, ◌++◌, Option, Some, None, length, map}
-use Rattle.std.specs.Prelude.{IfSome, IsFalse}
+use Rattle.std.proofs.Common.{◌≡◌, refl, sym, ap, subst, inl, inr, ◌≤◌, Bool, true, false, List, [], ◌∷◌, ◌++◌, Some, None, length}
+use Rattle.std.specs.Prelude.{IsFalse}
 use Rattle.definitions.specs.Limits.{most_blocks}
 use Rattle.definitions.specs.Refusal.{Refusal}
-use Rattle.definitions.specs.Statement as t
 use Rattle.definitions.specs.Statement.{Expr, Absent, Present}
 use Rattle.definitions.specs.Table.{Database}
 use Rattle.definitions.specs.Binding.Scopes.{Scopes}
-use Rattle.definitions.specs.Binding.Parts.{PlacedBlock, parts, blocks_in}
+use Rattle.definitions.specs.Binding.Parts.{parts, blocks_in}
 use Rattle.definitions.specs.Binding.Faults.{is_condition}
 use Rattle.definitions.specs.Queries.BoundBlock as b
 use Rattle.binder.specs.Judging.{Place, Progress, Adds, Refuses, BindsCondition, RefusesCondition}

@@ -1,22 +1,21 @@
 -- Predicates and subqueries: what is bound of the parts is bound of the whole, and a fault of a part is one of the whole.
-use Rattle.std.proofs.Common.{◌≡◌, ◌∙◌, refl, sym, ap, ap₂, subst, inl, inr, ℕ, ◌+◌, ◌<◌, ◌≤◌, ◌⊎◌, Bool, true, false, List, [], ◌∷◌, ◌++◌, Option, Some, None, length, map, filter, arith}
-use Rattle.std.specs.Prelude.{not, ◌&&◌, IsTrue, IsFalse}
-use Rattle.definitions.specs.Limits.{most_blocks, most_members}
-use Rattle.definitions.specs.Refusal.{Refusal, MisplacedCondition, MixedKinds, OverQueryLimit}
+use Rattle.std.proofs.Common.{◌≡◌, ◌∙◌, refl, sym, ap, ap₂, subst, inl, inr, ℕ, Bool, true, false, List, [], ◌∷◌, ◌++◌, Option, Some, length, append-nil}
+use Rattle.std.specs.Prelude.{not, ◌&&◌, IsFalse}
+use Rattle.definitions.specs.Refusal.{Refusal, MisplacedCondition, MixedKinds}
 use Rattle.definitions.specs.Statement as t
 use Rattle.definitions.specs.Statement.{Expr}
 use Rattle.definitions.specs.Table.{Database}
-use Rattle.definitions.specs.Value.{Numbers, Texts}
+use Rattle.definitions.specs.Value.{Numbers}
 use Rattle.definitions.specs.ValueType.{ValueType, NumberType, TextType, type_kind}
 use Rattle.definitions.specs.Binding.Scopes.{Scopes}
-use Rattle.definitions.specs.Binding.Types.{expr_type, query_type}
-use Rattle.definitions.specs.Binding.Parts.{PlacedBlock, is_function, parts, blocks_in, block_blocks}
-use Rattle.definitions.specs.Binding.BoundForm.{Next, after, bound_value, bound_condition, known_type}
+use Rattle.definitions.specs.Binding.Types.{expr_type}
+use Rattle.definitions.specs.Binding.Parts.{parts, blocks_in, block_blocks}
+use Rattle.definitions.specs.Binding.BoundForm.{Next, after, bound_value, known_type}
 use Rattle.definitions.specs.Binding.Faults.{is_condition, takes_right}
 use Rattle.definitions.specs.Queries.BoundBlock as b
-use Rattle.binder.specs.Judging.{Place, PartFaulty, mixed_kinds, wrong_operand, many_members, Refuses, Progress, next_of, Adds, BindsValue, BindsCondition, BindsColumn, BindsQuery, RefusesValue, RefusesCondition, RefusesQuery, RefusesColumn}
+use Rattle.binder.specs.Judging.{Place, PartFaulty, mixed_kinds, wrong_operand, Refuses, Progress, next_of, Adds, BindsValue, BindsCondition, BindsColumn, BindsQuery, RefusesValue, RefusesCondition, RefusesQuery, RefusesColumn}
 use Rattle.binder.proofs.Bundles.{add_node, add_both, fault_here, fault_behind, fault_left, fault_right}
-use Rattle.binder.proofs.Nodes.{sound, of_only, of_first, of_second, taken, not_taken, both_taken, first_not_taken, second_not_taken, alike, unlike, next_after, blocks_after}
+use Rattle.binder.proofs.Nodes.{sound, of_only, taken, not_taken, alike, unlike, next_after, blocks_after}
 
 module _ (db : Database) (scopes : Scopes) (place : Place) where
   -- ---- IS NULL, LIKE and NOT
@@ -238,25 +237,21 @@ module _ (db : Database) (scopes : Scopes) (place : Place) where
 
   -- ---- a value and a subquery
 
-  no_more : (xs : List Expr) → xs ++ [] ≡ xs
-  no_more [] = refl
-  no_more (x ∷ xs) = ap (λ ys. x ∷ ys) (no_more xs)
-
   with_query : (old mid new : Progress) (e : Expr) (query : t.Block) (v : b.ValueExpr) (k l : ValueType) (number : ℕ) → BindsValue db scopes place old mid e v k → BindsColumn db scopes place mid new query number l
       → Adds db scopes place old new (parts e) (blocks_in db scopes e ++ block_blocks db scopes query)
   with_query old mid new e query v k l number h i =
-      subst (λ ps. Adds db scopes place old new ps (blocks_in db scopes e ++ block_blocks db scopes query)) (no_more (parts e)) (add_both db scopes place old mid new (parts e) [] (blocks_in db scopes e) (block_blocks db scopes query) h.adds i.adds)
+      subst (λ ps. Adds db scopes place old new ps (blocks_in db scopes e ++ block_blocks db scopes query)) (append-nil (parts e)) (add_both db scopes place old mid new (parts e) [] (blocks_in db scopes e) (block_blocks db scopes query) h.adds i.adds)
 
   query_behind : (old mid : Progress) (e : Expr) (query : t.Block) (v : b.ValueExpr) (k : ValueType) (r : Refusal) → BindsValue db scopes place old mid e v k → RefusesQuery db scopes place mid query r
       → Refuses db scopes place (length old.blocks) (parts e) (blocks_in db scopes e ++ block_blocks db scopes query) r
   query_behind old mid e query v k r h f =
-      subst (λ ps. Refuses db scopes place (length old.blocks) ps (blocks_in db scopes e ++ block_blocks db scopes query) r) (no_more (parts e))
+      subst (λ ps. Refuses db scopes place (length old.blocks) ps (blocks_in db scopes e ++ block_blocks db scopes query) r) (append-nil (parts e))
       (fault_right db scopes place (length old.blocks) (parts e) [] (blocks_in db scopes e) (block_blocks db scopes query) r
       (subst (λ n. Refuses db scopes place n [] (block_blocks db scopes query) r) (blocks_after db scopes place old mid (parts e) (blocks_in db scopes e) h.adds) f))
 
   operand_before : (s : Progress) (e : Expr) (query : t.Block) (r : Refusal) → Refuses db scopes place (length s.blocks) (parts e) (blocks_in db scopes e) r → Refuses db scopes place (length s.blocks) (parts e) (blocks_in db scopes e ++ block_blocks db scopes query) r
   operand_before s e query r f =
-      subst (λ ps. Refuses db scopes place (length s.blocks) ps (blocks_in db scopes e ++ block_blocks db scopes query) r) (no_more (parts e))
+      subst (λ ps. Refuses db scopes place (length s.blocks) ps (blocks_in db scopes e ++ block_blocks db scopes query) r) (append-nil (parts e))
       (fault_left db scopes place (length s.blocks) (parts e) [] (blocks_in db scopes e) (block_blocks db scopes query) r f)
 
   -- x IN (query) and x op ALL (query), in one

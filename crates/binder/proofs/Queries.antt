@@ -1,15 +1,15 @@
 -- Whole queries: the blocks that are bound, and the order of the outermost.
-use Rattle.std.proofs.Common.{◌≡◌, ◌∙◌, refl, sym, ap, ap₂, subst, inl, inr, ℕ, ◌+◌, ◌<◌, ◌≤◌, ◌⊎◌, List, [], ◌∷◌, ◌++◌, Option, Some, None, length, map, slice_set, slice_index_or, Vec, arith}
-use Rattle.std.specs.Prelude.{IsTrue, IfSome, IfErr, Result, Ok, Err}
+use Rattle.std.proofs.Common.{◌≡◌, ◌∙◌, refl, sym, ap, ap₂, subst, inl, inr, ◌≤◌, List, [], ◌∷◌, ◌++◌, Option, Some, length, map, slice_set, slice_index_or, Vec, arith}
+use Rattle.std.specs.Prelude.{IsTrue, IfSome, IfErr, Result, Err}
 use Rattle.std.specs.Global.{Global}
-use Rattle.definitions.specs.Limits.{most_blocks, most_keys}
-use Rattle.definitions.specs.Refusal.{Refusal, UnknownKey, OverQueryLimit}
+use Rattle.definitions.specs.Limits.{most_keys}
+use Rattle.definitions.specs.Refusal.{Refusal}
 use Rattle.definitions.specs.Statement as t
 use Rattle.definitions.specs.Statement.{Name, Asterisk, Listed, Specification, block_sources}
 use Rattle.definitions.specs.Table.{Database}
 use Rattle.definitions.specs.ValueType.{ValueType}
 use Rattle.definitions.specs.Binding.Scopes.{Found, Scopes, scope_of, all_columns, own_scope}
-use Rattle.definitions.specs.Binding.Parts.{PlacedBlock, block_blocks, list_blocks, condition_blocks}
+use Rattle.definitions.specs.Binding.Parts.{block_blocks, list_blocks, condition_blocks}
 use Rattle.definitions.specs.Binding.BoundForm.{bound_block, bound_blocks, names_of_list, select_items}
 use Rattle.definitions.specs.Binding.Faults as fault
 use Rattle.definitions.specs.Binding.Faults.{Faulty, IsAccepted, block_is_there, list_of}

@@ -1,8 +1,8 @@
 -- Set functions.
-use Rattle.std.proofs.Common.{◌≡◌, ◌∙◌, refl, sym, ap, ap₂, subst, inl, inr, ℕ, ◌+◌, ◌<◌, ◌≤◌, ◌⊎◌, Bool, true, false, List, [], ◌∷◌, ◌++◌, Option, Some, None, length, map, filter, arith}
-use Rattle.std.specs.Prelude.{not, ◌≢◌, flat_map, IsTrue, IsFalse}
+use Rattle.std.proofs.Common.{◌≡◌, ◌∙◌, refl, sym, ap, subst, inl, inr, ℕ, ◌≤◌, Bool, true, false, List, [], ◌∷◌, ◌++◌, Some, length, arith, append-nil}
+use Rattle.std.specs.Prelude.{not, ◌≢◌, IsTrue, IsFalse}
 use Rattle.definitions.specs.Lists.{AnyOf}
-use Rattle.definitions.specs.Limits.{most_blocks, greatest_scale}
+use Rattle.definitions.specs.Limits.{most_blocks}
 use Rattle.definitions.specs.Refusal.{Refusal, MisplacedCondition, MisplacedFunction, MixedKinds}
 use Rattle.definitions.specs.Statement as t
 use Rattle.definitions.specs.Statement.{Expr}
@@ -12,25 +12,20 @@ use Rattle.definitions.specs.ValueType.{ValueType, NumberType, TextType, type_ki
 use Rattle.definitions.specs.Binding.Scopes.{Scopes}
 use Rattle.definitions.specs.Binding.Types.{expr_type, function_type}
 use Rattle.definitions.specs.Binding.Parts.{PlacedBlock, parts, blocks_in}
-use Rattle.definitions.specs.Binding.BoundForm.{Next, bound_value, bound_function, bound_blocks, known_type}
+use Rattle.definitions.specs.Binding.BoundForm.{bound_blocks, known_type}
 use Rattle.definitions.specs.Binding.Faults.{is_condition, takes_right, argument_parts}
 use Rattle.definitions.specs.Binding.Faults as faults
 use Rattle.definitions.specs.Queries.BoundBlock as b
 use Rattle.definitions.specs.Queries.BoundBlock.{BoundFunction}
-use Rattle.binder.specs.Judging.{Place, InWhere, InShown, InArgument, is_where, takes_functions, PartFaulty, too_fine, no_column, mixed_kinds, wrong_operand, many_members, misplaced_function, outer_column, ungrouped, Refuses, part, argument, inner, misplaced, many, IsClean, Progress, next_of, Adds, BindsValue, RefusesValue, IsFine}
+use Rattle.binder.specs.Judging.{Place, InWhere, InShown, InArgument, is_where, takes_functions, PartFaulty, too_fine, no_column, mixed_kinds, wrong_operand, many_members, misplaced_function, outer_column, ungrouped, part, argument, inner, misplaced, many, IsClean, Progress, BindsValue, RefusesValue, IsFine}
 use Rattle.binder.specs.Leaves.{WantsNumbers}
-use Rattle.binder.proofs.Bundles.{any_left, any_split, fault_here, length_of_both}
-use Rattle.binder.proofs.Nodes.{taken, not_taken}
+use Rattle.binder.proofs.Bundles.{any_left, fault_here}
 
 abbrev pub nothing_bound : Progress
 nothing_bound = record { blocks = []; functions = [] }
 
 abbrev pub with_function : Progress → BoundFunction → Progress
 with_function s f = record { blocks = s.blocks; functions = s.functions ++ f ∷ [] }
-
-no_more : {X : Type 0} (xs : List X) → xs ++ [] ≡ xs
-no_more [] = refl
-no_more (x ∷ xs) = ap (λ ys. x ∷ ys) (no_more xs)
 
 module _ (db : Database) (scopes : Scopes) (place : Place) where
   -- ---- a function is bound: of rows, and of an argument
@@ -59,7 +54,7 @@ module _ (db : Database) (scopes : Scopes) (place : Place) where
 
   pub binds_count_rows : (s : Progress) → length s.blocks ≤ most_blocks → IsTrue (takes_functions place) → BindsValue db scopes place s (with_function s b.CountRows) t.CountRows (b.SetValue (length s.functions) (NumberType 0)) (NumberType 0)
   binds_count_rows s few p = record {
-    adds = record { blocks = sym (no_more s.blocks); functions = refl; clean = no_fault (length s.blocks) t.CountRows few (rows_sound p) (λ r x. x) };
+    adds = record { blocks = sym (append-nil s.blocks); functions = refl; clean = no_fault (length s.blocks) t.CountRows few (rows_sound p) (λ r x. x) };
     bound = refl;
     typed = refl;
     fine = omega (arith);
@@ -114,10 +109,10 @@ module _ (db : Database) (scopes : Scopes) (place : Place) where
       let known : function_type function (expr_type db scopes e) ≡ Some type = ap (function_type function) h.typed ∙ typed in
       record {
         adds = record {
-          blocks = sym (no_more s.blocks) ∙ ap (λ bs. s.blocks ++ bound_blocks db (length s.blocks) bs []) (sym none);
+          blocks = sym (append-nil s.blocks) ∙ ap (λ bs. s.blocks ++ bound_blocks db (length s.blocks) bs []) (sym none);
           functions = ap (λ x. s.functions ++ b.OfValues function distinct x ∷ []) h.bound;
           clean = subst (IsClean db scopes place (length s.blocks) (t.Function function distinct e ∷ [])) (sym none)
-              (no_fault (length s.blocks) (t.Function function distinct e) few (function_sound function distinct e k p h.is_value h.typed numbers) (λ r x. h.adds.clean r (part r (subst (AnyOf (λ q. PartFaulty db scopes InArgument q r)) (no_more (parts e)) x))));
+              (no_fault (length s.blocks) (t.Function function distinct e) few (function_sound function distinct e k p h.is_value h.typed numbers) (λ r x. h.adds.clean r (part r (subst (AnyOf (λ q. PartFaulty db scopes InArgument q r)) (append-nil (parts e)) x))));
         };
         bound = ap (b.SetValue (length s.functions)) (sym (ap known_type known));
         typed = known;

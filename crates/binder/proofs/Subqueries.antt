@@ -1,7 +1,6 @@
 -- Subqueries: what is bound of the inner block is bound of the clause.
-use Rattle.std.proofs.Common.{◌≡◌, ◌∙◌, refl, sym, ap, ap₂, subst, inl, inr, ℕ, ◌+◌, ◌<◌, ◌≤◌, ◌⊎◌, Bool, true, false, List, [], ◌∷◌, ◌++◌, Option, Some, None, length, map, filter, arith}
-use Rattle.std.specs.Prelude.{IsTrue, IsFalse, is_some}
-use Rattle.definitions.specs.Limits.{most_blocks}
+use Rattle.std.proofs.Common.{◌≡◌, refl, sym, ap, subst, inl, inr, ℕ, Bool, true, false, List, [], ◌∷◌, ◌++◌, Option, Some, None, length, arith}
+use Rattle.std.specs.Prelude.{IsFalse}
 use Rattle.definitions.specs.Refusal.{Refusal, MixedKinds, OverQueryLimit}
 use Rattle.definitions.specs.Statement as t
 use Rattle.definitions.specs.Table.{Database}
@@ -11,7 +10,7 @@ use Rattle.definitions.specs.Binding.Parts.{block_blocks}
 use Rattle.definitions.specs.Queries.BoundBlock.{BoundFunction, Blocks}
 use Rattle.binder.specs.declared.clause.Place.{Place as ClausePlace}
 use Rattle.binder.specs.declared.clause.Place.TheVariants as p
-use Rattle.binder.specs.Judging.{Place, InWhere, is_where, Refuses, part, argument, inner, misplaced, many, Progress, Adds, BindsColumn, BindsQuery, BindsBlock, RefusesQuery, RefusesColumn, RefusesBlock, IsClean}
+use Rattle.binder.specs.Judging.{Place, InWhere, is_where, Refuses, part, argument, inner, misplaced, many, Progress, BindsColumn, BindsQuery, BindsBlock, RefusesQuery, RefusesColumn, RefusesBlock, IsClean}
 use Rattle.binder.specs.Meaning.{place_of}
 
 pub not_where : (place : ClausePlace) → (place ≡ p.Where → ⊥) → IsFalse (is_where (place_of place))

@@ -1,14 +1,13 @@
 -- A block of a tree, by what is known of its clauses.
-use Rattle.std.proofs.Common.{◌≡◌, ◌∙◌, refl, sym, ap, subst, inl, inr, ℕ, zero, suc, ◌+◌, ◌<◌, ◌≤◌, ◌⊎◌, Bool, true, false, List, [], ◌∷◌, ◌++◌, Option, length, map, arith, slice_set}
+use Rattle.std.proofs.Common.{◌≡◌, ◌∙◌, refl, sym, ap, subst, ℕ, zero, suc, ◌+◌, ◌<◌, ◌≤◌, Bool, true, false, List, [], ◌∷◌, ◌++◌, length, map, arith, slice_set}
+use Rattle.std.proofs.lemmas.List.{length-map}
 use Rattle.std.specs.Prelude.{if◌then◌else◌, IsTrue}
 use Rattle.definitions.specs.Limits.{most_from_tables}
 use Rattle.definitions.specs.Refusal.{Refusal, MisplacedCondition}
 use Rattle.definitions.specs.Table.{Database, AreDistinct}
 use Rattle.definitions.specs.Plans.Order.{BlockColumn}
-use Rattle.definitions.specs.Statement as t
 use Rattle.definitions.specs.Statement.{SelectList, Source, Condition, ColumnReference, Specification}
-use Rattle.definitions.specs.Binding.Scopes.{NamedTable, Scopes, scope_of, are_there, own_scope, resolve}
-use Rattle.definitions.specs.Binding.BoundForm.{own_column}
+use Rattle.definitions.specs.Binding.Scopes.{NamedTable, Scopes, scope_of, are_there, own_scope}
 use Rattle.definitions.specs.Binding.Faults as fault
 use Rattle.definitions.specs.Binding.Faults.{IsGrouped}
 use Rattle.definitions.specs.Queries.BoundBlock as b
@@ -23,8 +22,7 @@ use Rattle.binder.specs.Judging.{BindsBlock, RefusesBlock}
 use Rattle.binder.specs.Blocks.{IsWithinLimits, SomeNotOwn, own_columns, shown_in}
 use Rattle.binder.specs.Clauses.{BoundClauses, BindsClauses, RefusesClauses, in_where, in_shown, condition_for_item, value_for_condition}
 use Rattle.binder.proofs.BlockFaults.{where_refused, shown_refused, refused}
-use Rattle.binder.proofs.Bundles.{length_of_both}
-use Rattle.binder.proofs.BoundBlocks.{IsReady, binds_block, within_new, whole_block}
+use Rattle.binder.proofs.BoundBlocks.{IsReady, binds_block, within_new}
 
 as_many : {X Y : Type 0} (f : X → Y) (xs : List X) → length (map f xs) ≡ length xs
 as_many f [] = refl
@@ -100,8 +98,7 @@ pushed_block [] x = refl
 pushed_block (y ∷ xs) x = ap (λ ys. bound_block_of y ∷ ys) (pushed_block xs x)
 
 pub as_many_blocks : (xs : List BoundBlock) → length (map bound_block_of xs) ≡ length xs
-as_many_blocks [] = refl
-as_many_blocks (x ∷ xs) = let h = as_many_blocks xs in omega (arith, h)
+as_many_blocks xs = length-map xs bound_block_of
 
 pub put_block : (xs : List BoundBlock) (n : ℕ) (x : BoundBlock) → map bound_block_of (slice_set xs n x) ≡ slice_set (map bound_block_of xs) n (bound_block_of x)
 put_block [] n x = refl

@@ -1,5 +1,5 @@
 -- What is judged of the clauses of a block, and what is bound of them.
-use Rattle.std.specs.Prelude.{ℕ, ◌<◌, ◌≤◌, ◌≡◌, ◌≢◌, ◌⊎◌, Bool, true, List, [], ◌∷◌, ◌++◌, Option, Some, None, if◌then◌else◌, length, map, flat_map, option_map, is_some, IfSome, IsTrue, IsFalse, ◌↔◌, Result, Ok, Err}
+use Rattle.std.specs.Prelude.{ℕ, ◌<◌, ◌≤◌, ◌≡◌, ◌≢◌, ◌⊎◌, Bool, true, List, [], ◌∷◌, Option, Some, None, if◌then◌else◌, length, map, flat_map, option_map, is_some, IfSome, IsTrue, IsFalse, ◌↔◌, Result, Ok, Err}
 use Rattle.definitions.specs.Lists.{AnyOf}
 use Rattle.definitions.specs.Limits.{most_conjuncts, most_items, most_group_columns}
 use Rattle.definitions.specs.Refusal.{Refusal, MisplacedCondition}
@@ -14,10 +14,8 @@ use Rattle.definitions.specs.Binding.Parts.{parts, item_values, condition_values
 use Rattle.definitions.specs.Binding.BoundForm.{after_condition, after_list, own_column, bound_option, select_items}
 use Rattle.definitions.specs.Binding.Faults.{IsNotOwn, is_condition, conjunct_count, item_count, list_of, where_of, groups_of}
 use Rattle.definitions.specs.Queries.BoundBlock as b
-use Rattle.bound.specs.Bound.{block_of, condition_of, item_of, value_type_of}
-use Rattle.bound.specs.declared.block.Block.{Block}
+use Rattle.bound.specs.Bound.{condition_of, item_of, value_type_of}
 use Rattle.bound.specs.declared.condition.Condition.{Condition}
-use Rattle.bound.specs.declared.leaf.ValueType.{ValueType as KnownType}
 use Rattle.binder.specs.declared.clause.Clause.{Clause}
 use Rattle.binder.specs.declared.fault.BindFault.{BindFault}
 use Rattle.binder.specs.declared.items.ResultColumns.{ResultColumns}

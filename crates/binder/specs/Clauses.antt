@@ -1,5 +1,5 @@
 -- What is bound of the clauses of a block, and why one of them is not.
-use Rattle.std.specs.Prelude.{ℕ, ◌+◌, ◌≡◌, List, [], ◌++◌, Option, length, map, option_map, IfSome, IsTrue, IsFalse, Result, Ok, Err}
+use Rattle.std.specs.Prelude.{ℕ, ◌+◌, List, [], ◌++◌, Option, length, map, option_map, IfSome, IsTrue, IsFalse, Result, Ok, Err}
 use Rattle.definitions.specs.Lists.{AnyOf}
 use Rattle.definitions.specs.Refusal.{Refusal, MisplacedCondition}
 use Rattle.definitions.specs.Statement as t

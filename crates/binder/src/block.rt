@@ -27,13 +27,13 @@ pub const MAX_BLOCKS: usize = 32;
 
 /// A query block with those inside it, behind the blocks before, and the type of its only column.
 #[cycle(binding)]
-pub(crate) fn block<'a>(
+pub(crate) fn block<'d, 'q: 'd>(
     alloc: Global,
-    database: &'a Database,
-    outer: &Scopes<'a>,
+    database: &'d Database,
+    outer: &Scopes<'d>,
     blocks: &mut Vec<Block>,
-    query: &'a trees::Block,
-) -> Result<Option<ValueType>, BindFault<'a>>
+    query: &'q trees::Block,
+) -> Result<Option<ValueType>, BindFault<'q>>
     requires sight { InSight database.now outer.now }
     requires few { length blocks.old.items ≤ most_blocks }
     ensures { BlockAnswer database.now outer.now (map block_of blocks.old.items) (map block_of blocks.new.items) (query_of query.now) result }
@@ -105,14 +105,14 @@ struct Clauses {
 
 /// The clauses of a block, of which result columns and HAVING stand in a clause that is given.
 #[cycle(binding)]
-fn bound_clauses<'a>(
+fn bound_clauses<'d, 'q: 'd>(
     alloc: Global,
-    database: &'a Database,
-    scopes: &Scopes<'a>,
+    database: &'d Database,
+    scopes: &Scopes<'d>,
     place: Place<'_>,
     blocks: &mut Vec<Block>,
-    query: &'a trees::Block,
-) -> Result<Clauses, BindFault<'a>>
+    query: &'q trees::Block,
+) -> Result<Clauses, BindFault<'q>>
     requires sight { InSight database.now scopes.now }
     requires shown { IsTrue (takes_functions (place_of place)) }
     requires few { length blocks.old.items ≤ most_blocks }
@@ -148,12 +148,12 @@ fn bound_clauses<'a>(
 
 /// The condition of WHERE or HAVING, if there is one.
 #[cycle(binding)]
-fn optional_condition<'a>(
-    clause: &Clause<'_, '_, 'a>,
+fn optional_condition<'d, 'q: 'd>(
+    clause: &Clause<'_, '_, 'd>,
     blocks: &mut Vec<Block>,
     functions: &mut Vec<BoundFunction>,
-    expr: &'a Option<Expr>,
-) -> Result<Option<Condition>, BindFault<'a>>
+    expr: &'q Option<Expr>,
+) -> Result<Option<Condition>, BindFault<'q>>
     requires sight { InSight clause.now.database.now clause.now.scopes.now }
     requires few { length blocks.old.items ≤ most_blocks }
     ensures { OptionAnswer clause.now (progress_of blocks.old.items functions.old.items) (progress_of blocks.new.items functions.new.items) (tree_condition_of expr.now) result }

@@ -17,9 +17,9 @@ pub(crate) enum Place<'s> {
 
 /// A clause of a query block, and the tables in its sight.
 #[derive(Clone, Copy)]
-pub(crate) struct Clause<'s, 'g, 'a> {
+pub(crate) struct Clause<'s, 'g, 'd> {
     pub alloc: Global,
-    pub database: &'a Database,
-    pub scopes: &'s Scopes<'a>,
+    pub database: &'d Database,
+    pub scopes: &'s Scopes<'d>,
     pub place: Place<'g>,
 }

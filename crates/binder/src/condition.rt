@@ -19,16 +19,16 @@ use bound::{Block, BoundFunction, Condition, ValueExpr, ValueType};
 use trees::{Expr, LineOperator, Operand};
 
 /// How many members an IN list may have (own).
-const MAX_MEMBERS: usize = 256;
+pub const MAX_MEMBERS: usize = 256;
 
 /// A condition (ISO/IEC 9075:1992, 8.12), its blocks and set functions behind those before.
 #[cycle(binding)]
-pub(crate) fn condition<'a>(
-    clause: &Clause<'_, '_, 'a>,
+pub(crate) fn condition<'d, 'q: 'd>(
+    clause: &Clause<'_, '_, 'd>,
     blocks: &mut Vec<Block>,
     functions: &mut Vec<BoundFunction>,
-    expr: &'a Expr,
-) -> Result<Condition, BindFault<'a>>
+    expr: &'q Expr,
+) -> Result<Condition, BindFault<'q>>
     requires sight { InSight clause.now.database.now clause.now.scopes.now }
     requires few { length blocks.old.items ≤ most_blocks }
     ensures { ConditionAnswer clause.now (progress_of blocks.old.items functions.old.items) (progress_of blocks.new.items functions.new.items) (expr_of expr.now) result }
@@ -44,12 +44,12 @@ pub(crate) fn condition<'a>(
         Expr::Compare {
             op,
             left,
-            right,
+            right: other,
             ..
         } => {
             let left = value(clause, blocks, functions, left)?;
-            let right = value(clause, blocks, functions, right)?;
-            judge_kinds(left.value_type, right.value_type, expr)?;
+            let right = value(clause, blocks, functions, other)?;
+            judge_kinds(left.value_type, right.value_type, other)?;
             Ok(Condition::Compare {
                 op: *op,
                 left: left.value,
@@ -87,15 +87,15 @@ pub(crate) fn condition<'a>(
         Expr::Between {
             negated,
             value: operand,
-            low,
-            high,
+            low: least,
+            high: greatest,
             ..
         } => {
             let typed = value(clause, blocks, functions, operand)?;
-            let low = value(clause, blocks, functions, low)?;
-            let high = value(clause, blocks, functions, high)?;
-            judge_kinds(typed.value_type, low.value_type, expr)?;
-            judge_kinds(typed.value_type, high.value_type, expr)?;
+            let low = value(clause, blocks, functions, least)?;
+            let high = value(clause, blocks, functions, greatest)?;
+            judge_kinds(typed.value_type, low.value_type, least)?;
+            judge_kinds(typed.value_type, high.value_type, greatest)?;
             Ok(Condition::Between {
                 negated: *negated,
                 value: typed.value,
@@ -161,12 +161,12 @@ pub(crate) fn condition<'a>(
 
 /// The operands of one AND or OR (ISO/IEC 9075:1992, 8.12).
 #[cycle(binding)]
-fn logical<'a>(
-    clause: &Clause<'_, '_, 'a>,
+fn logical<'d, 'q: 'd>(
+    clause: &Clause<'_, '_, 'd>,
     blocks: &mut Vec<Block>,
     functions: &mut Vec<BoundFunction>,
-    line: &'a Expr,
-) -> Result<Condition, BindFault<'a>>
+    line: &'q Expr,
+) -> Result<Condition, BindFault<'q>>
     requires sight { InSight clause.now.database.now clause.now.scopes.now }
     requires few { length blocks.old.items ≤ most_blocks }
     requires logical { IsLine line.now true }
@@ -188,13 +188,13 @@ fn logical<'a>(
 
 /// The members of an IN list, which are of the kind of a type (ISO/IEC 9075:1992, 8.4).
 #[cycle(binding)]
-fn bound_members<'a>(
-    clause: &Clause<'_, '_, 'a>,
+fn bound_members<'d, 'q: 'd>(
+    clause: &Clause<'_, '_, 'd>,
     blocks: &mut Vec<Block>,
     functions: &mut Vec<BoundFunction>,
     value_type: ValueType,
-    list: &'a Expr,
-) -> Result<Vec<Option<ValueExpr>>, BindFault<'a>>
+    list: &'q Expr,
+) -> Result<Vec<Option<ValueExpr>>, BindFault<'q>>
     requires sight { InSight clause.now.database.now clause.now.scopes.now }
     requires few { length blocks.old.items ≤ most_blocks }
     requires list { IsList list.now }
@@ -219,11 +219,11 @@ fn bound_members<'a>(
 
 /// A subquery of one column: its block's number, and the type of its column (ISO/IEC 9075:1992, 7.11).
 #[cycle(binding)]
-pub(crate) fn column_of_query<'a>(
-    clause: &Clause<'_, '_, 'a>,
+pub(crate) fn column_of_query<'d, 'q: 'd>(
+    clause: &Clause<'_, '_, 'd>,
     blocks: &mut Vec<Block>,
-    query: &'a trees::Block,
-) -> Result<(usize, ValueType), BindFault<'a>>
+    query: &'q trees::Block,
+) -> Result<(usize, ValueType), BindFault<'q>>
     requires sight { InSight clause.now.database.now clause.now.scopes.now }
     requires few { length blocks.old.items ≤ most_blocks }
     ensures { (functions : List spec.BoundFunction) → ColumnAnswer clause.now (record { blocks = map block_of blocks.old.items; functions = functions }) (record { blocks = map block_of blocks.new.items; functions = functions }) (query_of query.now) result }
@@ -236,11 +236,11 @@ pub(crate) fn column_of_query<'a>(
 
 /// A subquery: its block's number, and the type of its column if it has one alone.
 #[cycle(binding)]
-fn inner_block<'a>(
-    clause: &Clause<'_, '_, 'a>,
+fn inner_block<'d, 'q: 'd>(
+    clause: &Clause<'_, '_, 'd>,
     blocks: &mut Vec<Block>,
-    query: &'a trees::Block,
-) -> Result<(usize, Option<ValueType>), BindFault<'a>>
+    query: &'q trees::Block,
+) -> Result<(usize, Option<ValueType>), BindFault<'q>>
     requires sight { InSight clause.now.database.now clause.now.scopes.now }
     requires few { length blocks.old.items ≤ most_blocks }
     ensures { (functions : List spec.BoundFunction) → QueryAnswer clause.now (record { blocks = map block_of blocks.old.items; functions = functions }) (record { blocks = map block_of blocks.new.items; functions = functions }) (query_of query.now) result }

@@ -33,8 +33,9 @@ pub enum QueryFault<'q> {
     /// A text stands where a number is wanted (6.5, 6.12), or a number before LIKE (8.5).
     TextForNumber(&'q Expr),
     NumberForText(&'q Expr),
-    /// A value is compared with one of the other kind (8.2, syntax rule 2).
-    MixedKinds(&'q Expr),
+    /// A number is compared with the text that stands there, or a text with the number (8.2, syntax rule 2).
+    NumberWithText(&'q Expr),
+    TextWithNumber(&'q Expr),
     /// A subquery that stands for values has not exactly one column (7.11, syntax rule 1).
     NotOneColumn(&'q Block),
     /// A condition stands where a value is wanted, or a value where a condition is (6.11, 8.12).
@@ -74,7 +75,8 @@ impl QueryFault<'_> {
             QueryFault::GreatScale(_) | QueryFault::GreatProduct(_) => Refusal::ScaleTooGreat,
             QueryFault::TextForNumber(_)
             | QueryFault::NumberForText(_)
-            | QueryFault::MixedKinds(_)
+            | QueryFault::NumberWithText(_)
+            | QueryFault::TextWithNumber(_)
             | QueryFault::NotOneColumn(_) => Refusal::MixedKinds,
             QueryFault::ConditionForValue(_) | QueryFault::ValueForCondition(_) => {
                 Refusal::MisplacedCondition

@@ -32,11 +32,11 @@ pub(crate) fn is_grouped(query: &Block) -> bool
 }
 
 /// The columns of GROUP BY, which are the block's own (ISO/IEC 9075:1992, 7.7, syntax rule 1).
-pub(crate) fn group_columns<'a>(
+pub(crate) fn group_columns<'q>(
     alloc: Global,
-    scopes: &Scopes<'a>,
-    references: &'a [ColumnReference],
-) -> Result<Vec<BlockColumn>, BindFault<'a>>
+    scopes: &Scopes,
+    references: &'q [ColumnReference],
+) -> Result<Vec<BlockColumn>, BindFault<'q>>
     ensures ok { IfOk result (λ columns. map column_of columns.items ≡ own_columns scopes.now (map reference_of references.now)) }
     ensures own { OnOk result ((db : Tables) → SomeNotOwn db scopes.now (map reference_of references.now) → ⊥) }
     ensures refused { IfErr result (λ f. IfSome (bind_refusal f) (λ r. (r ≡ UnknownColumn) × ((db : Tables) → SomeNotOwn db scopes.now (map reference_of references.now)))) }

@@ -29,12 +29,12 @@ pub(crate) struct ResultColumns {
 
 /// The result columns that a select list says (ISO/IEC 9075:1992, 7.9).
 #[cycle(binding)]
-pub(crate) fn result_columns<'a>(
-    clause: &Clause<'_, '_, 'a>,
+pub(crate) fn result_columns<'d, 'q: 'd>(
+    clause: &Clause<'_, '_, 'd>,
     blocks: &mut Vec<Block>,
     functions: &mut Vec<BoundFunction>,
-    list: &'a SelectList,
-) -> Result<ResultColumns, BindFault<'a>>
+    list: &'q SelectList,
+) -> Result<ResultColumns, BindFault<'q>>
     requires sight { InSight clause.now.database.now clause.now.scopes.now }
     requires few { length blocks.old.items ≤ most_blocks }
     ensures { ListAnswer clause.now (progress_of blocks.old.items functions.old.items) (progress_of blocks.new.items functions.new.items) (list_of list.now) result }

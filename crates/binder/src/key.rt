@@ -17,7 +17,7 @@ use std::alloc::{AllocError, Global};
 use trees::{Expr, KeyName, SelectList};
 
 /// How many keys ORDER BY may have (own).
-const MAX_KEYS: usize = 16;
+pub const MAX_KEYS: usize = 16;
 
 /// The keys of an order over a block's result columns, which are bound (ISO/IEC 9075:1992, 13.1, syntax rules 3 to 5; the
 /// limit is own).

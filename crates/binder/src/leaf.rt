@@ -36,10 +36,10 @@ pub(crate) struct Typed {
 }
 
 /// A column in sight (ISO/IEC 9075:1992, 6.4).
-pub(crate) fn column<'a>(
-    clause: &Clause<'_, '_, 'a>,
-    reference: &'a ColumnReference,
-) -> Result<Typed, BindFault<'a>>
+pub(crate) fn column<'q>(
+    clause: &Clause,
+    reference: &'q ColumnReference,
+) -> Result<Typed, BindFault<'q>>
     requires { InSight clause.now.database.now clause.now.scopes.now }
     ensures ok { IfOk result (λ t. BindsLeaf clause.now.database.now clause.now.scopes.now (place_of clause.now.place) (Column (column_of reference.now)) (value_of t.value) (value_type_of t.value_type)) }
     ensures refused { IfErr result (λ f. IfSome (bind_refusal f) (PartFaulty clause.now.database.now clause.now.scopes.now (place_of clause.now.place) (Column (column_of reference.now)))) }

@@ -47,9 +47,9 @@ pub(crate) fn judge_kinds<'a>(
     ensures refused { IfErr result (λ f. query_refusal f ≡ refusal.MixedKinds) }
 {
     match (left, right) {
-        (ValueType::Number { .. }, ValueType::Number { .. }) | (ValueType::Text, ValueType::Text) =>
-            { Ok(()) }
-        _ => Err(QueryFault::MixedKinds(expr)),
+        (ValueType::Number { .. }, ValueType::Text) => Err(QueryFault::NumberWithText(expr)),
+        (ValueType::Text, ValueType::Number { .. }) => Err(QueryFault::TextWithNumber(expr)),
+        _ => Ok(()),
     }
 }
 

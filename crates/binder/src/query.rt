@@ -19,11 +19,11 @@ use trees::Select;
 
 /// The blocks of a query, with its names bound in a database: the outermost first, the others in the order of their words SELECT.
 /// Or a fault that the query has: of several any one may be told.
-pub fn bind<'a>(
+pub fn bind<'d, 'q: 'd>(
     alloc: Global,
-    database: &'a Database,
-    query: &'a Select,
-) -> Result<Vec<Block>, BindFault<'a>>
+    database: &'d Database,
+    query: &'q Select,
+) -> Result<Vec<Block>, BindFault<'q>>
     requires valid { IsDatabase database.now }
     ensures bound { IfOk result (λ blocks. Binds database.now (select_of query.now) (map block_of blocks.items)) }
     ensures formed { IfOk result (λ blocks. AreWritten database.now (select_of query.now) → AreFormed database.now (map block_of blocks.items) [] 0) }

@@ -24,12 +24,12 @@ use trees::{Expr, Operand, SetFunction};
 
 /// A value (ISO/IEC 9075:1992, 6.11), its blocks and set functions behind those before.
 #[cycle(binding)]
-pub(crate) fn value<'a>(
-    clause: &Clause<'_, '_, 'a>,
+pub(crate) fn value<'d, 'q: 'd>(
+    clause: &Clause<'_, '_, 'd>,
     blocks: &mut Vec<Block>,
     functions: &mut Vec<BoundFunction>,
-    expr: &'a Expr,
-) -> Result<Typed, BindFault<'a>>
+    expr: &'q Expr,
+) -> Result<Typed, BindFault<'q>>
     requires sight { InSight clause.now.database.now clause.now.scopes.now }
     requires few { length blocks.old.items ≤ most_blocks }
     ensures { ValueAnswer clause.now (progress_of blocks.old.items functions.old.items) (progress_of blocks.new.items functions.new.items) (expr_of expr.now) result }
@@ -77,12 +77,12 @@ pub(crate) fn value<'a>(
 
 /// Operands of one line (ISO/IEC 9075:1992, 6.12).
 #[cycle(binding)]
-fn chain<'a>(
-    clause: &Clause<'_, '_, 'a>,
+fn chain<'d, 'q: 'd>(
+    clause: &Clause<'_, '_, 'd>,
     blocks: &mut Vec<Block>,
     functions: &mut Vec<BoundFunction>,
-    line: &'a Expr,
-) -> Result<Typed, BindFault<'a>>
+    line: &'q Expr,
+) -> Result<Typed, BindFault<'q>>
     requires sight { InSight clause.now.database.now clause.now.scopes.now }
     requires few { length blocks.old.items ≤ most_blocks }
     requires arithmetic { IsLine line.now false }
@@ -115,13 +115,13 @@ fn chain<'a>(
 
 /// A set function of an argument (ISO/IEC 9075:1992, 6.5).
 #[cycle(binding)]
-fn set_function<'a>(
-    clause: &Clause<'_, '_, 'a>,
+fn set_function<'d, 'q: 'd>(
+    clause: &Clause<'_, '_, 'd>,
     functions: &mut Vec<BoundFunction>,
     function: SetFunction,
     distinct: bool,
-    argument: &'a Expr,
-) -> Result<Typed, BindFault<'a>>
+    argument: &'q Expr,
+) -> Result<Typed, BindFault<'q>>
     requires sight { InSight clause.now.database.now clause.now.scopes.now }
     requires shown { IsTrue (takes_functions (place_of clause.now.place)) }
     ensures { (bound : Blocks) → length bound ≤ most_blocks → ValueAnswer clause.now (record { blocks = bound; functions = map bound_function_of functions.old.items }) (record { blocks = bound; functions = map bound_function_of functions.new.items }) (Function (function_of function) distinct (expr_of argument.now)) result }

@@ -70,7 +70,6 @@ if_figures db name names given (Some r) h = faults.figures name names given r (i
 -- ---- CREATE INDEX
 
 pub index_accepted : (db : Database) (unique : Bool) (name : Name) (t : Table) (names : List Name) (ns : List ℕ) → table_named db name ≡ Some t → MayIndex t names ns → IsAccepted db (CreateIndex unique name names)
-index_accepted db unique name t names ns n m refusal (faults.not_yet s h) = h tt
 index_accepted db unique name t names ns n m refusal (faults.index b table columns r (index.list r' h)) = no_list_fault db name t names ns r' n m.found m.some m.short h
 index_accepted db unique name t names ns n m refusal (faults.index b table columns r (index.twice h)) = h m.distinct
 index_accepted db unique name t names ns n m refusal (faults.index b table columns r (index.taken u ms i k e o)) =
@@ -114,7 +113,6 @@ index_refused db unique name t names i.Memory n h = tt
 -- ---- SET STATISTICS
 
 pub table_set_accepted : (db : Database) (name : Name) (rows pages : ℕ) (t : Table) → table_named db name ≡ Some t → IsCount rows → IsPageCount pages → IsAccepted db (SetTable name rows pages)
-table_set_accepted db name rows pages t n r p refusal (faults.not_yet s h) = h tt
 table_set_accepted db name rows pages t n r p refusal (faults.no_such_table table rows' pages' h) = let clash : Some t ≡ None = sym n ∙ h in cc
 table_set_accepted db name rows pages t n r p refusal (faults.out_of_range table rows' pages' h) = h (r, p)
 
@@ -143,7 +141,6 @@ one_type : (o : Option SqlType) (a b : SqlType) → o ≡ Some a → o ≡ Some 
 one_type o a b h l = let same : Some a ≡ Some b = sym h ∙ l in cc
 
 pub index_set_accepted : (db : Database) (name : Name) (t new : Table) (names : List Name) (given : Given) → table_named db name ≡ Some t → SetsIndex t names given new → IsAccepted db (SetIndex name names given)
-index_set_accepted db name t new names given n s refusal (faults.not_yet x h) = h tt
 index_set_accepted db name t new names given n s refusal (faults.figures table columns g r (index.list r' h)) = no_list_fault db name t names s.numbers r' n s.found s.some s.short h
 index_set_accepted db name t new names given n s refusal (faults.figures table columns g r (index.no_index u ms k e o)) =
     let same : t ≡ u = one_table db name t u n k in

@@ -172,7 +172,6 @@ accepted db name ds none few j typed refusal (faults.many_columns n ds' h) = ome
 accepted db name ds none few j typed refusal (faults.no_type n ds' h) = typed_apart ds typed h
 accepted db name ds none few j typed refusal (faults.many_keys n ds' h) = omega (arith, h, j.keys)
 accepted db name ds none few j typed refusal (faults.two_primary n ds' h) = omega (arith, h, j.primary)
-accepted db name ds none few j typed refusal (faults.not_yet s h) = h tt
 
 pub on_ok : {T E : Type 0} (result : Result T E) (P : Type 0) → P → OnOk result P
 on_ok (Ok x) P p = p

@@ -5,8 +5,7 @@ use Rattle.std.specs.List.{position_from}
 use Rattle.definitions.specs.Value.{Null}
 use Rattle.definitions.specs.Statement.{Name}
 use Rattle.definitions.specs.Table.{Column, Row, type_named}
-use Rattle.definitions.specs.Answer.{value_named}
-use Rattle.catalog.specs.Places.{IsColumnPlace}
+use Rattle.catalog.specs.Places.{value_named, IsColumnPlace}
 
 abbrev place_from : Name → ℕ → List Column → Option ℕ
 place_from name i cs = position_from (λ (c : Column). bytes_eq c.name name) i cs

@@ -157,7 +157,8 @@ impl Database {
 
     /// The tables, in the order in which they were made.
     pub fn tables(&self) -> &[Table]
-        ensures { result.now ≡ self.now }
+        ensures tables { result.now ≡ self.now }
+        ensures valid { invariant.IsDatabase self.now }
     {
         self.tables.as_slice()
     }

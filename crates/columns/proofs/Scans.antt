@@ -8,7 +8,7 @@ use Rattle.std.proofs.Math.Nat.{mul-le-mul_left}
 use Rattle.std.proofs.lemmas.List.Elements.{All-head, All-tail, All-take, All-drop}
 use Rattle.definitions.specs.Value.{Value, Null, Number, Text, SqlType, scale_of, number_cmp, text_cmp, compare}
 use Rattle.definitions.specs.Statement.{Op}
-use Rattle.definitions.specs.Answer.{agrees, truth_of}
+use Rattle.definitions.specs.Truth.{agrees, truth_of}
 use Rattle.definitions.specs.Scanning.{word_of, part_of, true_word, unknown_word}
 use Rattle.sqlvalue.specs.Meaning.{value_of}
 use Rattle.sqlvalue.specs.declared.value.Value as sqlvalue

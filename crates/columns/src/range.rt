@@ -3,7 +3,7 @@
 ghost use Rattle.std.specs.Prelude.{◌≡◌, ◌≤◌, ◌<◌, ◌^◌, ◌*◌, ◌*ℤ◌, ◌<ℤ◌, ◌&&◌, ℤ, pos, false, int_le, int_lt, FitsSigned};
 ghost use Rattle.std.specs.Int.{w64};
 ghost use Rattle.definitions.specs.Value.{number_cmp};
-ghost use Rattle.definitions.specs.Answer.{agrees};
+ghost use Rattle.definitions.specs.Truth.{agrees};
 ghost use Rattle.definitions.specs.Limits.{greatest_precision, greatest_scale};
 ghost use Rattle.sqlvalue.specs.Meaning.{op_of};
 ghost use Rattle.columns.specs.Ranges.{is_in};

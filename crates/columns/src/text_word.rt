@@ -3,7 +3,7 @@
 ghost use Rattle.std.specs.Prelude.{ℕ, List, ◌≡◌, ◌≤◌, ◌*◌, ◌⊎◌, ◌++◌, [], length as list_length, map};
 ghost use Rattle.std.specs.declared.cmp.Ordering.{Ordering as Order};
 ghost use Rattle.definitions.specs.Value.{text_cmp};
-ghost use Rattle.definitions.specs.Answer.{agrees};
+ghost use Rattle.definitions.specs.Truth.{agrees};
 ghost use Rattle.definitions.specs.Scanning.{word_of};
 ghost use Rattle.sqlvalue.specs.Meaning.{op_of};
 ghost use Rattle.columns.specs.TextRows.{is_wanted, texts_in};

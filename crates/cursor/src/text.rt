@@ -2,7 +2,7 @@
 
 ghost use Rattle.std.specs.Prelude.{◌≡◌, string_bytes, false, IfOk};
 ghost use Rattle.definitions.specs.Characters.{folded};
-ghost use Rattle.lexer.specs.Meaning.{unquoted, quoted_text};
+ghost use Rattle.lexer.specs.Quoted.{unquoted, quoted_text};
 
 use std::alloc::{AllocError, Global};
 

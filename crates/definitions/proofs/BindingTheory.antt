@@ -7,5 +7,5 @@ mod FormedConditions
 mod FormedParts
 mod FormedBlocks
 pub mod AcceptedQueries
-mod WorkedBindings
+pub mod WorkedBindings
 mod WorkedForms

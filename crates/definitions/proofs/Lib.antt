@@ -18,3 +18,4 @@ mod Runs
 pub mod PlanTheory
 pub mod QueryTheory
 pub mod BindingTheory
+pub mod WrittenParts

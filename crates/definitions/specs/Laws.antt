@@ -1,6 +1,6 @@
 -- What holds of the definitions. Each is proved as the contract of a function that has no code, but those that speak of every library,
 -- which no contract can state: they are proved in proofs/Runs.
-use Rattle.std.specs.Prelude.{ℕ, ◌≡◌, ◌≢◌, ◌↔◌, List, [], ◌∷◌, ◌++◌, Some, Result, Bool, true, false, map}
+use Rattle.std.specs.Prelude.{ℕ, ◌≡◌, ◌≢◌, ◌↔◌, List, [], ◌∷◌, ◌++◌, Some, Result, Bool, true, false, IsSorted}
 use Rattle.std.specs.Cmp.{IsTotalOrder}
 use Rattle.std.specs.List.{count_by}
 use Rattle.std.specs.declared.cmp.Ordering.{Ordering}
@@ -11,13 +11,17 @@ use Rattle.definitions.specs.Refusal.{FieldError}
 use Rattle.definitions.specs.Loading.{FieldLoads}
 use Rattle.definitions.specs.Token.{Token, TokenKind}
 use Rattle.definitions.specs.Lexing.{LexFault, Reads, quoted}
-use Rattle.definitions.specs.Statement.{Select, Source, Statement, Query, block_items, block_sources}
-use Rattle.definitions.specs.Table.{Row, Table, Database, table_named}
-use Rattle.definitions.specs.Answer.{answer}
+use Rattle.definitions.specs.Statement.{Select, Statement, Query}
+use Rattle.definitions.specs.Table.{Row, Database}
+use Rattle.definitions.specs.Arithmetic.{Is}
+use Rattle.definitions.specs.Queries.BoundBlock.{Blocks}
+use Rattle.definitions.specs.Queries.Answer.{answer}
+use Rattle.definitions.specs.Queries.Outcomes.{names_of, order_of, row_order}
+use Rattle.definitions.specs.Binding.Faults.{Binds}
 use Rattle.definitions.specs.Invariant.{IsDatabase}
 use Rattle.definitions.specs.Step.{Answering, State, Step, Ended, Well}
 use Rattle.definitions.specs.Grammar.{Derives}
-use Rattle.definitions.specs.Printing.{doubled, item_name, table_text}
+use Rattle.definitions.specs.Printing.{doubled, table_text}
 
 -- every text has its tokens or a lexical fault, and only one of these
 abbrev pub EachTextReadsOnce : Type 0
@@ -56,16 +60,18 @@ EqualRankIsNotDistinct = (a b : Value) → (rank a b ≡ Equal) ↔ AreNotDistin
 abbrev pub StepKeepsDatabase : Type 1
 StepKeepsDatabase = (L : Type 0) (answers : Answering L) (old new : State L) (s : Statement) (text : List ℕ) (ended : Ended) → IsDatabase old.database → Step answers old s new text ended → IsDatabase new.database
 
--- a text is that of a query's answer: the rows of the definition and no others, each as often as there
+-- a text is that of a query's answer: the rows of the definition and no others, each as often as there, in an order in which the keys of
+-- ORDER BY never fall
 pub record PrintsAnswer (db : Database) (q : Select) (text : List ℕ) : Type 0 where
-  pub source : Source
-  pub table : Table
+  pub blocks : Blocks
+  pub bound : Binds db q blocks
+  pub bag : List Row
+  pub meant : answer db blocks ≡ Is bag
   pub rows : List Row
-  pub single : block_sources q.block ≡ source ∷ []
-  pub named : table_named db source.table ≡ Some table
-  pub is : text ≡ table_text (map item_name (block_items q.block)) rows
-  pub as_often : (test : Row → Bool) → count_by test rows ≡ count_by test (answer table q.block)
+  pub is : text ≡ table_text (names_of blocks) rows
+  pub as_often : (test : Row → Bool) → count_by test rows ≡ count_by test bag
+  pub sorted : IsSorted (row_order (order_of blocks)) rows
 
--- what is printed for a query that is not refused is its answer
+-- what is printed for a query that is not refused, and raises no exception, is its answer
 abbrev pub SelectPrintsAnswer : Type 1
 SelectPrintsAnswer = (L : Type 0) (answers : Answering L) (old new : State L) (q : Select) (text : List ℕ) → Step answers old (Query q) new text Well → PrintsAnswer old.database q text

@@ -2,7 +2,7 @@
 use Rattle.std.specs.Prelude.{ℕ, ◌+◌, ◌*◌, Bool, false, List, [], ◌∷◌, if◌then◌else◌, map, take, drop, unwrap_or, is_none}
 use Rattle.definitions.specs.Value.{Value}
 use Rattle.definitions.specs.Statement.{Op}
-use Rattle.definitions.specs.Answer.{truth_of}
+use Rattle.definitions.specs.Truth.{truth_of}
 
 -- the number whose bit i is set exactly where the i-th flag is, and no bit behind the flags (own)
 abbrev pub word_of : List Bool → ℕ

@@ -8,7 +8,6 @@ mod figures;
 mod index;
 mod list;
 mod near;
-mod not_yet;
 mod places;
 mod query;
 mod record;

@@ -3,7 +3,6 @@
 use crate::create::name_at_fault;
 use crate::figures::{offset_of_figures, offset_of_table_figures};
 use crate::index::name_of_index;
-use crate::not_yet::offset_not_yet;
 use crate::query::offset_of_query;
 use lexer::LexFault;
 use sqlr::Cause;
@@ -18,7 +17,7 @@ pub(crate) fn offset_of(cause: &Cause) -> usize {
             None => unexpected.behind,
         },
         Cause::TooDeep { offset } => *offset,
-        Cause::NotYet(statement) => offset_not_yet(statement),
+        Cause::Explain(query) | Cause::NotYet(query) => query.block.start,
         Cause::Create {
             name,
             columns,
@@ -30,7 +29,7 @@ pub(crate) fn offset_of(cause: &Cause) -> usize {
         Cause::NoTable(name) | Cause::ManyRows(name) => name.start,
         Cause::NoFile(file) => file.start,
         Cause::Record { load, .. } | Cause::Repeated { load, .. } => load.file.start,
-        Cause::Query(cause) => offset_of_query(*cause),
+        Cause::Query(cause) => offset_of_query(cause.fault),
     }
 }
 
@@ -67,7 +66,8 @@ pub(crate) fn start_of(expr: &Expr) -> usize {
     }
 }
 
-fn start_of_column(reference: &ColumnReference) -> usize {
+/// Where a column reference begins.
+pub(crate) fn start_of_column(reference: &ColumnReference) -> usize {
     match &reference.qualifier {
         Some(qualifier) => qualifier.start,
         None => reference.name.start,

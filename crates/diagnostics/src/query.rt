@@ -1,72 +1,202 @@
 //! Why a query is refused.
 
 use crate::near::{write_near_column, write_near_table};
-use crate::places::start_of;
+use crate::places::{start_of, start_of_column};
+use binder::{
+    MAX_BLOCKS, MAX_CONJUNCTS, MAX_FROM_TABLES, MAX_GROUP_COLUMNS, MAX_ITEMS, MAX_KEYS,
+    MAX_MEMBERS, MAX_SCALE, QueryFault,
+};
 use catalog::Database;
-use sqlr::{MAX_ITEMS, MAX_SCALE, QueryCause};
+use sqlr::QueryCause;
 use std::alloc::Global;
-use std::fmt::{self, Formatter};
-use syntax::{Expr, Name};
+use std::fmt::{self, Display, Formatter};
+use syntax::{Block, ColumnReference, Key, KeyName, Name, Select, SelectList};
 
-/// The byte of the script that a cause is about.
-pub(crate) fn offset_of_query(cause: QueryCause) -> usize {
-    match cause {
-        QueryCause::ManyItems { table, .. } => table.start,
-        QueryCause::NoTable(name) => name.start,
-        QueryCause::NoColumn { column, .. } => column.start,
-        QueryCause::GreatScale(literal) | QueryCause::MixedKinds { literal, .. } => {
-            start_of(literal)
+/// The byte of the script that a fault is about.
+pub(crate) fn offset_of_query(fault: QueryFault) -> usize {
+    match fault {
+        QueryFault::ManyTables(name) | QueryFault::NoTable(name) | QueryFault::NameTwice(name) => {
+            name.start
         }
+        QueryFault::NoColumn(column)
+        | QueryFault::AmbiguousColumn(column)
+        | QueryFault::GroupNotOwn(column)
+        | QueryFault::OuterInFunction(column)
+        | QueryFault::Ungrouped(column) => start_of_column(column),
+        QueryFault::GreatScale(numeral) => numeral.start,
+        QueryFault::GreatProduct(operand) => operand.start,
+        QueryFault::TextForNumber(expr)
+        | QueryFault::NumberForText(expr)
+        | QueryFault::NumberWithText(expr)
+        | QueryFault::TextWithNumber(expr)
+        | QueryFault::ConditionForValue(expr)
+        | QueryFault::ValueForCondition(expr)
+        | QueryFault::MisplacedFunction(expr)
+        | QueryFault::ManyConjuncts(expr)
+        | QueryFault::ManyMembers(expr) => start_of(expr),
+        QueryFault::StarOfGroups(block) => start_of_list(block),
+        QueryFault::NotOneColumn(block)
+        | QueryFault::ManyBlocks(block)
+        | QueryFault::MisplacedQuery(block)
+        | QueryFault::ManyGroups(block) => block.start,
+        QueryFault::ManyItems(block) => start_of_from(block),
+        QueryFault::UnknownKey(key) | QueryFault::ManyKeys(key) => start_of_key(key),
     }
 }
 
-pub(crate) fn write_query<W: fmt::Write>(
-    f: &mut Formatter<W>,
-    database: &Database,
-    cause: QueryCause,
-) -> fmt::Result {
-    match cause {
-        QueryCause::ManyItems { items, .. } => write!(
+fn start_of_list(block: &Block) -> usize {
+    match &block.list {
+        SelectList::Asterisk { start } => *start,
+        SelectList::Items(_) => block.start,
+    }
+}
+
+/// Where the first table of FROM stands.
+fn start_of_from(block: &Block) -> usize {
+    match block.sources.first() {
+        Some(source) => source.table.start,
+        None => block.start,
+    }
+}
+
+fn start_of_key(key: &Key) -> usize {
+    match &key.name {
+        KeyName::Name(name) => name.start,
+        KeyName::Position(position) => position.start,
+    }
+}
+
+/// A column as it is written: `T.A`.
+#[derive(Clone, Copy)]
+struct Written<'a>(&'a ColumnReference);
+
+impl Display for Written<'_> {
+    fn fmt<W: fmt::Write>(&self, f: &mut Formatter<W>) -> fmt::Result {
+        if let Some(qualifier) = &self.0.qualifier {
+            write!(f, "{}.", qualifier.text)?;
+        }
+        f.write_str(self.0.name.text.as_str())
+    }
+}
+
+pub(crate) fn write_query<W: fmt::Write>(f: &mut Formatter<W>, cause: QueryCause) -> fmt::Result {
+    match cause.fault {
+        QueryFault::NoTable(name) => write!(f, "there is no table {}", name.text),
+        QueryFault::NameTwice(name) => {
+            write!(f, "two tables of this FROM are called {}", name.text)
+        }
+        QueryFault::NoColumn(column) => write_no_column(f, cause.query, column),
+        QueryFault::AmbiguousColumn(column) => {
+            write!(f, "more than one table has a column {}", Written(column))
+        }
+        QueryFault::GroupNotOwn(column) => write!(
             f,
-            "a select list has at most {MAX_ITEMS} items, and this one has {items}"
+            "GROUP BY takes columns of its own FROM, and {} is none",
+            Written(column)
         ),
-        QueryCause::NoTable(name) => write!(f, "there is no table {}", name.text),
-        QueryCause::NoColumn { table, column } => {
-            write!(f, "table {} has no column {}", table.text, column.text)
-        }
-        QueryCause::GreatScale(_) => {
-            write!(
-                f,
-                "a number has at most {MAX_SCALE} digits behind the point"
-            )
-        }
-        QueryCause::MixedKinds {
-            table,
-            column,
-            literal,
-        } => write_mixed(f, database, table, column, literal),
+        QueryFault::OuterInFunction(column) => write!(
+            f,
+            "a set function can't take {}, a column of the query around",
+            Written(column)
+        ),
+        QueryFault::Ungrouped(column) => write!(
+            f,
+            "{} stands neither in GROUP BY nor in a set function",
+            Written(column)
+        ),
+        QueryFault::UnknownKey(key) => write_unknown_key(f, key),
+        fault => write_unfit(f, fault),
     }
 }
 
-/// That a column is compared with a literal of the other kind.
-fn write_mixed<W: fmt::Write>(
+fn write_no_column<W: fmt::Write>(
     f: &mut Formatter<W>,
-    database: &Database,
-    table: &Name,
-    column: &Name,
-    literal: &Expr,
+    query: &Select,
+    column: &ColumnReference,
 ) -> fmt::Result {
-    let other = match literal {
-        Expr::String(_) => "a string",
-        _ => "a number",
-    };
-    f.write_str(column.text.as_str())?;
-    if let Some(table) = database.table(table.text.as_str())
-        && let Some(place) = table.column(column.text.as_str())
-    {
-        write!(f, " {}", table.sql_type(place))?;
+    match only_table(query) {
+        Some(table) if column.qualifier.is_none() => {
+            write!(f, "table {} has no column {}", table.text, column.name.text)
+        }
+        _ => write!(f, "there is no column {}", Written(column)),
     }
-    write!(f, " is compared with {other}")
+}
+
+/// The table of a query over one.
+fn only_table(query: &Select) -> Option<&Name> {
+    match query.block.sources.as_slice() {
+        [source] => Some(&source.table),
+        _ => None,
+    }
+}
+
+/// That a key of ORDER BY stands for no result column.
+fn write_unknown_key<W: fmt::Write>(f: &mut Formatter<W>, key: &Key) -> fmt::Result {
+    match &key.name {
+        KeyName::Name(name) => { write!(f, "{} is not the name of one result column", name.text) }
+        KeyName::Position(position) => {
+            write!(f, "there is no result column number {}", position.units)
+        }
+    }
+}
+
+/// That something of another kind is wanted at a place.
+fn write_unfit<W: fmt::Write>(f: &mut Formatter<W>, fault: QueryFault) -> fmt::Result {
+    f.write_str(match fault {
+        QueryFault::TextForNumber(_) => "a number is wanted here, and this is a string",
+        QueryFault::NumberWithText(_) => "a number is compared with a string",
+        QueryFault::TextWithNumber(_) => "a string is compared with a number",
+        QueryFault::NumberForText(_) => "LIKE takes strings, and this is a number",
+        QueryFault::NotOneColumn(_) => "a subquery that stands for values has one column",
+        QueryFault::ConditionForValue(_) => "a value is wanted here, and this is a condition",
+        QueryFault::ValueForCondition(_) => "a condition is wanted here, and this is a value",
+        QueryFault::MisplacedFunction(_) => {
+            "a set function can't stand in WHERE or in another set function"
+        }
+        QueryFault::StarOfGroups(_) => "a query of groups has no *",
+        QueryFault::MisplacedQuery(_) => "a subquery can stand in WHERE alone",
+        fault => return write_limit(f, fault),
+    })
+}
+
+/// That a query passes a limit.
+fn write_limit<W: fmt::Write>(f: &mut Formatter<W>, fault: QueryFault) -> fmt::Result {
+    match fault {
+        QueryFault::ManyTables(_) => write!(f, "a FROM has at most {MAX_FROM_TABLES} tables"),
+        QueryFault::GreatScale(_) => write!(
+            f,
+            "a number has at most {MAX_SCALE} digits behind the point"
+        ),
+        QueryFault::GreatProduct(_) => write!(
+            f,
+            "a product has at most {MAX_SCALE} digits behind the point"
+        ),
+        QueryFault::ManyBlocks(_) => write!(
+            f,
+            "a query has at most {MAX_BLOCKS} SELECTs, those of its subqueries among them"
+        ),
+        QueryFault::ManyConjuncts(_) => write!(
+            f,
+            "a WHERE has at most {MAX_CONJUNCTS} conditions joined by AND"
+        ),
+        QueryFault::ManyMembers(_) => {
+            write!(f, "a list of IN has at most {MAX_MEMBERS} members")
+        }
+        QueryFault::ManyItems(block) => write_many_items(f, block),
+        QueryFault::ManyGroups(_) => {
+            write!(f, "GROUP BY takes at most {MAX_GROUP_COLUMNS} columns")
+        }
+        QueryFault::ManyKeys(_) => write!(f, "ORDER BY takes at most {MAX_KEYS} keys"),
+        _ => Ok(()),
+    }
+}
+
+fn write_many_items<W: fmt::Write>(f: &mut Formatter<W>, block: &Block) -> fmt::Result {
+    write!(f, "a select list has at most {MAX_ITEMS} items")?;
+    match &block.list {
+        SelectList::Items(items) => write!(f, ", and this one has {}", items.len()),
+        SelectList::Asterisk { .. } => Ok(()),
+    }
 }
 
 pub(crate) fn write_query_hint<W: fmt::Write>(
@@ -75,12 +205,17 @@ pub(crate) fn write_query_hint<W: fmt::Write>(
     database: &Database,
     cause: QueryCause,
 ) -> fmt::Result {
-    match cause {
-        QueryCause::NoTable(name) => write_near_table(f, alloc, database, name.text.as_str()),
-        QueryCause::NoColumn { table, column } => match database.table(table.text.as_str()) {
-            Some(table) => write_near_column(f, alloc, table, column.text.as_str()),
-            None => Ok(()),
-        },
+    match cause.fault {
+        QueryFault::NoTable(name) => write_near_table(f, alloc, database, name.text.as_str()),
+        QueryFault::NoColumn(column) => {
+            let Some(name) = only_table(cause.query) else {
+                return Ok(());
+            };
+            match database.table(name.text.as_str()) {
+                Some(table) => write_near_column(f, alloc, table, column.name.text.as_str()),
+                None => Ok(()),
+            }
+        }
         _ => Ok(()),
     }
 }

@@ -5,7 +5,6 @@ use crate::figures::{write_figures, write_table_figures};
 use crate::index::write_index;
 use crate::list::write_list_hint;
 use crate::near::write_near_table;
-use crate::not_yet::{write_not_yet, write_not_yet_hint};
 use crate::places::offset_of;
 use crate::query::{write_query, write_query_hint};
 use crate::record::{FileRecord, write_record, write_record_hint};
@@ -21,6 +20,10 @@ use sqlr::{Cause, ColumnList, FileLoad, Refused};
 use std::alloc::Global;
 use std::fmt::{self, Display, Formatter};
 use syntax::Name;
+
+/// What can be run so far, for a query.
+const NOT_YET_HINT: &str =
+    "hint: so far: SELECT of one table, without DISTINCT, GROUP BY, HAVING, set functions, ORDER BY and subqueries\n";
 
 /// Makes the messages on a script, one after another.
 #[derive(Drop)]
@@ -112,7 +115,7 @@ impl Report<'_> {
             Cause::Lexical(fault) => write_lexical(f, self.script, *fault),
             Cause::Unexpected(unexpected) => write_unexpected(f, self.script, unexpected),
             Cause::TooDeep { .. } => write_too_deep(f),
-            Cause::NotYet(statement) => write_not_yet(f, statement),
+            Cause::Explain(_) => f.write_str("EXPLAIN can't be run yet"),
             Cause::Create {
                 name,
                 columns,
@@ -124,7 +127,8 @@ impl Report<'_> {
             Cause::NoTable(name) => write!(f, "there is no table {}", name.text),
             Cause::NoFile(file) => write!(f, "there is no file '{}'", file.text),
             Cause::ManyRows(_) => write!(f, "a table has at most {MAX_ROWS} rows"),
-            Cause::Query(cause) => write_query(f, self.database, *cause),
+            Cause::Query(cause) => write_query(f, *cause),
+            Cause::NotYet(_) => f.write_str("this form of SELECT can't be run yet"),
             Cause::Record { .. } | Cause::Repeated { .. } => Ok(()),
         }
     }
@@ -135,7 +139,6 @@ impl Report<'_> {
             Cause::Unexpected(unexpected) => {
                 write_unexpected_hint(f, self.alloc, self.script, unexpected)
             }
-            Cause::NotYet(statement) => write_not_yet_hint(f, statement),
             Cause::Index { list, fault } => match fault {
                 IndexFault::List(fault) => self.write_list_hint(f, *list, *fault),
                 _ => Ok(()),
@@ -150,6 +153,7 @@ impl Report<'_> {
             },
             Cause::NoTable(name) => self.write_table_hint(f, name),
             Cause::Query(cause) => write_query_hint(f, self.alloc, self.database, *cause),
+            Cause::NotYet(_) => f.write_str(NOT_YET_HINT),
             _ => Ok(()),
         }
     }

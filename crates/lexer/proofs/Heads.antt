@@ -8,7 +8,7 @@ use Rattle.std.proofs.lemmas.List.{get_or_at}
 use Rattle.definitions.specs.Characters.{is_letter, is_digit, is_word_byte}
 use Rattle.definitions.specs.Lexing.{Quoted, with_code, quoted, lexeme_of, is_comment, is_word, is_numeral, is_run_on, behind_quote, or_else, symbol, lexeme_of_rest, Lexeme, Word', Number, RunOn, Quotation, Gap, Sign}
 use Rattle.definitions.specs.Token.{Symbol}
-use Rattle.lexer.specs.Meaning.{unquoted}
+use Rattle.lexer.specs.Quoted.{unquoted}
 use Rattle.lexer.specs.Lexeme.{begins_numeral, begins_comment, runs_on, EndsNumeral, lexeme_of_byte}
 
 -- ---- bytes

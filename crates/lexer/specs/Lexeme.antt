@@ -3,7 +3,8 @@ use Rattle.std.specs.Prelude.{ℕ, ◌≤◌, ◌≡◌, List, [], ◌∷◌, �
 use Rattle.definitions.specs.Characters.{minus_sign, period, underscore, is_letter, is_digit, is_blank}
 use Rattle.definitions.specs.Token as token
 use Rattle.definitions.specs.Lexing as lexing
-use Rattle.lexer.specs.Meaning.{symbol_of, kind_of, fault_of, unquoted, behind_first}
+use Rattle.lexer.specs.Meaning.{symbol_of, kind_of, fault_of}
+use Rattle.lexer.specs.Quoted.{unquoted, behind_first}
 use Rattle.lexer.specs.declared.token.TokenKind.{TokenKind}
 use Rattle.lexer.specs.declared.fault.LexFault.{LexFault}
 use Rattle.lexer.specs.declared.lexeme.Lexeme.{Lexeme}

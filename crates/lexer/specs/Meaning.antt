@@ -1,12 +1,13 @@
 -- What the tokens and faults of this crate stand for.
-use Rattle.std.specs.Prelude.{ℕ, ◌≤◌, ◌+◌, ◌≡◌, ⊤, List, [], ◌∷◌, Option, Some, None, Bool, true, false, ◌==◌, if◌then◌else◌, length, map, slice_range}
+use Rattle.std.specs.Prelude.{ℕ, ◌≤◌, ◌+◌, ◌≡◌, ⊤, List, [], ◌∷◌, Option, Some, None, length, map, slice_range}
 use Rattle.std.specs.Str.Parse.{digits_value}
-use Rattle.definitions.specs.Characters.{quote, folded}
+use Rattle.definitions.specs.Characters.{folded}
 use Rattle.definitions.specs.Word as spec
 use Rattle.definitions.specs.Token as token
 use Rattle.definitions.specs.Lexing as lexing
 use Rattle.definitions.specs.Grammar.{kinds}
 use Rattle.definitions.specs.Refusal as refusal
+use Rattle.lexer.specs.Quoted.{quoted_text}
 use Rattle.lexer.specs.declared.numeral.Numeral.{Numeral}
 use Rattle.lexer.specs.declared.word.Word.{Word}
 use Rattle.lexer.specs.declared.word.Word.TheVariants as w
@@ -89,21 +90,6 @@ symbol_of s.LessThan = token.LessThan
 symbol_of s.GreaterThan = token.GreaterThan
 symbol_of s.LessOrEquals = token.LessOrEquals
 symbol_of s.GreaterOrEquals = token.GreaterOrEquals
-
--- the characters of a string from its text behind the opening quote: of two quotes side by side one stands for both
-abbrev pub unquoted : (after_quote : Bool) → List ℕ → List ℕ
-unquoted after [] = []
-unquoted true (c ∷ rest) = if c == quote then quote ∷ unquoted false rest else c ∷ unquoted false rest
-unquoted false (c ∷ rest) = if c == quote then unquoted true rest else c ∷ unquoted false rest
-
-abbrev pub behind_first : List ℕ → List ℕ
-behind_first [] = []
-behind_first (c ∷ rest) = rest
-
--- the characters of a string from its text
-abbrev pub quoted_text : List ℕ → List ℕ
-quoted_text [] = []
-quoted_text (c ∷ rest) = if c == quote then unquoted false rest else []
 
 -- what a number says
 abbrev pub numeral_parts : Numeral → ℕ × ℕ × Option ℕ

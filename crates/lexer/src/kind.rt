@@ -4,8 +4,9 @@ ghost use Rattle.std.specs.Prelude.{◌≡◌, ◌+◌, ◌<◌, ◌≤◌, ◌^
 ghost use Rattle.definitions.specs.Characters as characters;
 ghost use Rattle.definitions.specs.Lexing as lexing;
 ghost use Rattle.definitions.specs.Refusal as refusal;
-ghost use Rattle.lexer.specs.Meaning.{fault_of, unquoted, behind_first};
-ghost use Rattle.lexer.specs.Numbers.{IsNumberWithin};
+ghost use Rattle.lexer.specs.Meaning.{fault_of};
+ghost use Rattle.lexer.specs.Quoted.{unquoted, behind_first};
+ghost use Rattle.lexer.specs.Within.{IsNumberWithin, IsStringWithin};
 ghost use Rattle.lexer.specs.Lexeme.{lexeme_of, quotation_of, outcome_of};
 
 use crate::byte::{begins_character, is_printable};
@@ -30,6 +31,7 @@ pub fn token_kind(start: usize, text: &[u8], lexeme: Lexeme) -> Result<Option<To
     requires same { lexing.lexeme_of text.now ≡ Some (lexeme_of text.now lexeme) }
     ensures outcome { outcome_of start text.now result ≡ Some (lexing.token_of start text.now (lexeme_of text.now lexeme)) }
     ensures within { IfOk result (λ kind. IfSome kind (λ k. IsNumberWithin k text.now)) }
+    ensures characters { IfOk result (λ kind. IfSome kind (λ k. IsStringWithin k text.now)) }
 {
     match lexeme {
         Lexeme::Gap => Ok(None),
@@ -48,6 +50,7 @@ pub fn token_kind(start: usize, text: &[u8], lexeme: Lexeme) -> Result<Option<To
 fn word_kind(start: usize, text: &[u8]) -> Result<Option<TokenKind>, LexFault>
     ensures outcome { outcome_of start text.now result ≡ Some (lexing.token_of start text.now lexing.Word') }
     ensures within { IfOk result (λ kind. IfSome kind (λ k. IsNumberWithin k text.now)) }
+    ensures characters { IfOk result (λ kind. IfSome kind (λ k. IsStringWithin k text.now)) }
 {
     if text.len() > MAX_NAME_CHARACTERS {
         return Err(LexFault::LongName {
@@ -65,6 +68,7 @@ fn number_kind(start: usize, text: &[u8]) -> Result<Option<TokenKind>, LexFault>
     requires { length text.now ≤ length (lexing.digits_of text.now) + 1 }
     ensures outcome { outcome_of start text.now result ≡ Some (lexing.token_of start text.now lexing.Number) }
     ensures within { IfOk result (λ kind. IfSome kind (λ k. IsNumberWithin k text.now)) }
+    ensures characters { IfOk result (λ kind. IfSome kind (λ k. IsStringWithin k text.now)) }
 {
     let digits = digit_count(text);
     if digits > MAX_DIGITS {
@@ -104,6 +108,7 @@ fn string_kind(start: usize, text: &[u8], closed: bool) -> Result<Option<TokenKi
     requires room { start + length text.now < 2 ^ 64 }
     ensures outcome { outcome_of start text.now result ≡ Some (lexing.token_of start text.now (quotation_of text.now closed)) }
     ensures within { IfOk result (λ kind. IfSome kind (λ k. IsNumberWithin k text.now)) }
+    ensures characters { IfOk result (λ kind. IfSome kind (λ k. IsStringWithin k text.now)) }
 {
     if !closed {
         return Err(LexFault::OpenString { offset: start });

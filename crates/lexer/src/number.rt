@@ -6,7 +6,7 @@ ghost use Rattle.definitions.specs.Grammar.{numeral_in};
 ghost use Rattle.definitions.specs.Lexing as lexing;
 ghost use Rattle.definitions.specs.Limits.{most_digits};
 ghost use Rattle.lexer.specs.Meaning.{kind_of, numeral_parts};
-ghost use Rattle.lexer.specs.Numbers.{IsShort};
+ghost use Rattle.lexer.specs.Within.{IsShort};
 
 use crate::byte::is_digit;
 use crate::numeral::Numeral;

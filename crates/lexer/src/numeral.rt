@@ -1,6 +1,7 @@
 //! Unsigned numbers.
 
 ghost use Rattle.std.specs.Prelude.{◌^◌, ◌<◌};
+ghost use Rattle.definitions.specs.Binding.Formed.{IsWrittenNumeral};
 ghost use Rattle.definitions.specs.Limits.{most_digits};
 
 /// An unsigned number (ISO/IEC 9075:1992, 5.3).
@@ -13,4 +14,5 @@ pub struct Numeral {
     /// How many of them stand behind the point, if it has one.
     pub fraction: Option<u8>,
     pub ghost bounded: { units < 10 ^ most_digits },
+    pub ghost written: { IsWrittenNumeral units digits },
 }

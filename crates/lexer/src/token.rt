@@ -1,6 +1,7 @@
 //! Tokens.
 
-ghost use Rattle.lexer.specs.Numbers.{IsNumberWithin};
+ghost use Rattle.std.proofs.Props.{props};
+ghost use Rattle.lexer.specs.Within.{IsNumberWithin, IsStringWithin};
 
 use crate::word::Word;
 
@@ -46,4 +47,5 @@ pub struct Token<'a> {
     /// The offset of its first byte in the script.
     pub start: usize,
     pub ghost within: { IsNumberWithin kind text.now },
+    pub ghost characters: { IsStringWithin kind text.now } by { Prim.hlevel props },
 }

@@ -14,7 +14,7 @@ use Rattle.definitions.specs.Queries.Conjuncts.{values_of, values_of_parts, conj
 use Rattle.definitions.specs.Queries.Evaluation.{cell}
 use Rattle.definitions.specs.Queries.Laws.{FitsTypes, AllFitTypes}
 use Rattle.one_table.specs.OneRow.{environment, row_at, IsOver, IsConditionOver, AreItemsOver}
-use Rattle.one_table.specs.Plain.{IsSource}
+use Rattle.one_table.specs.Source.{IsSource}
 use Rattle.one_table.proofs.Lists.{all_weaker}
 
 -- ---- columns

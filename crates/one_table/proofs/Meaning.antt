@@ -15,7 +15,8 @@ use Rattle.definitions.specs.Queries.Grouping.{results, groups_of, unless_raised
 use Rattle.definitions.specs.Queries.Answer.{answer, answer_after_where, is_grouped, meanings, row_of_combination, row_of_group, rows_of_kept, distinct_rows}
 use Rattle.definitions.specs.Queries.Outcomes.{Allowed, AllowedOf, Exception, Rows, row_order}
 use Rattle.one_table.specs.OneRow.{all_hold, raises_on, raises_in, result_raises, result_raises_in, result_row, result_rows, row_at, true_rows}
-use Rattle.one_table.specs.Plain.{IsPlain, IsSource}
+use Rattle.definitions.specs.NotYet.{IsPlain}
+use Rattle.one_table.specs.Source.{IsSource}
 use Rattle.one_table.proofs.Lists.{filter-map, map-map}
 
 -- ---- lists of meanings

@@ -5,11 +5,8 @@ use Rattle.std.proofs.lemmas.List.{length-map, length-take-le, length-drop, take
 use Rattle.std.proofs.lemmas.List.Folds.{list_all_more}
 use Rattle.std.specs.declared.cmp.Ordering.{Ordering}
 use Rattle.definitions.specs.Value.{Value, Null, compare}
-use Rattle.definitions.specs.Statement.{Op, Equals, NotEquals, LessThan, GreaterThan, LessOrEquals, GreaterOrEquals}
-use Rattle.definitions.specs.Answer.{truth_of}
-use Rattle.definitions.specs.Answer as answer
-use Rattle.definitions.specs.Truth as truth
-use Rattle.definitions.specs.Truth.{compared, is_true, known}
+use Rattle.definitions.specs.Statement.{Op}
+use Rattle.definitions.specs.Truth.{agrees, truth_of, compared, is_true, known, known_or_unknown}
 use Rattle.definitions.specs.Scanning.{word_of, true_word}
 use Rattle.definitions.specs.Table.{Row, Table}
 use Rattle.sqlvalue.specs.Meaning.{op_of, value_of}
@@ -24,17 +21,9 @@ known_true : (b : Bool) → b ≡ is_true (known b)
 known_true true = refl
 known_true false = refl
 
-order_agrees : (op : Op) (order : Ordering) → answer.agrees op order ≡ is_true (known (truth.agrees op order))
-order_agrees Equals order = known_true _
-order_agrees NotEquals order = known_true _
-order_agrees LessThan order = known_true _
-order_agrees GreaterThan order = known_true _
-order_agrees LessOrEquals order = known_true _
-order_agrees GreaterOrEquals order = known_true _
-
-orders_agree : (op : Op) (o : Option Ordering) → unwrap_or (option_map (answer.agrees op) o) false ≡ is_true (truth.known_or_unknown (option_map (truth.agrees op) o))
+orders_agree : (op : Op) (o : Option Ordering) → unwrap_or (option_map (agrees op) o) false ≡ is_true (known_or_unknown (option_map (agrees op) o))
 orders_agree op None = refl
-orders_agree op (Some order) = order_agrees op order
+orders_agree op (Some order) = known_true (agrees op order)
 
 met_is_true : (op : Op) (cell v : Value) → unwrap_or (truth_of op cell v) false ≡ is_true (compared op cell v)
 met_is_true op cell v = orders_agree op (compare cell v)

@@ -4,4 +4,4 @@ pub mod Conditions
 pub mod Faults
 pub mod Filters
 pub mod OneRow
-pub mod Plain
+pub mod Source

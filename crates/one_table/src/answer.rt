@@ -3,11 +3,12 @@
 ghost use Rattle.std.specs.Prelude.{◌≡◌, ◌<◌, ◌∷◌, [], List, IfErr, IfOk, length};
 ghost use Rattle.std.specs.List.{AllByRecursion};
 ghost use Rattle.definitions.specs.Binding.Formed.{IsFormedBlock};
+ghost use Rattle.definitions.specs.NotYet.{IsPlain};
 ghost use Rattle.definitions.specs.Queries.Outcomes.{names_of, shown, AllowedOf, Exception, Rows};
 ghost use Rattle.definitions.specs.Table.{Row};
 ghost use Rattle.bound.specs.Bound.{block_of};
 ghost use Rattle.one_table.specs.Faults.{IfRaised};
-ghost use Rattle.one_table.specs.Plain.{IsPlain, IsSource};
+ghost use Rattle.one_table.specs.Source.{IsSource};
 
 use crate::fault::AnswerFault;
 use crate::filter::Filter;

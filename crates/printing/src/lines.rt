@@ -1,12 +1,15 @@
 //! Lines that statements print. Each ends with LF.
 
-ghost use Rattle.std.specs.Prelude.{◌≡◌, ◌++◌, ◌+◌, ◌≤◌, OnOk, vec_capacity, vec_len};
+ghost use Rattle.std.specs.Prelude.{◌≡◌, ◌++◌, ◌+◌, ◌≤◌, [], OnOk, vec_capacity, vec_len};
 ghost use Rattle.definitions.specs.Printing as spec;
+ghost use Rattle.definitions.specs.Queries.Outcomes.{shown, Exception};
 ghost use Rattle.refusals.specs.Meaning.{refusal_of};
+ghost use Rattle.sqlvalue.specs.Raises.{raise_of};
 
 use crate::values::write_decimal;
 use itoa::Buffer;
 use refusals::Refusal;
+use sqlvalue::Raise;
 use std::alloc::AllocError;
 
 /// `error Enn SSSSS`, without the line's end.
@@ -48,6 +51,20 @@ pub fn write_fault(out: &mut Vec<u8>, refusal: Refusal, offset: usize) -> Result
     write_error(out, refusal.label(), refusal.state())?;
     out.extend_from_slice(b" at ")?;
     write_decimal(out, offset as u128)?;
+    out.extend_from_slice(b"\n")
+}
+
+/// The line of an exception that a query raises.
+pub fn write_exception(out: &mut Vec<u8>, raise: Raise) -> Result<(), AllocError>
+    ensures { OnOk result (out.new.items ≡ out.old.items ++ shown [] (Exception (raise_of raise))) }
+{
+    let state = match raise {
+        Raise::OutOfRange => "22003",
+        Raise::DivisionByZero => "22012",
+        Raise::Cardinality => "21000",
+    };
+    out.extend_from_slice(b"exception ")?;
+    out.extend_from_slice(state.as_bytes())?;
     out.extend_from_slice(b"\n")
 }
 

@@ -20,11 +20,11 @@ use std::alloc::Global;
 use trees::Source;
 
 /// The tables of a FROM, or a fault that it has.
-pub(crate) fn tables<'a>(
+pub(crate) fn tables<'d, 'q: 'd>(
     alloc: Global,
-    database: &'a Database,
-    sources: &'a [Source],
-) -> Result<Vec<NamedTable<'a>>, SourceFault<'a>>
+    database: &'d Database,
+    sources: &'q [Source],
+) -> Result<Vec<NamedTable<'d>>, SourceFault<'q>>
     ensures ok { IfOk result (λ scope. map named_of scope.items ≡ scope_of database.now (map source_of sources.now)) }
     ensures distinct { OnOk result (AreDistinct (map (λ (t : spec.NamedTable). t.name) (scope_of database.now (map source_of sources.now)))) }
     ensures refused { IfErr result (λ f. IfSome (source_refusal f) (SourcesFaulty database.now (map source_of sources.now))) }

@@ -49,12 +49,12 @@ impl<'a> Scopes<'a> {
 
     /// Those of a block inside: the tables of its FROM, and then these; or a fault that FROM has (ISO/IEC 9075:1992, 6.3;
     /// the limit is own). Of several faults any one may be told.
-    pub fn inside(
+    pub fn inside<'q: 'a>(
         &self,
         alloc: Global,
         database: &'a Database,
-        sources: &'a [Source],
-    ) -> Result<Scopes<'a>, SourceFault<'a>>
+        sources: &'q [Source],
+    ) -> Result<Scopes<'a>, SourceFault<'q>>
         ensures ok { IfOk result (λ s. s ≡ scope_of database.now (map source_of sources.now) ∷ self.now) }
         ensures there { OnOk result (IsTrue (are_there (scope_of database.now (map source_of sources.now) ∷ []))) }
         ensures all_there { IfOk result (λ s. IsTrue (are_there s)) }

@@ -1,10 +1,6 @@
-pub mod Elements
-pub mod NotYet
-pub mod Comparing
 pub mod Scripts
-pub mod Bound
-pub mod Lines
 pub mod Taking
 pub mod Changing
 pub mod Running
-pub mod Keeping
+pub mod Selecting
+pub mod Written

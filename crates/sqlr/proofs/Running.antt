@@ -1,5 +1,6 @@
 -- Steps one after another, and what a sink has taken of their texts.
 use Rattle.std.proofs.Common.{ℕ, ◌≡◌, ◌<◌, ◌∙◌, ◌++◌, refl, sym, ap, subst, zero, suc, List, [], ◌∷◌, Option, Some, None, Result, Ok, Err, length, take, drop, get_or, IfOk, IfErr, arith}
+use Rattle.std.specs.Prelude.{◌+◌}
 use Rattle.std.proofs.lemmas.List.{append-nil, append_assoc}
 use Rattle.definitions.specs.Statement.{Statement}
 use Rattle.definitions.specs.Step as step
@@ -13,6 +14,9 @@ use Rattle.sqlr.specs.declared.ended.RunFault.TheVariants as r
 use Rattle.sqlr.specs.declared.outcome.Printed.{Printed}
 use Rattle.sqlr.specs.Devices.{Took, TookBeginning, TookUpTo}
 use Rattle.sqlr.specs.Sessions.{BreaksIn, BreaksLine, BreaksOff, IsBoth, Runs, RunsAll, Takes, Prints}
+
+pub next : (i : ℕ) → i + 1 ≡ suc i
+next i = omega arith
 
 -- ---- how statements ended
 

@@ -1,14 +1,12 @@
 -- What a statement's call gives is a step of the definitions.
 use Rattle.std.proofs.Common.{ℕ, ◌≡◌, ◌≢◌, ◌∙◌, refl, sym, ap, List, [], Option, Some, None, Result, Ok, Err, IfOk, Bor}
-use Rattle.std.proofs.lemmas.List.Sorted.{IsPermutation-refl}
 use Rattle.std.specs.Prelude.{true, false, is_some}
 use Rattle.std.specs.Option.{option_copied}
 use Rattle.definitions.specs.Statement as tree
-use Rattle.definitions.specs.Statement.{Name, Statement, Block}
+use Rattle.definitions.specs.Statement.{Name, Statement}
 use Rattle.definitions.specs.Table.{Table, Database, table_named}
 use Rattle.definitions.specs.Refusal as r
 use Rattle.definitions.specs.Faults as faults
-use Rattle.definitions.specs.Answer.{answer}
 use Rattle.definitions.specs.Loading.{Record, AreFileRecords, FirstFaulty}
 use Rattle.definitions.specs.Printing.{refusal_text, record_refusal_text, loaded_text}
 use Rattle.definitions.specs.Step as step
@@ -21,7 +19,8 @@ use Rattle.catalog.specs.declared.fault.RepeatedRecord.{RepeatedRecord}
 use Rattle.sqlr.specs.declared.ended.Ended.TheVariants as e
 use Rattle.sqlr.specs.declared.outcome.Printed.{Printed}
 use Rattle.sqlr.specs.declared.outcome.StepFault.{StepFault}
-use Rattle.sqlr.specs.Selecting.{PrintsTable}
+use Rattle.sqlr.specs.Selecting as selecting
+use Rattle.sqlr.specs.Selecting.{Answers}
 use Rattle.sqlr.specs.Sessions.{Takes, TakesBytes}
 
 -- ---- the table of a name
@@ -48,7 +47,6 @@ refusal_told answers old new s (Err f) refusal h n t d = tt
 
 load_accepted : (db : Database) (name : Name) (file : List ℕ) → table_named db name ≢ None → faults.IsAccepted db (tree.Load name file)
 load_accepted db name file h f (faults.no_table n g e) = h e
-load_accepted db name file h f (faults.not_yet s n) = n tt
 
 pub no_file_told : {L : Type 0} (answers : Answering L) (old new : State L) (library : L) (name : Name) (file : List ℕ) (result : Result Printed StepFault) → table_named old.database name ≢ None → answers old.library file None library
     → new ≡ record old { library = library } → IfOk result (λ (p : Printed). p.text.items ≡ refusal_text r.NoFile) → IfOk result (λ (p : Printed). p.ended ≡ e.Faulted) → IfOk result (Takes answers old (tree.Load name file) new)
@@ -113,6 +111,7 @@ limit_told db db' name bytes (Err f) h n x d = tt
 
 -- ---- SELECT
 
-pub answer_printed : {L : Type 0} (answers : Answering L) (s : State L) (b : Block) (p : Printed) → PrintsTable s.database b p.text.items → p.ended ≡ e.Well → Takes answers s (tree.Query (record { block = b; order = [] })) s p
-answer_printed answers s b p h d =
-    (step.Well, step.query (record { block = b; order = [] }) h.from.source h.table (answer h.table b) refl h.accepted h.from.single h.from.named (IsPermutation-refl _) refl h.is refl, d)
+pub query_taken : {L : Type 0} (answers : Answering L) (s : State L) (q : tree.Select) (result : Result Printed StepFault) → IfOk result (Answers s.database q) → IfOk result (Takes answers s (tree.Query q) s)
+query_taken answers s q (Ok p) (selecting.refused r f t d) = (step.Faulted, step.refused r f refl t refl, d)
+query_taken answers s q (Ok p) (selecting.told blocks told a b allowed t d) = (step.told_ended told, step.query q blocks told refl a b allowed refl t refl, d)
+query_taken answers s q (Err f) h = tt

@@ -1,15 +1,20 @@
--- What is printed for a query that is not refused.
-use Rattle.std.specs.Prelude.{ℕ, ◌≡◌, List, [], map}
-use Rattle.definitions.specs.Statement.{Block, Query, block_items}
-use Rattle.definitions.specs.Table.{Table, Database}
-use Rattle.definitions.specs.Faults.{IsAccepted}
-use Rattle.definitions.specs.Answer.{answer}
-use Rattle.definitions.specs.Printing.{item_name, table_text}
-use Rattle.sqlr.specs.Binding.{IsFrom}
+-- What is printed for a query.
+use Rattle.std.specs.Prelude.{◌≡◌}
+use Rattle.definitions.specs.Statement.{Select, Query}
+use Rattle.definitions.specs.Table.{Database}
+use Rattle.definitions.specs.Refusal.{Refusal}
+use Rattle.definitions.specs.Printing.{refusal_text}
+use Rattle.definitions.specs.Queries.BoundBlock.{Blocks}
+use Rattle.definitions.specs.Queries.Outcomes.{Told, AllowedOf, names_of, shown}
+use Rattle.definitions.specs.Binding.Faults.{Binds}
+use Rattle.definitions.specs.Faults.{Faulty, IsAccepted}
+use Rattle.definitions.specs.Step.{told_ended}
+use Rattle.sqlr.specs.declared.ended.Ended.TheVariants as e
+use Rattle.sqlr.specs.declared.outcome.Printed.{Printed}
+use Rattle.sqlr.specs.Sessions.{ended_of}
 
--- the answer of a query over its table
-pub record PrintsTable (db : Database) (b : Block) (text : List ℕ) : Type 0 where
-  pub accepted : IsAccepted db (Query (record { block = b; order = [] }))
-  pub table : Table
-  pub from : IsFrom db b table
-  pub is : text ≡ table_text (map item_name (block_items b)) (answer table b)
+-- the line of a refusal, or what is told of its answer
+pub data Answers (db : Database) (q : Select) (p : Printed) : Type 0 where
+  refused : (r : Refusal) → Faulty db (Query q) r → p.text.items ≡ refusal_text r → p.ended ≡ e.Faulted → Answers db q p
+  told : (blocks : Blocks) (told : Told) → IsAccepted db (Query q) → Binds db q blocks → AllowedOf db blocks told
+      → p.text.items ≡ shown (names_of blocks) told → p.ended ≡ ended_of (told_ended told) → Answers db q p

@@ -1,17 +1,12 @@
 //! What stands behind a refusal.
 
-ghost use Rattle.std.specs.Prelude.{◌≡◌};
-ghost use Rattle.refusals.specs.Meaning.{refusal_of};
-ghost use Rattle.sqlr.specs.Meaning.{query_refusal};
-
+use binder::QueryFault;
 use catalog::{
     CreateFault, FiguresFault, IndexFault, RefusedRecord, RepeatedRecord, TableFiguresFault,
 };
 use lexer::LexFault;
 use refusals::Refusal;
-use syntax::{
-    ColumnDefinition, Count, Expr, IndexFigures, Name, Statement, StringLiteral, Unexpected,
-};
+use syntax::{ColumnDefinition, Count, IndexFigures, Name, Select, StringLiteral, Unexpected};
 
 /// A refusal and its cause.
 #[derive(Drop)]
@@ -32,8 +27,8 @@ pub enum Cause<'a> {
     TooDeep {
         offset: usize,
     },
-    /// A statement can't be run so far.
-    NotYet(&'a Statement),
+    /// EXPLAIN can't be run so far.
+    Explain(&'a Select),
     /// A table is not made.
     Create {
         name: &'a Name,
@@ -64,6 +59,8 @@ pub enum Cause<'a> {
         record: RepeatedRecord,
     },
     Query(QueryCause<'a>),
+    /// A query can't be answered so far.
+    NotYet(&'a Select),
 }
 
 /// Columns of a table as a statement lists them.
@@ -100,40 +97,7 @@ pub struct FileLoad<'a> {
 
 /// Why a query is refused.
 #[derive(Clone, Copy)]
-pub enum QueryCause<'a> {
-    /// The select list of a query over a table is too long.
-    ManyItems {
-        items: usize,
-        table: &'a Name,
-    },
-    /// There is no table of a name.
-    NoTable(&'a Name),
-    /// A table has no column of a name.
-    NoColumn {
-        table: &'a Name,
-        column: &'a Name,
-    },
-    /// A number has too many digits behind the point.
-    GreatScale(&'a Expr),
-    /// A table's column is compared with a literal of the other kind.
-    MixedKinds {
-        table: &'a Name,
-        column: &'a Name,
-        literal: &'a Expr,
-    },
-}
-
-impl QueryCause<'_> {
-    /// The refusal that it is.
-    pub fn refusal(self) -> Refusal
-        ensures { refusal_of result ≡ query_refusal self.entry }
-    {
-        match self {
-            QueryCause::ManyItems { .. } => Refusal::OverQueryLimit,
-            QueryCause::NoTable(_) => Refusal::NotFound,
-            QueryCause::NoColumn { .. } => Refusal::UnknownColumn,
-            QueryCause::GreatScale(_) => Refusal::ScaleTooGreat,
-            QueryCause::MixedKinds { .. } => Refusal::MixedKinds,
-        }
-    }
+pub struct QueryCause<'a> {
+    pub query: &'a Select,
+    pub fault: QueryFault<'a>,
 }

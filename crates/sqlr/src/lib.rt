@@ -1,20 +1,17 @@
 //! Scripts of SQL over tables in memory: from a script's bytes to the bytes that it prints.
 #![tactic(auto)]
 
-mod binding;
 mod cause;
 mod changes;
 mod ended;
 mod library;
 mod not_yet;
 mod outcome;
-mod rows;
 mod script;
 mod select;
 mod session;
 mod sink;
 
-pub use binding::{MAX_ITEMS, MAX_SCALE};
 pub use cause::{
     Cause, ColumnList, FiguresCause, FileLoad, QueryCause, Refused, TableFiguresCause,
 };

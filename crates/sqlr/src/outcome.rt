@@ -1,16 +1,19 @@
 //! What a statement prints and how it ends, and the lines of those that are refused.
 
-ghost use Rattle.std.specs.Prelude.{◌≡◌, IfOk, IfErr, option_map};
+ghost use Rattle.std.specs.Prelude.{◌≡◌, [], IfOk, IfErr, option_map};
 ghost use Rattle.definitions.specs.Printing.{refusal_text, record_refusal_text};
+ghost use Rattle.definitions.specs.Queries.Outcomes.{shown, Exception};
 ghost use Rattle.refusals.specs.Meaning.{refusal_of};
+ghost use Rattle.sqlvalue.specs.Raises.{raise_of};
 ghost use Rattle.sqlr.specs.declared.ended.Ended.TheVariants as ended;
 ghost use Rattle.sqlr.specs.Outcomes.{Tells};
 ghost use Rattle.sqlr.specs.declared.outcome.StepFault.TheVariants as fault;
 
 use crate::cause::{Cause, Refused};
 use crate::ended::Ended;
-use printing::{write_record_refusal, write_refusal};
+use printing::{write_exception, write_record_refusal, write_refusal};
 use refusals::Refusal;
+use sqlvalue::Raise;
 use std::alloc::{AllocError, Global};
 
 /// What a statement prints, how it ended, and why it is refused, if it is.
@@ -45,6 +48,21 @@ pub fn done<'a>(text: Vec<u8>) -> Printed<'a>
         ended: Ended::Well,
         refused: None,
     }
+}
+
+/// The line of an exception that a query raises.
+pub fn raised<'a>(alloc: Global, raise: Raise) -> Result<Printed<'a>, StepFault>
+    ensures text { IfOk result (λ p. p.text.items ≡ shown [] (Exception (raise_of raise))) }
+    ensures ended { IfOk result (λ p. p.ended ≡ ended.Faulted) }
+    ensures memory { IfErr result (λ f. f ≡ fault.Memory) }
+{
+    let mut text = Vec::new(alloc);
+    write_exception(&mut text, raise)?;
+    Ok(Printed {
+        text,
+        ended: Ended::Faulted,
+        refused: None,
+    })
 }
 
 /// A refused statement's line.

@@ -1,22 +1,19 @@
 //! Sessions.
 
 ghost use Rattle.std.specs.Prelude.{◌≡◌, ◌≢◌, ◌≤◌, [], None, IfOk, IfErr, OnErr};
-ghost use Rattle.definitions.specs.NotYet.{IsPlain};
 ghost use Rattle.definitions.specs.Printing.{fault_text};
 ghost use Rattle.definitions.specs.Statement as tree;
 ghost use Rattle.definitions.specs.Step.{AreStatements};
 ghost use Rattle.definitions.specs.Table.{table_named};
 ghost use Rattle.refusals.specs.Meaning.{refusal_of};
-ghost use Rattle.trees.specs.Trees.{name_of, select_of, statement_of, statements_of, text_of};
+ghost use Rattle.trees.specs.Trees.{name_of, statement_of, statements_of, text_of};
 ghost use Rattle.sqlr.specs.declared.outcome.StepFault.TheVariants as fault;
 ghost use Rattle.sqlr.specs.Sessions.{BreaksIn, BreaksLine, BreaksOff, IsBlamed, IsBoth, IsLibraryBlamed, IsSinkBlamed, Prints, Runs, RunsAll, Takes, TakesBytes};
 
-use crate::binding::BindFault;
 use crate::cause::{Cause, FileLoad, Refused};
 use crate::changes::{create_index, create_table, set_index, set_table};
 use crate::ended::{Ended, RunFault};
 use crate::library::{FetchFault, Fetched, Library};
-use crate::not_yet::can_run;
 use crate::outcome::{Printed, StepFault, done, refused, refused_record};
 use crate::script::{ScriptFault, parse_script};
 use crate::select::select;
@@ -26,7 +23,7 @@ use printing::{LOADED_ROOM, write_fault, write_loaded};
 use refusals::Refusal;
 use std::alloc::Global;
 use std::marker::Model;
-use syntax::{Name, Select, Statement, StringLiteral};
+use syntax::{Name, Statement, StringLiteral};
 
 /// A database, and the library that LOAD finds its files in.
 #[derive(Drop)]
@@ -141,10 +138,6 @@ impl<L: Library> Session<L> {
         ensures blamed { IfErr result (IsBlamed (L.failures self.old.library) (L.failures self.new.library)) }
         ensures counted { L.failures self.old.library ≤ L.failures self.new.library }
     {
-        if !can_run(statement) {
-            let cause = Cause::NotYet(statement);
-            return refused(self.alloc, Refusal::OverQueryLimit, cause);
-        }
         let alloc = self.alloc;
         match statement {
             Statement::CreateTable { name, columns } => {
@@ -164,8 +157,10 @@ impl<L: Library> Session<L> {
                 columns,
                 figures,
             } => set_index(alloc, &mut self.database, table, columns, figures),
-            Statement::Query(query) => self.query(query),
-            Statement::Explain(_) => unreachable!(),
+            Statement::Query(query) => select(alloc, &self.database, query),
+            Statement::Explain(query) => {
+                refused(alloc, Refusal::OverQueryLimit, Cause::Explain(query))
+            }
         }
     }
 
@@ -217,20 +212,6 @@ impl<L: Library> Session<L> {
                 refused(self.alloc, Refusal::OverLimit, Cause::ManyRows(load.table))
             }
             Err(LoadFault::Memory) => Err(StepFault::Memory),
-        }
-    }
-
-    fn query<'a>(&self, query: &'a Select) -> Result<Printed<'a>, StepFault>
-        requires { IsPlain (select_of query.now) }
-        ensures takes { IfOk result (Takes L.answers self.now (tree.Query (select_of query.now)) self.now) }
-        ensures memory { IfErr result (λ f. f ≡ fault.Memory) }
-    {
-        match select(self.alloc, &self.database, &query.block) {
-            Ok(text) => Ok(done(text)),
-            Err(BindFault::Refused(cause)) => {
-                refused(self.alloc, cause.refusal(), Cause::Query(cause))
-            }
-            Err(BindFault::Memory) => Err(StepFault::Memory),
         }
     }
 }

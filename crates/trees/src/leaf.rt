@@ -1,6 +1,8 @@
 //! Names, literals and operators.
 
-ghost use Rattle.std.specs.Prelude.{◌^◌, ◌<◌};
+ghost use Rattle.std.specs.Prelude.{◌^◌, ◌<◌, string_bytes};
+ghost use Rattle.std.proofs.Props.{props};
+ghost use Rattle.definitions.specs.Binding.Formed.{IsWrittenNumeral, IsWrittenString};
 ghost use Rattle.definitions.specs.Limits.{most_digits};
 
 /// A name in upper case.
@@ -26,6 +28,7 @@ pub struct Numeral {
     pub scale: u8,
     pub start: usize,
     pub ghost bounded: { units < 10 ^ most_digits },
+    pub ghost written: { IsWrittenNumeral units digits },
 }
 
 /// A character string literal without its quotes.
@@ -33,6 +36,7 @@ pub struct Numeral {
 pub struct StringLiteral {
     pub text: String,
     pub start: usize,
+    pub ghost written: { IsWrittenString (string_bytes text) } by { Prim.hlevel props },
 }
 
 /// A whole number as it is written.

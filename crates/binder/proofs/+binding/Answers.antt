@@ -1,16 +1,16 @@
-use Rattle.std.proofs.Common.{arith, take, rules, ◌≡◌, ◌∙◌, refl, sym, ap, subst, ◌≤◌, ◌+◌, ◌∷◌, ◌++◌, [], Some, None, length, map, drop, true, false, vec_len, inl, ℕ, ◌<◌}
+use Rattle.std.proofs.Common.{arith, rules, ◌≡◌, ◌∙◌, refl, sym, ap, subst, ◌≤◌, ◌+◌, ◌∷◌, ◌++◌, [], Some, None, length, map, drop, true, false, vec_len, inl, ◌<◌}
 use Rattle.definitions.specs.Limits.{most_blocks}
-use Rattle.definitions.specs.Refusal.{MisplacedCondition, MisplacedFunction, MixedKinds, ScaleTooGreat, OverQueryLimit}
+use Rattle.definitions.specs.Refusal.{MisplacedFunction, MixedKinds, ScaleTooGreat}
 use Rattle.definitions.specs.ValueType.{NumberType, TextType}
 use Rattle.bound.specs.Bound.{block_of, value_of, value_type_of, operand_of as bound_operand_of, bound_function_of, item_of, condition_of as bound_condition_of, column_of as block_column_of, conditions, member_of as bound_member_of}
-use Rattle.bound.proofs.Views.{of_signed as bound_signed, of_chain as bound_chain, of_set_value as bound_set_value, of_subquery as bound_subquery, of_compare as bound_compare, of_quantified as bound_quantified, of_is_null as bound_is_null, of_between as bound_between, of_like as bound_like, of_in_list as bound_in_list, of_in_query as bound_in_query, of_exists as bound_exists, of_not as bound_not, of_and as bound_and, of_or as bound_or}
+use Rattle.bound.proofs.Views.{of_signed as bound_signed, of_chain as bound_chain, of_subquery as bound_subquery, of_compare as bound_compare, of_quantified as bound_quantified, of_is_null as bound_is_null, of_between as bound_between, of_like as bound_like, of_in_list as bound_in_list, of_in_query as bound_in_query, of_exists as bound_exists, of_not as bound_not, of_and as bound_and, of_or as bound_or}
 use Rattle.trees.specs.Trees.{column_of, expr_of, text_of, operand_of, member_of, block_of as query_of, operator_of, function_of, condition_of, item_of as listed_item_of, list_of, name_of, source_of, quantifier_of}
 use Rattle.trees.proofs.Views.{of_column, of_numeral, of_string, of_signed, of_not, of_compare, of_compare_all, of_is_null, of_between, of_like, of_in_query, of_exists, of_scalar, of_count_rows, of_function, of_in_list, of_line, of_asterisk, of_items}
 use Rattle.std.specs.Prelude.{IfSome, option_map, IsTrue}
 use Rattle.definitions.specs.Grammar.{operands, items, members}
 use Rattle.trees.specs.declared.expr.Expr.{the_lemmas}
 use Rattle.binder.specs.Judging.{BindsValue, BindsCondition, BindsColumn, RefusesValue, RefusesColumn, InWhere, takes_functions, InArgument, BindsMembers, BindsQuery, RefusesCondition, RefusesMembers, RefusesQuery, RefusesBlock}
-use Rattle.binder.proofs.Predicates.{scalar_query, binds_scalar, binds_is_null, is_null_operand, binds_like, like_operand, like_number, binds_not, not_operand, binds_between, between_operand, between_low, between_high, between_low_mixed, between_high_mixed, binds_exists, exists_query, IsTest, in_query, compare_all, binds_test, test_operand, test_query, test_mixed}
+use Rattle.binder.proofs.Predicates.{scalar_query, binds_scalar, binds_is_null, is_null_operand, binds_like, like_operand, like_number, binds_not, not_operand, binds_between, between_operand, between_low, between_high, between_low_mixed, between_high_mixed, binds_exists, exists_query, in_query, compare_all, binds_test, test_operand, test_query, test_mixed}
 use Rattle.binder.proofs.SetFunctions.{count_rows_misplaced, binds_count_rows, function_misplaced, binds_function, function_argument, function_of_text, nothing_bound}
 use Rattle.binder.specs.Meaning.{place_of, progress_of, query_refusal, bind_refusal, IsLine, IsList}
 use Rattle.binder.proofs.Answering.{if_some, is_refused, value_err, value_refused, few_blocks, few_items, numeral_refused, column_answer, next_tree, no_tree, pushed_operand, condition_err, condition_refused, members_err, members_refused, column_err, query_err, line_is, is_text, next_member_tree, no_member_tree, as_many_members, pushed_member, pushed_condition, pushed_function, as_many_functions, nothing_more, connected_and, connected_or, others_there}
@@ -287,10 +287,10 @@ condition::condition-returns-in_err-operand-in-Not t c =
 pub condition::condition-returns-in_err-left-in-Compare :
     goal.condition::condition-returns-in_err-left-in-Compare
 condition::condition-returns-in_err-left-in-Compare t c =
-    let tree = ap expr_of c.in-Compare.is ∙ of_compare c.in-Compare.start c.in-Compare.op c.in-Compare.left c.in-Compare.right in
+    let tree = ap expr_of c.in-Compare.is ∙ of_compare c.in-Compare.start c.in-Compare.op c.in-Compare.left c.in-Compare.other in
     let f = c.in_err-left-in-Compare.field-0.0 in
     let inner : IfSome (bind_refusal f) (RefusesValue c.args.clause.now.database.now c.args.clause.now.scopes.now (place_of c.args.clause.now.place) (progress_of c.args.blocks.now.items c.args.functions.now.items) (expr_of c.in-Compare.left.value)) = rw c.deref-in-Compare.ensures at c.in_err-left-in-Compare.ensures in
-    condition_err c.args.clause.now (progress_of c.args.blocks.now.items c.args.functions.now.items) _ _ _ f (search rules) (rw tree (if_some (bind_refusal f) _ _ (compare_left c.args.clause.now.database.now c.args.clause.now.scopes.now (place_of c.args.clause.now.place) (progress_of c.args.blocks.now.items c.args.functions.now.items) (op_of c.in-Compare.op) (expr_of c.in-Compare.left.value) (expr_of c.in-Compare.right.value)) inner))
+    condition_err c.args.clause.now (progress_of c.args.blocks.now.items c.args.functions.now.items) _ _ _ f (search rules) (rw tree (if_some (bind_refusal f) _ _ (compare_left c.args.clause.now.database.now c.args.clause.now.scopes.now (place_of c.args.clause.now.place) (progress_of c.args.blocks.now.items c.args.functions.now.items) (op_of c.in-Compare.op) (expr_of c.in-Compare.left.value) (expr_of c.in-Compare.other.value)) inner))
 
 -- src/condition.rt:51:25
 pub condition::condition-value-requires-in-Compare :
@@ -303,22 +303,22 @@ condition::condition-value-requires-in-Compare t c =
 pub condition::condition-returns-in_err-right-in-Compare :
     goal.condition::condition-returns-in_err-right-in-Compare
 condition::condition-returns-in_err-right-in-Compare t c =
-    let tree = ap expr_of c.in-Compare.is ∙ of_compare c.in-Compare.start c.in-Compare.op c.in-Compare.left c.in-Compare.right in
+    let tree = ap expr_of c.in-Compare.is ∙ of_compare c.in-Compare.start c.in-Compare.op c.in-Compare.left c.in-Compare.other in
     let first : BindsValue c.args.clause.now.database.now c.args.clause.now.scopes.now (place_of c.args.clause.now.place) (progress_of c.args.blocks.now.items c.args.functions.now.items) (progress_of c.value.new.blocks.items c.value.new.functions.items) (expr_of c.in-Compare.left.value) (value_of c.in_ok-left-in-Compare.left.value) (value_type_of c.in_ok-left-in-Compare.left.value_type) = rw c.deref-in-Compare.ensures at c.in_ok-left-in-Compare.ensures in
     let f = c.in_err-right-in-Compare.field-0.0 in
-    let inner : IfSome (bind_refusal f) (RefusesValue c.args.clause.now.database.now c.args.clause.now.scopes.now (place_of c.args.clause.now.place) (progress_of c.value.new.blocks.items c.value.new.functions.items) (expr_of c.in-Compare.right.value)) = rw c.deref-in-Compare-2.ensures at c.in_err-right-in-Compare.ensures in
-    condition_err c.args.clause.now (progress_of c.args.blocks.now.items c.args.functions.now.items) _ _ _ f (search rules) (rw tree (if_some (bind_refusal f) _ _ (λ r e. compare_right c.args.clause.now.database.now c.args.clause.now.scopes.now (place_of c.args.clause.now.place) (progress_of c.args.blocks.now.items c.args.functions.now.items) (progress_of c.value.new.blocks.items c.value.new.functions.items) (op_of c.in-Compare.op) (expr_of c.in-Compare.left.value) (expr_of c.in-Compare.right.value) (value_of c.in_ok-left-in-Compare.left.value) (value_type_of c.in_ok-left-in-Compare.left.value_type) r first e) inner))
+    let inner : IfSome (bind_refusal f) (RefusesValue c.args.clause.now.database.now c.args.clause.now.scopes.now (place_of c.args.clause.now.place) (progress_of c.value.new.blocks.items c.value.new.functions.items) (expr_of c.in-Compare.other.value)) = rw c.deref-in-Compare-2.ensures at c.in_err-right-in-Compare.ensures in
+    condition_err c.args.clause.now (progress_of c.args.blocks.now.items c.args.functions.now.items) _ _ _ f (search rules) (rw tree (if_some (bind_refusal f) _ _ (λ r e. compare_right c.args.clause.now.database.now c.args.clause.now.scopes.now (place_of c.args.clause.now.place) (progress_of c.args.blocks.now.items c.args.functions.now.items) (progress_of c.value.new.blocks.items c.value.new.functions.items) (op_of c.in-Compare.op) (expr_of c.in-Compare.left.value) (expr_of c.in-Compare.other.value) (value_of c.in_ok-left-in-Compare.left.value) (value_type_of c.in_ok-left-in-Compare.left.value_type) r first e) inner))
 
 -- src/condition.rt:52:13
 pub condition::condition-returns-in_err-judge_kinds-in-Compare :
     goal.condition::condition-returns-in_err-judge_kinds-in-Compare
 condition::condition-returns-in_err-judge_kinds-in-Compare t c =
-    let tree = ap expr_of c.in-Compare.is ∙ of_compare c.in-Compare.start c.in-Compare.op c.in-Compare.left c.in-Compare.right in
+    let tree = ap expr_of c.in-Compare.is ∙ of_compare c.in-Compare.start c.in-Compare.op c.in-Compare.left c.in-Compare.other in
     let first : BindsValue c.args.clause.now.database.now c.args.clause.now.scopes.now (place_of c.args.clause.now.place) (progress_of c.args.blocks.now.items c.args.functions.now.items) (progress_of c.value.new.blocks.items c.value.new.functions.items) (expr_of c.in-Compare.left.value) (value_of c.in_ok-left-in-Compare.left.value) (value_type_of c.in_ok-left-in-Compare.left.value_type) = rw c.deref-in-Compare.ensures at c.in_ok-left-in-Compare.ensures in
-    let second : BindsValue c.args.clause.now.database.now c.args.clause.now.scopes.now (place_of c.args.clause.now.place) (progress_of c.value.new.blocks.items c.value.new.functions.items) (progress_of c.value-in-Compare.new.blocks.items c.value-in-Compare.new.functions.items) (expr_of c.in-Compare.right.value) (value_of c.in_ok-right-in-Compare.right.value) (value_type_of c.in_ok-right-in-Compare.right.value_type) = rw c.deref-in-Compare-2.ensures at c.in_ok-right-in-Compare.ensures in
+    let second : BindsValue c.args.clause.now.database.now c.args.clause.now.scopes.now (place_of c.args.clause.now.place) (progress_of c.value.new.blocks.items c.value.new.functions.items) (progress_of c.value-in-Compare.new.blocks.items c.value-in-Compare.new.functions.items) (expr_of c.in-Compare.other.value) (value_of c.in_ok-right-in-Compare.right.value) (value_type_of c.in_ok-right-in-Compare.right.value_type) = rw c.deref-in-Compare-2.ensures at c.in_ok-right-in-Compare.ensures in
     let q = c.in_err-judge_kinds-in-Compare.field-0.0 in
     condition_refused c.args.clause.now (progress_of c.args.blocks.now.items c.args.functions.now.items) _ _ _ q MixedKinds (is_refused _ q c.from_residual-in_err-judge_kinds-in-Compare.ensures) c.in_err-judge_kinds-in-Compare.ensures.refused
-    (rw tree (compare_mixed c.args.clause.now.database.now c.args.clause.now.scopes.now (place_of c.args.clause.now.place) (progress_of c.args.blocks.now.items c.args.functions.now.items) (progress_of c.value.new.blocks.items c.value.new.functions.items) (progress_of c.value-in-Compare.new.blocks.items c.value-in-Compare.new.functions.items) (op_of c.in-Compare.op) (expr_of c.in-Compare.left.value) (expr_of c.in-Compare.right.value) (value_of c.in_ok-left-in-Compare.left.value) (value_of c.in_ok-right-in-Compare.right.value) (value_type_of c.in_ok-left-in-Compare.left.value_type) (value_type_of c.in_ok-right-in-Compare.right.value_type) first second c.in_err-judge_kinds-in-Compare.ensures.apart))
+    (rw tree (compare_mixed c.args.clause.now.database.now c.args.clause.now.scopes.now (place_of c.args.clause.now.place) (progress_of c.args.blocks.now.items c.args.functions.now.items) (progress_of c.value.new.blocks.items c.value.new.functions.items) (progress_of c.value-in-Compare.new.blocks.items c.value-in-Compare.new.functions.items) (op_of c.in-Compare.op) (expr_of c.in-Compare.left.value) (expr_of c.in-Compare.other.value) (value_of c.in_ok-left-in-Compare.left.value) (value_of c.in_ok-right-in-Compare.right.value) (value_type_of c.in_ok-left-in-Compare.left.value_type) (value_type_of c.in_ok-right-in-Compare.right.value_type) first second c.in_err-judge_kinds-in-Compare.ensures.apart))
 
 -- src/condition.rt:66:24
 pub condition::condition-returns-in_err-left-in-CompareAll :
@@ -370,10 +370,10 @@ condition::condition-returns-in_err-typed-in-IsNull t c =
 pub condition::condition-returns-in_err-typed-in-Between :
     goal.condition::condition-returns-in_err-typed-in-Between
 condition::condition-returns-in_err-typed-in-Between t c =
-    let tree = ap expr_of c.in-Between.is ∙ of_between c.in-Between.start c.in-Between.negated c.in-Between.operand c.in-Between.low c.in-Between.high in
+    let tree = ap expr_of c.in-Between.is ∙ of_between c.in-Between.start c.in-Between.negated c.in-Between.operand c.in-Between.least c.in-Between.greatest in
     let f = c.in_err-typed-in-Between.field-0.0 in
     let inner : IfSome (bind_refusal f) (RefusesValue c.args.clause.now.database.now c.args.clause.now.scopes.now (place_of c.args.clause.now.place) (progress_of c.args.blocks.now.items c.args.functions.now.items) (expr_of c.in-Between.operand.value)) = rw c.deref-in-Between.ensures at c.in_err-typed-in-Between.ensures in
-    condition_err c.args.clause.now (progress_of c.args.blocks.now.items c.args.functions.now.items) _ _ _ f (search rules) (rw tree (if_some (bind_refusal f) _ _ (between_operand c.args.clause.now.database.now c.args.clause.now.scopes.now (place_of c.args.clause.now.place) (progress_of c.args.blocks.now.items c.args.functions.now.items) c.in-Between.negated (expr_of c.in-Between.operand.value) (expr_of c.in-Between.low.value) (expr_of c.in-Between.high.value)) inner))
+    condition_err c.args.clause.now (progress_of c.args.blocks.now.items c.args.functions.now.items) _ _ _ f (search rules) (rw tree (if_some (bind_refusal f) _ _ (between_operand c.args.clause.now.database.now c.args.clause.now.scopes.now (place_of c.args.clause.now.place) (progress_of c.args.blocks.now.items c.args.functions.now.items) c.in-Between.negated (expr_of c.in-Between.operand.value) (expr_of c.in-Between.least.value) (expr_of c.in-Between.greatest.value)) inner))
 
 -- src/condition.rt:95:23
 pub condition::condition-value-requires-in-Between-2 :
@@ -386,51 +386,51 @@ condition::condition-value-requires-in-Between-2 t c =
 pub condition::condition-returns-in_err-low-in-Between :
     goal.condition::condition-returns-in_err-low-in-Between
 condition::condition-returns-in_err-low-in-Between t c =
-    let tree = ap expr_of c.in-Between.is ∙ of_between c.in-Between.start c.in-Between.negated c.in-Between.operand c.in-Between.low c.in-Between.high in
+    let tree = ap expr_of c.in-Between.is ∙ of_between c.in-Between.start c.in-Between.negated c.in-Between.operand c.in-Between.least c.in-Between.greatest in
     let first : BindsValue c.args.clause.now.database.now c.args.clause.now.scopes.now (place_of c.args.clause.now.place) (progress_of c.args.blocks.now.items c.args.functions.now.items) (progress_of c.value-in-Between.new.blocks.items c.value-in-Between.new.functions.items) (expr_of c.in-Between.operand.value) (value_of c.in_ok-typed-in-Between.typed.value) (value_type_of c.in_ok-typed-in-Between.typed.value_type) = rw c.deref-in-Between.ensures at c.in_ok-typed-in-Between.ensures in
     let f = c.in_err-low-in-Between.field-0.0 in
-    let inner : IfSome (bind_refusal f) (RefusesValue c.args.clause.now.database.now c.args.clause.now.scopes.now (place_of c.args.clause.now.place) (progress_of c.value-in-Between.new.blocks.items c.value-in-Between.new.functions.items) (expr_of c.in-Between.low.value)) = rw c.deref-in-Between-2.ensures at c.in_err-low-in-Between.ensures in
-    condition_err c.args.clause.now (progress_of c.args.blocks.now.items c.args.functions.now.items) _ _ _ f (search rules) (rw tree (if_some (bind_refusal f) _ _ (λ r x. between_low c.args.clause.now.database.now c.args.clause.now.scopes.now (place_of c.args.clause.now.place) (progress_of c.args.blocks.now.items c.args.functions.now.items) (progress_of c.value-in-Between.new.blocks.items c.value-in-Between.new.functions.items) c.in-Between.negated (expr_of c.in-Between.operand.value) (expr_of c.in-Between.low.value) (expr_of c.in-Between.high.value) (value_of c.in_ok-typed-in-Between.typed.value) (value_type_of c.in_ok-typed-in-Between.typed.value_type) r first x) inner))
+    let inner : IfSome (bind_refusal f) (RefusesValue c.args.clause.now.database.now c.args.clause.now.scopes.now (place_of c.args.clause.now.place) (progress_of c.value-in-Between.new.blocks.items c.value-in-Between.new.functions.items) (expr_of c.in-Between.least.value)) = rw c.deref-in-Between-2.ensures at c.in_err-low-in-Between.ensures in
+    condition_err c.args.clause.now (progress_of c.args.blocks.now.items c.args.functions.now.items) _ _ _ f (search rules) (rw tree (if_some (bind_refusal f) _ _ (λ r x. between_low c.args.clause.now.database.now c.args.clause.now.scopes.now (place_of c.args.clause.now.place) (progress_of c.args.blocks.now.items c.args.functions.now.items) (progress_of c.value-in-Between.new.blocks.items c.value-in-Between.new.functions.items) c.in-Between.negated (expr_of c.in-Between.operand.value) (expr_of c.in-Between.least.value) (expr_of c.in-Between.greatest.value) (value_of c.in_ok-typed-in-Between.typed.value) (value_type_of c.in_ok-typed-in-Between.typed.value_type) r first x) inner))
 
 -- src/condition.rt:96:24
 pub condition::condition-value-requires-in-Between-3 :
     goal.condition::condition-value-requires-in-Between-3
 condition::condition-value-requires-in-Between-3 t c =
-    let second : BindsValue c.args.clause.now.database.now c.args.clause.now.scopes.now (place_of c.args.clause.now.place) (progress_of c.value-in-Between.new.blocks.items c.value-in-Between.new.functions.items) (progress_of c.value-in-Between-2.new.blocks.items c.value-in-Between-2.new.functions.items) (expr_of c.in-Between.low.value) (value_of c.in_ok-low-in-Between.low.value) (value_type_of c.in_ok-low-in-Between.low.value_type) = rw c.deref-in-Between-2.ensures at c.in_ok-low-in-Between.ensures in
+    let second : BindsValue c.args.clause.now.database.now c.args.clause.now.scopes.now (place_of c.args.clause.now.place) (progress_of c.value-in-Between.new.blocks.items c.value-in-Between.new.functions.items) (progress_of c.value-in-Between-2.new.blocks.items c.value-in-Between-2.new.functions.items) (expr_of c.in-Between.least.value) (value_of c.in_ok-low-in-Between.low.value) (value_type_of c.in_ok-low-in-Between.low.value_type) = rw c.deref-in-Between-2.ensures at c.in_ok-low-in-Between.ensures in
     let sight = c.requires.sight in let few = few_items c.value-in-Between-2.new.blocks.items (few_after c.args.clause.now.database.now c.args.clause.now.scopes.now (place_of c.args.clause.now.place) (progress_of c.value-in-Between.new.blocks.items c.value-in-Between.new.functions.items) (progress_of c.value-in-Between-2.new.blocks.items c.value-in-Between-2.new.functions.items) _ _ second.adds) in search (rules, the_lemmas, sight, few)
 
 -- src/condition.rt:96:24
 pub condition::condition-returns-in_err-high-in-Between :
     goal.condition::condition-returns-in_err-high-in-Between
 condition::condition-returns-in_err-high-in-Between t c =
-    let tree = ap expr_of c.in-Between.is ∙ of_between c.in-Between.start c.in-Between.negated c.in-Between.operand c.in-Between.low c.in-Between.high in
+    let tree = ap expr_of c.in-Between.is ∙ of_between c.in-Between.start c.in-Between.negated c.in-Between.operand c.in-Between.least c.in-Between.greatest in
     let first : BindsValue c.args.clause.now.database.now c.args.clause.now.scopes.now (place_of c.args.clause.now.place) (progress_of c.args.blocks.now.items c.args.functions.now.items) (progress_of c.value-in-Between.new.blocks.items c.value-in-Between.new.functions.items) (expr_of c.in-Between.operand.value) (value_of c.in_ok-typed-in-Between.typed.value) (value_type_of c.in_ok-typed-in-Between.typed.value_type) = rw c.deref-in-Between.ensures at c.in_ok-typed-in-Between.ensures in
-    let second : BindsValue c.args.clause.now.database.now c.args.clause.now.scopes.now (place_of c.args.clause.now.place) (progress_of c.value-in-Between.new.blocks.items c.value-in-Between.new.functions.items) (progress_of c.value-in-Between-2.new.blocks.items c.value-in-Between-2.new.functions.items) (expr_of c.in-Between.low.value) (value_of c.in_ok-low-in-Between.low.value) (value_type_of c.in_ok-low-in-Between.low.value_type) = rw c.deref-in-Between-2.ensures at c.in_ok-low-in-Between.ensures in
+    let second : BindsValue c.args.clause.now.database.now c.args.clause.now.scopes.now (place_of c.args.clause.now.place) (progress_of c.value-in-Between.new.blocks.items c.value-in-Between.new.functions.items) (progress_of c.value-in-Between-2.new.blocks.items c.value-in-Between-2.new.functions.items) (expr_of c.in-Between.least.value) (value_of c.in_ok-low-in-Between.low.value) (value_type_of c.in_ok-low-in-Between.low.value_type) = rw c.deref-in-Between-2.ensures at c.in_ok-low-in-Between.ensures in
     let f = c.in_err-high-in-Between.field-0.0 in
-    let inner : IfSome (bind_refusal f) (RefusesValue c.args.clause.now.database.now c.args.clause.now.scopes.now (place_of c.args.clause.now.place) (progress_of c.value-in-Between-2.new.blocks.items c.value-in-Between-2.new.functions.items) (expr_of c.in-Between.high.value)) = rw c.deref-in-Between-3.ensures at c.in_err-high-in-Between.ensures in
-    condition_err c.args.clause.now (progress_of c.args.blocks.now.items c.args.functions.now.items) _ _ _ f (search rules) (rw tree (if_some (bind_refusal f) _ _ (λ r x. between_high c.args.clause.now.database.now c.args.clause.now.scopes.now (place_of c.args.clause.now.place) (progress_of c.args.blocks.now.items c.args.functions.now.items) (progress_of c.value-in-Between.new.blocks.items c.value-in-Between.new.functions.items) (progress_of c.value-in-Between-2.new.blocks.items c.value-in-Between-2.new.functions.items) c.in-Between.negated (expr_of c.in-Between.operand.value) (expr_of c.in-Between.low.value) (expr_of c.in-Between.high.value) (value_of c.in_ok-typed-in-Between.typed.value) (value_of c.in_ok-low-in-Between.low.value) (value_type_of c.in_ok-typed-in-Between.typed.value_type) (value_type_of c.in_ok-low-in-Between.low.value_type) r first second x) inner))
+    let inner : IfSome (bind_refusal f) (RefusesValue c.args.clause.now.database.now c.args.clause.now.scopes.now (place_of c.args.clause.now.place) (progress_of c.value-in-Between-2.new.blocks.items c.value-in-Between-2.new.functions.items) (expr_of c.in-Between.greatest.value)) = rw c.deref-in-Between-3.ensures at c.in_err-high-in-Between.ensures in
+    condition_err c.args.clause.now (progress_of c.args.blocks.now.items c.args.functions.now.items) _ _ _ f (search rules) (rw tree (if_some (bind_refusal f) _ _ (λ r x. between_high c.args.clause.now.database.now c.args.clause.now.scopes.now (place_of c.args.clause.now.place) (progress_of c.args.blocks.now.items c.args.functions.now.items) (progress_of c.value-in-Between.new.blocks.items c.value-in-Between.new.functions.items) (progress_of c.value-in-Between-2.new.blocks.items c.value-in-Between-2.new.functions.items) c.in-Between.negated (expr_of c.in-Between.operand.value) (expr_of c.in-Between.least.value) (expr_of c.in-Between.greatest.value) (value_of c.in_ok-typed-in-Between.typed.value) (value_of c.in_ok-low-in-Between.low.value) (value_type_of c.in_ok-typed-in-Between.typed.value_type) (value_type_of c.in_ok-low-in-Between.low.value_type) r first second x) inner))
 
 -- src/condition.rt:97:13
 pub condition::condition-returns-in_err-judge_kinds-in-Between :
     goal.condition::condition-returns-in_err-judge_kinds-in-Between
 condition::condition-returns-in_err-judge_kinds-in-Between t c =
-    let tree = ap expr_of c.in-Between.is ∙ of_between c.in-Between.start c.in-Between.negated c.in-Between.operand c.in-Between.low c.in-Between.high in
+    let tree = ap expr_of c.in-Between.is ∙ of_between c.in-Between.start c.in-Between.negated c.in-Between.operand c.in-Between.least c.in-Between.greatest in
     let first : BindsValue c.args.clause.now.database.now c.args.clause.now.scopes.now (place_of c.args.clause.now.place) (progress_of c.args.blocks.now.items c.args.functions.now.items) (progress_of c.value-in-Between.new.blocks.items c.value-in-Between.new.functions.items) (expr_of c.in-Between.operand.value) (value_of c.in_ok-typed-in-Between.typed.value) (value_type_of c.in_ok-typed-in-Between.typed.value_type) = rw c.deref-in-Between.ensures at c.in_ok-typed-in-Between.ensures in
-    let second : BindsValue c.args.clause.now.database.now c.args.clause.now.scopes.now (place_of c.args.clause.now.place) (progress_of c.value-in-Between.new.blocks.items c.value-in-Between.new.functions.items) (progress_of c.value-in-Between-2.new.blocks.items c.value-in-Between-2.new.functions.items) (expr_of c.in-Between.low.value) (value_of c.in_ok-low-in-Between.low.value) (value_type_of c.in_ok-low-in-Between.low.value_type) = rw c.deref-in-Between-2.ensures at c.in_ok-low-in-Between.ensures in
+    let second : BindsValue c.args.clause.now.database.now c.args.clause.now.scopes.now (place_of c.args.clause.now.place) (progress_of c.value-in-Between.new.blocks.items c.value-in-Between.new.functions.items) (progress_of c.value-in-Between-2.new.blocks.items c.value-in-Between-2.new.functions.items) (expr_of c.in-Between.least.value) (value_of c.in_ok-low-in-Between.low.value) (value_type_of c.in_ok-low-in-Between.low.value_type) = rw c.deref-in-Between-2.ensures at c.in_ok-low-in-Between.ensures in
     let q = c.in_err-judge_kinds-in-Between.field-0.0 in
     condition_refused c.args.clause.now (progress_of c.args.blocks.now.items c.args.functions.now.items) _ _ _ q MixedKinds (is_refused _ q c.from_residual-in_err-judge_kinds-in-Between.ensures) c.in_err-judge_kinds-in-Between.ensures.refused
-    (rw tree (between_low_mixed c.args.clause.now.database.now c.args.clause.now.scopes.now (place_of c.args.clause.now.place) (progress_of c.args.blocks.now.items c.args.functions.now.items) (progress_of c.value-in-Between.new.blocks.items c.value-in-Between.new.functions.items) (progress_of c.value-in-Between-2.new.blocks.items c.value-in-Between-2.new.functions.items) c.in-Between.negated (expr_of c.in-Between.operand.value) (expr_of c.in-Between.low.value) (expr_of c.in-Between.high.value) (value_of c.in_ok-typed-in-Between.typed.value) (value_of c.in_ok-low-in-Between.low.value) (value_type_of c.in_ok-typed-in-Between.typed.value_type) (value_type_of c.in_ok-low-in-Between.low.value_type) first second c.in_err-judge_kinds-in-Between.ensures.apart))
+    (rw tree (between_low_mixed c.args.clause.now.database.now c.args.clause.now.scopes.now (place_of c.args.clause.now.place) (progress_of c.args.blocks.now.items c.args.functions.now.items) (progress_of c.value-in-Between.new.blocks.items c.value-in-Between.new.functions.items) (progress_of c.value-in-Between-2.new.blocks.items c.value-in-Between-2.new.functions.items) c.in-Between.negated (expr_of c.in-Between.operand.value) (expr_of c.in-Between.least.value) (expr_of c.in-Between.greatest.value) (value_of c.in_ok-typed-in-Between.typed.value) (value_of c.in_ok-low-in-Between.low.value) (value_type_of c.in_ok-typed-in-Between.typed.value_type) (value_type_of c.in_ok-low-in-Between.low.value_type) first second c.in_err-judge_kinds-in-Between.ensures.apart))
 
 -- src/condition.rt:98:13
 pub condition::condition-returns-in_err-judge_kinds-in-Between-2 :
     goal.condition::condition-returns-in_err-judge_kinds-in-Between-2
 condition::condition-returns-in_err-judge_kinds-in-Between-2 t c =
-    let tree = ap expr_of c.in-Between.is ∙ of_between c.in-Between.start c.in-Between.negated c.in-Between.operand c.in-Between.low c.in-Between.high in
+    let tree = ap expr_of c.in-Between.is ∙ of_between c.in-Between.start c.in-Between.negated c.in-Between.operand c.in-Between.least c.in-Between.greatest in
     let first : BindsValue c.args.clause.now.database.now c.args.clause.now.scopes.now (place_of c.args.clause.now.place) (progress_of c.args.blocks.now.items c.args.functions.now.items) (progress_of c.value-in-Between.new.blocks.items c.value-in-Between.new.functions.items) (expr_of c.in-Between.operand.value) (value_of c.in_ok-typed-in-Between.typed.value) (value_type_of c.in_ok-typed-in-Between.typed.value_type) = rw c.deref-in-Between.ensures at c.in_ok-typed-in-Between.ensures in
-    let third : BindsValue c.args.clause.now.database.now c.args.clause.now.scopes.now (place_of c.args.clause.now.place) (progress_of c.value-in-Between-2.new.blocks.items c.value-in-Between-2.new.functions.items) (progress_of c.value-in-Between-3.new.blocks.items c.value-in-Between-3.new.functions.items) (expr_of c.in-Between.high.value) (value_of c.in_ok-high-in-Between.high.value) (value_type_of c.in_ok-high-in-Between.high.value_type) = rw c.deref-in-Between-3.ensures at c.in_ok-high-in-Between.ensures in
+    let third : BindsValue c.args.clause.now.database.now c.args.clause.now.scopes.now (place_of c.args.clause.now.place) (progress_of c.value-in-Between-2.new.blocks.items c.value-in-Between-2.new.functions.items) (progress_of c.value-in-Between-3.new.blocks.items c.value-in-Between-3.new.functions.items) (expr_of c.in-Between.greatest.value) (value_of c.in_ok-high-in-Between.high.value) (value_type_of c.in_ok-high-in-Between.high.value_type) = rw c.deref-in-Between-3.ensures at c.in_ok-high-in-Between.ensures in
     let q = c.in_err-judge_kinds-in-Between-2.field-0.0 in
     condition_refused c.args.clause.now (progress_of c.args.blocks.now.items c.args.functions.now.items) _ _ _ q MixedKinds (is_refused _ q c.from_residual-in_err-judge_kinds-in-Between-2.ensures) c.in_err-judge_kinds-in-Between-2.ensures.refused
-    (rw tree (between_high_mixed c.args.clause.now.database.now c.args.clause.now.scopes.now (place_of c.args.clause.now.place) (progress_of c.args.blocks.now.items c.args.functions.now.items) (progress_of c.value-in-Between.new.blocks.items c.value-in-Between.new.functions.items) (progress_of c.value-in-Between-2.new.blocks.items c.value-in-Between-2.new.functions.items) (progress_of c.value-in-Between-3.new.blocks.items c.value-in-Between-3.new.functions.items) c.in-Between.negated (expr_of c.in-Between.operand.value) (expr_of c.in-Between.low.value) (expr_of c.in-Between.high.value) (value_of c.in_ok-typed-in-Between.typed.value) (value_of c.in_ok-high-in-Between.high.value) (value_type_of c.in_ok-typed-in-Between.typed.value_type) (value_type_of c.in_ok-high-in-Between.high.value_type) first third c.in_err-judge_kinds-in-Between-2.ensures.apart))
+    (rw tree (between_high_mixed c.args.clause.now.database.now c.args.clause.now.scopes.now (place_of c.args.clause.now.place) (progress_of c.args.blocks.now.items c.args.functions.now.items) (progress_of c.value-in-Between.new.blocks.items c.value-in-Between.new.functions.items) (progress_of c.value-in-Between-2.new.blocks.items c.value-in-Between-2.new.functions.items) (progress_of c.value-in-Between-3.new.blocks.items c.value-in-Between-3.new.functions.items) c.in-Between.negated (expr_of c.in-Between.operand.value) (expr_of c.in-Between.least.value) (expr_of c.in-Between.greatest.value) (value_of c.in_ok-typed-in-Between.typed.value) (value_of c.in_ok-high-in-Between.high.value) (value_type_of c.in_ok-typed-in-Between.typed.value_type) (value_type_of c.in_ok-high-in-Between.high.value_type) first third c.in_err-judge_kinds-in-Between-2.ensures.apart))
 
 -- src/condition.rt:112:25
 pub condition::condition-returns-in_err-typed-in-Like :
@@ -540,11 +540,11 @@ condition::condition-returns-in_ok-new-in-Not t c =
 pub condition::condition-returns-in_ok-judge_kinds-in-Compare :
     goal.condition::condition-returns-in_ok-judge_kinds-in-Compare
 condition::condition-returns-in_ok-judge_kinds-in-Compare t c =
-    let tree = ap expr_of c.in-Compare.is ∙ of_compare c.in-Compare.start c.in-Compare.op c.in-Compare.left c.in-Compare.right in
+    let tree = ap expr_of c.in-Compare.is ∙ of_compare c.in-Compare.start c.in-Compare.op c.in-Compare.left c.in-Compare.other in
     let first : BindsValue c.args.clause.now.database.now c.args.clause.now.scopes.now (place_of c.args.clause.now.place) (progress_of c.args.blocks.now.items c.args.functions.now.items) (progress_of c.value.new.blocks.items c.value.new.functions.items) (expr_of c.in-Compare.left.value) (value_of c.in_ok-left-in-Compare.left.value) (value_type_of c.in_ok-left-in-Compare.left.value_type) = rw c.deref-in-Compare.ensures at c.in_ok-left-in-Compare.ensures in
-    let second : BindsValue c.args.clause.now.database.now c.args.clause.now.scopes.now (place_of c.args.clause.now.place) (progress_of c.value.new.blocks.items c.value.new.functions.items) (progress_of c.value-in-Compare.new.blocks.items c.value-in-Compare.new.functions.items) (expr_of c.in-Compare.right.value) (value_of c.in_ok-right-in-Compare.right.value) (value_type_of c.in_ok-right-in-Compare.right.value_type) = rw c.deref-in-Compare-2.ensures at c.in_ok-right-in-Compare.ensures in
+    let second : BindsValue c.args.clause.now.database.now c.args.clause.now.scopes.now (place_of c.args.clause.now.place) (progress_of c.value.new.blocks.items c.value.new.functions.items) (progress_of c.value-in-Compare.new.blocks.items c.value-in-Compare.new.functions.items) (expr_of c.in-Compare.other.value) (value_of c.in_ok-right-in-Compare.right.value) (value_type_of c.in_ok-right-in-Compare.right.value_type) = rw c.deref-in-Compare-2.ensures at c.in_ok-right-in-Compare.ensures in
     rw (tree, bound_compare c.in-Compare.op c.in_ok-left-in-Compare.left.value c.in_ok-right-in-Compare.right.value)
-    (binds_compare c.args.clause.now.database.now c.args.clause.now.scopes.now (place_of c.args.clause.now.place) (progress_of c.args.blocks.now.items c.args.functions.now.items) (progress_of c.value.new.blocks.items c.value.new.functions.items) (progress_of c.value-in-Compare.new.blocks.items c.value-in-Compare.new.functions.items) (op_of c.in-Compare.op) (expr_of c.in-Compare.left.value) (expr_of c.in-Compare.right.value) _ _ _ _ first second c.in_ok-judge_kinds-in-Compare.ensures.alike)
+    (binds_compare c.args.clause.now.database.now c.args.clause.now.scopes.now (place_of c.args.clause.now.place) (progress_of c.args.blocks.now.items c.args.functions.now.items) (progress_of c.value.new.blocks.items c.value.new.functions.items) (progress_of c.value-in-Compare.new.blocks.items c.value-in-Compare.new.functions.items) (op_of c.in-Compare.op) (expr_of c.in-Compare.left.value) (expr_of c.in-Compare.other.value) _ _ _ _ first second c.in_ok-judge_kinds-in-Compare.ensures.alike)
 
 -- src/condition.rt:25:1
 pub condition::condition-returns-in_ok-judge_kinds-in-CompareAll :
@@ -568,12 +568,12 @@ condition::condition-returns-in_ok-typed-in-IsNull t c =
 pub condition::condition-returns-in_ok-judge_kinds-in-Between-2 :
     goal.condition::condition-returns-in_ok-judge_kinds-in-Between-2
 condition::condition-returns-in_ok-judge_kinds-in-Between-2 t c =
-    let tree = ap expr_of c.in-Between.is ∙ of_between c.in-Between.start c.in-Between.negated c.in-Between.operand c.in-Between.low c.in-Between.high in
+    let tree = ap expr_of c.in-Between.is ∙ of_between c.in-Between.start c.in-Between.negated c.in-Between.operand c.in-Between.least c.in-Between.greatest in
     let first : BindsValue c.args.clause.now.database.now c.args.clause.now.scopes.now (place_of c.args.clause.now.place) (progress_of c.args.blocks.now.items c.args.functions.now.items) (progress_of c.value-in-Between.new.blocks.items c.value-in-Between.new.functions.items) (expr_of c.in-Between.operand.value) (value_of c.in_ok-typed-in-Between.typed.value) (value_type_of c.in_ok-typed-in-Between.typed.value_type) = rw c.deref-in-Between.ensures at c.in_ok-typed-in-Between.ensures in
-    let second : BindsValue c.args.clause.now.database.now c.args.clause.now.scopes.now (place_of c.args.clause.now.place) (progress_of c.value-in-Between.new.blocks.items c.value-in-Between.new.functions.items) (progress_of c.value-in-Between-2.new.blocks.items c.value-in-Between-2.new.functions.items) (expr_of c.in-Between.low.value) (value_of c.in_ok-low-in-Between.low.value) (value_type_of c.in_ok-low-in-Between.low.value_type) = rw c.deref-in-Between-2.ensures at c.in_ok-low-in-Between.ensures in
-    let third : BindsValue c.args.clause.now.database.now c.args.clause.now.scopes.now (place_of c.args.clause.now.place) (progress_of c.value-in-Between-2.new.blocks.items c.value-in-Between-2.new.functions.items) (progress_of c.value-in-Between-3.new.blocks.items c.value-in-Between-3.new.functions.items) (expr_of c.in-Between.high.value) (value_of c.in_ok-high-in-Between.high.value) (value_type_of c.in_ok-high-in-Between.high.value_type) = rw c.deref-in-Between-3.ensures at c.in_ok-high-in-Between.ensures in
+    let second : BindsValue c.args.clause.now.database.now c.args.clause.now.scopes.now (place_of c.args.clause.now.place) (progress_of c.value-in-Between.new.blocks.items c.value-in-Between.new.functions.items) (progress_of c.value-in-Between-2.new.blocks.items c.value-in-Between-2.new.functions.items) (expr_of c.in-Between.least.value) (value_of c.in_ok-low-in-Between.low.value) (value_type_of c.in_ok-low-in-Between.low.value_type) = rw c.deref-in-Between-2.ensures at c.in_ok-low-in-Between.ensures in
+    let third : BindsValue c.args.clause.now.database.now c.args.clause.now.scopes.now (place_of c.args.clause.now.place) (progress_of c.value-in-Between-2.new.blocks.items c.value-in-Between-2.new.functions.items) (progress_of c.value-in-Between-3.new.blocks.items c.value-in-Between-3.new.functions.items) (expr_of c.in-Between.greatest.value) (value_of c.in_ok-high-in-Between.high.value) (value_type_of c.in_ok-high-in-Between.high.value_type) = rw c.deref-in-Between-3.ensures at c.in_ok-high-in-Between.ensures in
     rw (tree, bound_between c.in-Between.negated c.in_ok-typed-in-Between.typed.value c.in_ok-low-in-Between.low.value c.in_ok-high-in-Between.high.value)
-    (binds_between c.args.clause.now.database.now c.args.clause.now.scopes.now (place_of c.args.clause.now.place) (progress_of c.args.blocks.now.items c.args.functions.now.items) (progress_of c.value-in-Between.new.blocks.items c.value-in-Between.new.functions.items) (progress_of c.value-in-Between-2.new.blocks.items c.value-in-Between-2.new.functions.items) (progress_of c.value-in-Between-3.new.blocks.items c.value-in-Between-3.new.functions.items) c.in-Between.negated (expr_of c.in-Between.operand.value) (expr_of c.in-Between.low.value) (expr_of c.in-Between.high.value) (value_of c.in_ok-typed-in-Between.typed.value) (value_of c.in_ok-low-in-Between.low.value) (value_of c.in_ok-high-in-Between.high.value) (value_type_of c.in_ok-typed-in-Between.typed.value_type) (value_type_of c.in_ok-low-in-Between.low.value_type) (value_type_of c.in_ok-high-in-Between.high.value_type) first second third c.in_ok-judge_kinds-in-Between.ensures.alike c.in_ok-judge_kinds-in-Between-2.ensures.alike)
+    (binds_between c.args.clause.now.database.now c.args.clause.now.scopes.now (place_of c.args.clause.now.place) (progress_of c.args.blocks.now.items c.args.functions.now.items) (progress_of c.value-in-Between.new.blocks.items c.value-in-Between.new.functions.items) (progress_of c.value-in-Between-2.new.blocks.items c.value-in-Between-2.new.functions.items) (progress_of c.value-in-Between-3.new.blocks.items c.value-in-Between-3.new.functions.items) c.in-Between.negated (expr_of c.in-Between.operand.value) (expr_of c.in-Between.least.value) (expr_of c.in-Between.greatest.value) (value_of c.in_ok-typed-in-Between.typed.value) (value_of c.in_ok-low-in-Between.low.value) (value_of c.in_ok-high-in-Between.high.value) (value_type_of c.in_ok-typed-in-Between.typed.value_type) (value_type_of c.in_ok-low-in-Between.low.value_type) (value_type_of c.in_ok-high-in-Between.high.value_type) first second third c.in_ok-judge_kinds-in-Between.ensures.alike c.in_ok-judge_kinds-in-Between-2.ensures.alike)
 
 -- src/condition.rt:25:1
 pub condition::condition-returns-in_ok-from_str-in-Like :

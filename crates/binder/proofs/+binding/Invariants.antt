@@ -1,9 +1,7 @@
-use Rattle.std.proofs.Common.{◌≤◌, length, map, ◌≡◌, ℕ, ◌+◌, ◌-◌, ◌*◌, ◌<◌, drop, take, ◌++◌, List}
-use Rattle.definitions.specs.Limits.{most_blocks}
-use Rattle.bound.specs.Bound.{block_of, operand_of as bound_operand_of, item_of, value_type_of, condition_of as bound_condition_of, member_of as bound_member_of}
-use Rattle.trees.specs.Trees.{block_of as query_of, operand_of, item_of as listed_item_of, member_of}
-use Rattle.binder.specs.Leaves.{InSight}
-use Rattle.binder.specs.Meaning.{BlockAnswer, place_of, progress_of}
+use Rattle.std.proofs.Common.{length, map, ◌≡◌, drop, take, ◌++◌, List}
+use Rattle.bound.specs.Bound.{operand_of as bound_operand_of, item_of, value_type_of, condition_of as bound_condition_of, member_of as bound_member_of}
+use Rattle.trees.specs.Trees.{operand_of, item_of as listed_item_of, member_of}
+use Rattle.binder.specs.Meaning.{place_of, progress_of}
 use Rattle.definitions.specs.Grammar.{operands, items, members}
 use Rattle.binder.proofs.Lines.{OperandsLeft, PartsLeft}
 use Rattle.std.specs.Prelude.{option_map}

@@ -100,10 +100,16 @@ pub data AreFormed (db : Database) (blocks : Blocks) : Blocks → ℕ → Type 0
   formed : (around : Blocks) (n : ℕ) (b : Block) → slice_get blocks n ≡ Some b → IsFormedBlock db blocks around n b
       → ((k : ℕ) → Contains (blocks_of_option b.condition) k → AreFormed db blocks (b ∷ around) k) → AreFormed db blocks around n
 
--- literals as they can be written: the lexer gives no others (a numeral's units have no more digits than it says; characters are printable)
+-- literals as they can be written (ISO/IEC 9075:1992, 5.3): a numeral's units have no more digits than it says, and the characters of a string are printable
+abbrev pub IsWrittenNumeral : (units digits : ℕ) → Type 0
+IsWrittenNumeral units digits = (units < 10 ^ digits) × (digits ≤ most_digits)
+
+abbrev pub IsWrittenString : List ℕ → Type 0
+IsWrittenString codes = (length codes ≤ most_string_characters) × AllByRecursion (λ c. IsTrue (is_printable c)) codes
+
 abbrev pub IsWritten : Expr → Type 0
-IsWritten (t.Numeral units digits scale) = (units < 10 ^ digits) × (digits ≤ most_digits)
-IsWritten (t.String codes) = (length codes ≤ most_string_characters) × AllByRecursion (λ c. IsTrue (is_printable c)) codes
+IsWritten (t.Numeral units digits scale) = IsWrittenNumeral units digits
+IsWritten (t.String codes) = IsWrittenString codes
 IsWritten _ = ⊤
 
 abbrev pub AreWritten : Database → Select → Type 0

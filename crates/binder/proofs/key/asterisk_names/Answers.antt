@@ -1,4 +1,4 @@
-use Rattle.std.proofs.Common.{◌≡◌, ◌∙◌, refl, sym, ap, ◌<◌, ◌≤◌, ◌+◌, ◌∷◌, ◌++◌, [], Some, None, length, map, drop, take, true, false, arith, Bor}
+use Rattle.std.proofs.Common.{◌∙◌, ap, Some, map}
 use Rattle.bound.specs.Bound.{item_of}
 use Rattle.bound.specs.declared.block.Item.{Item}
 use Rattle.binder.specs.Keys.{header_of, known_name}

@@ -2,7 +2,7 @@ use Rattle.std.proofs.Common.{map}
 use Rattle.bound.specs.Bound.{item_of}
 use Rattle.trees.specs.Trees.{list_of, key_of as tree_key_of}
 use Rattle.binder.specs.Keys.{names_by}
-use Rattle.std.proofs.Common.{◌≡◌, ◌∙◌, refl, sym, ap, ◌<◌, ◌≤◌, ◌+◌, ◌∷◌, ◌++◌, [], Some, None, length, map, drop, take, true, false, arith, Bor}
+use Rattle.std.proofs.Common.{map}
 use Rattle.binder.proofs.Keys.{refused_order}
 use Rattle.binder.proofs.key.bound_order.Goals as goal
 

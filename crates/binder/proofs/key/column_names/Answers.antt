@@ -1,4 +1,4 @@
-use Rattle.std.proofs.Common.{◌≡◌, ◌∙◌, refl, sym, ap, map}
+use Rattle.std.proofs.Common.{◌∙◌, ap, map}
 use Rattle.trees.specs.Trees.{list_of, item_of}
 use Rattle.trees.proofs.Views.{of_items}
 use Rattle.binder.proofs.Keys.{listed_items}

@@ -1,4 +1,3 @@
-use Rattle.std.proofs.Common.{◌≡◌, ◌∙◌, refl, sym, ap, ◌<◌, ◌≤◌, ◌+◌, ◌∷◌, ◌++◌, [], Some, None, length, map, drop, take, true, false, arith, Bor}
 use Rattle.binder.proofs.Keys.{if_one}
 use Rattle.binder.proofs.key.item_of_key.Goals as goal
 

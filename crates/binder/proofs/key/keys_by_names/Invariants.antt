@@ -1,4 +1,4 @@
-use Rattle.std.proofs.Common.{◌≡◌, ◌∙◌, refl, sym, ap, ◌<◌, ◌≤◌, ◌+◌, ◌∷◌, ◌++◌, [], Some, None, length, map, drop, take, true, false, arith, Bor}
+use Rattle.std.proofs.Common.{map, drop}
 use Rattle.bound.specs.Bound.{key_of}
 use Rattle.trees.specs.Trees.{key_of as tree_key_of}
 use Rattle.binder.specs.Keys.{known_names}

@@ -1,4 +1,4 @@
-use Rattle.std.proofs.Common.{◌≡◌, ◌∙◌, refl, sym, ap, ◌<◌, ◌≤◌, ◌+◌, ◌∷◌, ◌++◌, [], Some, None, length, map, drop, take, true, false, arith, Bor}
+use Rattle.std.proofs.Common.{◌≡◌, map, take}
 use Rattle.trees.specs.Trees.{item_of}
 use Rattle.trees.specs.declared.expr.Item.{Item as TreeItem}
 use Rattle.definitions.specs.Binding.BoundForm.{result_name}

@@ -1,4 +1,4 @@
-use Rattle.std.proofs.Common.{◌≡◌, ◌∙◌, refl, sym, ap, ◌<◌, ◌≤◌, ◌+◌, ◌∷◌, ◌++◌, [], Some, None, length, map, drop, get_or, take, true, false, arith, Bor}
+use Rattle.std.proofs.Common.{◌∙◌, sym, ◌+◌, ◌∷◌, None, map, drop, get_or}
 use Rattle.definitions.specs.Binding.BoundForm.{has_name}
 use Rattle.binder.specs.Keys.{known_name, known_names}
 use Rattle.binder.proofs.Keys.{OnlySoFar, begin_names, skip_name, second_name, not_yet, next_names, same_place, no_names, end_some, end_one, end_none}

@@ -1,4 +1,4 @@
-use Rattle.std.proofs.Common.{◌≡◌, ◌∙◌, refl, sym, ap, ◌<◌, ◌≤◌, ◌+◌, ◌∷◌, ◌++◌, [], Some, None, length, map, drop, take, true, false, arith, Bor}
+use Rattle.std.proofs.Common.{map, drop}
 use Rattle.definitions.specs.Binding.BoundForm.{has_name}
 use Rattle.binder.specs.Keys.{known_name, known_names}
 use Rattle.binder.proofs.Keys.{OnlySoFar}

@@ -1,9 +1,9 @@
-use Rattle.std.proofs.Common.{rules, ◌≡◌, ◌∙◌, refl, sym, ap, ap₂, subst, ◌≤◌, ◌++◌, [], ◌∷◌, length, map, arith, slice_index_or}
+use Rattle.std.proofs.Common.{rules, ◌≡◌, ◌∙◌, sym, ap, ap₂, subst, ◌≤◌, [], length, map}
 use Rattle.std.specs.Prelude.{IfSome}
 use Rattle.std.specs.Option.{option_map}
 use Rattle.definitions.specs.Limits.{most_keys}
 use Rattle.definitions.specs.Binding.Formed.{AreFormed}
-use Rattle.definitions.specs.Binding.Faults.{Faulty, list_of as spec_list_of}
+use Rattle.definitions.specs.Binding.Faults.{list_of as spec_list_of}
 use Rattle.definitions.proofs.BindingTheory.AcceptedQueries.{accepted_queries_are_formed}
 use Rattle.bound.specs.Bound.{block_of, item_of, key_of, value_type_of}
 use Rattle.trees.specs.Trees.{block_of as query_of, key_of as tree_key_of, list_of, select_of}

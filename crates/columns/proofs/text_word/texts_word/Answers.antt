@@ -1,6 +1,6 @@
 use Rattle.std.proofs.Common.{refl, arith, ◌≡◌, ◌<◌}
 use Rattle.definitions.specs.Value.{text_cmp}
-use Rattle.definitions.specs.Answer.{agrees}
+use Rattle.definitions.specs.Truth.{agrees}
 use Rattle.sqlvalue.specs.Meaning.{op_of}
 use Rattle.columns.proofs.TextOrders.{row_text_is, row_met, row_more, row_fits}
 use Rattle.columns.proofs.text_word.texts_word.Goals as goal

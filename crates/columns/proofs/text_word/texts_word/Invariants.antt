@@ -1,6 +1,6 @@
 use Rattle.std.proofs.Common.{◌≡◌, map}
 use Rattle.definitions.specs.Value.{text_cmp}
-use Rattle.definitions.specs.Answer.{agrees}
+use Rattle.definitions.specs.Truth.{agrees}
 use Rattle.definitions.specs.Scanning.{word_of}
 use Rattle.sqlvalue.specs.Meaning.{op_of}
 use Rattle.columns.specs.TextRows.{texts_in}

@@ -1,6 +1,6 @@
 use Rattle.std.proofs.Common.{◌≡◌, ◌++◌, false}
 use Rattle.std.specs.Prelude.{string_bytes}
-use Rattle.lexer.specs.Meaning.{unquoted}
+use Rattle.lexer.specs.Quoted.{unquoted}
 use Rattle.cursor.proofs.text.undoubled.Given as goal
 
 -- what is read, and what the rest reads as, is the whole

@@ -1,6 +1,6 @@
 use Rattle.std.proofs.Common.{◌≡◌, ◌≤◌, ◌+◌, drop, false}
 use Rattle.definitions.specs.Characters.{character_count}
-use Rattle.lexer.specs.Meaning.{unquoted}
+use Rattle.lexer.specs.Quoted.{unquoted}
 use Rattle.lexer.proofs.kind.character_count.Given as goal
 
 abbrev pub invariant-loop-byte : goal.invariant-loop-byte

@@ -67,3 +67,13 @@ pub returns-clause-tokens : goal.returns-clause-tokens
 returns-clause-tokens c =
     let P : List ℕ → Type 0 = λ xs. Reads xs (Ok (tokens_of c.loop-start.tokens.items)) in
     subst P c.as_bytes-bytes.ensures.value (reads_to_end c.as_bytes-bytes.result.now c.loop-start.start _ c.loop-start.invariant.reads c.loop-start-test.false)
+
+pub invariant_of-push : goal.invariant_of-push
+invariant_of-push c =
+    let within = rw c.in-Some.is at c.in_ok-kind.ensures.within in
+    let characters = rw c.in-Some.is at c.in_ok-kind.ensures.characters in
+    let text = c.range-text.ensures.value ∙ ap (λ xs. take (c.loop-start.start + c.first_lexeme-first.result.length - c.loop-start.start) (drop c.loop-start.start xs)) (sym c.as_bytes-bytes.ensures.value) in
+    record {
+      within = λ is. rw text (within is);
+      characters = λ is. rw text (characters is);
+    }

@@ -1,6 +1,6 @@
 use Rattle.std.proofs.Common.{◌∙◌, sym, ap, arith}
 use Rattle.definitions.specs.Value.{number_cmp}
-use Rattle.definitions.specs.Answer.{agrees}
+use Rattle.definitions.specs.Truth.{agrees}
 use Rattle.sqlvalue.specs.Meaning.{op_of}
 use Rattle.columns.specs.Ranges.{is_in}
 use Rattle.columns.proofs.Scans.{number_rows, others_of_part, scanned_numbers, unlike_numbers, unlike_number, part_by_ends}

@@ -1,6 +1,5 @@
 use Rattle.std.proofs.Common.{arith}
-use Rattle.sqlr.proofs.Elements.{next}
-use Rattle.sqlr.proofs.Running.{one_more, broke_undone, broke_done, memory_apart, library_apart}
+use Rattle.sqlr.proofs.Running.{next, one_more, broke_undone, broke_done, memory_apart, library_apart}
 use Rattle.sqlr.proofs.session.Session.run_statements.Goals as goal
 
 pub returns-in-Err-Memory-clause-breaks : goal.returns-in-Err-Memory-clause-breaks

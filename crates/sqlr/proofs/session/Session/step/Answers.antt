@@ -1,13 +1,8 @@
 use Rattle.std.proofs.Common.{refl, sym}
-use Rattle.std.proofs.lemmas.Bool.Decides.{not_from_Decides}
 use Rattle.definitions.specs.Faults as faults
 use Rattle.sqlr.proofs.Changing.{database_changed}
-use Rattle.sqlr.proofs.Taking.{refusal_told}
+use Rattle.sqlr.proofs.Taking.{query_taken, refusal_told}
 use Rattle.sqlr.proofs.session.Session.step.Goals as goal
-
-pub returns-then-not-can_run-clause-takes : goal.returns-then-not-can_run-clause-takes
-returns-then-not-can_run-clause-takes g c =
-    rw (sym c.self.view_is) (refusal_told _ (record { library = c.self.inside.library; database = c.self.inside.database }) _ _ _ _ (faults.not_yet _ (not_from_Decides c.can_run.result c.can_run.ensures c.if-not-can_run.true)) refl c.refused.ensures.text c.refused.ensures.ended)
 
 pub returns-in-CreateTable-clause-takes : goal.returns-in-CreateTable-clause-takes
 returns-in-CreateTable-clause-takes g c =
@@ -24,3 +19,10 @@ returns-in-SetTable-clause-takes g c =
 pub returns-in-SetIndex-clause-takes : goal.returns-in-SetIndex-clause-takes
 returns-in-SetIndex-clause-takes g c =
     rw (sym c.self.view_is, c.in-SetIndex.is) (database_changed _ c.self.inside.library c.self.inside.database _ _ c.set_index.result (rw c.deref-in-SetIndex.ensures.value at c.set_index.ensures.changes))
+
+pub returns-in-Query-clause-takes : goal.returns-in-Query-clause-takes
+returns-in-Query-clause-takes g c = rw (sym c.self.view_is, c.in-Query.is) (query_taken _ (record { library = c.self.inside.library; database = c.self.inside.database }) _ c.select.result c.select.ensures.answers)
+
+pub returns-in-Explain-clause-takes : goal.returns-in-Explain-clause-takes
+returns-in-Explain-clause-takes g c =
+    rw (sym c.self.view_is, c.in-Explain.is) (refusal_told _ (record { library = c.self.inside.library; database = c.self.inside.database }) _ _ _ _ (faults.explained _) refl c.refused.ensures.text c.refused.ensures.ended)
