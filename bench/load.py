@@ -19,13 +19,22 @@ KEYED = "CREATE TABLE T " + COLUMNS.format(key=" NOT NULL PRIMARY KEY") + "CREAT
 TABLES = {"plain": (PLAIN, PLAIN), "keyed": (KEYED.format(name=""), KEYED.format(name="SC "))}
 
 
-def write_records(path, count):
+def states(count):
+    """So many numbers by a fixed rule, with their places."""
     state = 1
+    for i in range(count):
+        state = (state * 48271) % 2147483647
+        yield i, state
+
+
+def letters(state, many):
+    return "".join(chr(97 + (state >> 2 * place) % 26) for place in range(many))
+
+
+def write_records(path, count):
     with open(path, "w", encoding="ascii", newline="") as out:
-        for i in range(count):
-            state = (state * 48271) % 2147483647
-            text = "".join(chr(97 + (state >> shift) % 26) for shift in range(0, 20, 2))
-            out.write(f"{i * 7},{state % 9999999}.{state % 100:02},{text},{state % 32768 - 16384}\n")
+        for i, state in states(count):
+            out.write(f"{i * 7},{state % 9999999}.{state % 100:02},{letters(state, 10)},{state % 32768 - 16384}\n")
 
 
 def once(command, folder, **options):

@@ -40,12 +40,10 @@ class Question:
 
 def write_numbered_texts(path, count):
     """Records of a number that goes up, two numbers below 1,000, and nine letters with a digit behind them."""
-    state = 1
     with open(path, "w", encoding="ascii", newline="") as out:
-        for i in range(count):
-            state = (state * 48271) % 2147483647
-            letters = "".join(chr(97 + (state >> shift) % 26) for shift in range(0, 18, 2))
-            out.write(f"{i},{state % 1999 - 999},{state // 1999 % 1999 - 999},{letters}{state // 7 % 10}\n")
+        for i, state in load.states(count):
+            text = f"{load.letters(state, 9)}{state // 7 % 10}"
+            out.write(f"{i},{state % 1999 - 999},{state // 1999 % 1999 - 999},{text}\n")
 
 
 QUESTIONS = {
