@@ -18,4 +18,5 @@ mod Runs
 pub mod PlanTheory
 pub mod QueryTheory
 pub mod BindingTheory
+pub mod EstimateTheory
 pub mod WrittenParts
