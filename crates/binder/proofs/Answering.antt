@@ -19,14 +19,15 @@ use Rattle.definitions.specs.Binding.Scopes.{Scopes}
 use Rattle.bound.specs.Bound.{block_of, bound_function_of, value_of, value_type_of}
 use Rattle.bound.specs.declared.block.Block.{Block}
 use Rattle.bound.specs.declared.block.BoundFunction.{BoundFunction}
-use Rattle.binder.specs.declared.fault.QueryFault.{QueryFault}
-use Rattle.binder.specs.declared.fault.BindFault.{BindFault}
-use Rattle.binder.specs.declared.fault.BindFault.TheVariants as f
-use Rattle.binder.specs.declared.clause.Clause.{Clause}
-use Rattle.binder.specs.declared.leaf.Typed.{Typed}
-use Rattle.binder.specs.Judging.{Place, PartFaulty, Progress, RefusesValue, RefusesCondition, RefusesMembers, RefusesQuery, RefusesColumn}
-use Rattle.binder.specs.Leaves.{BindsLeaf}
-use Rattle.binder.specs.Meaning.{bind_refusal, query_refusal, place_of, ValueAnswer, ConditionAnswer, MembersAnswer, QueryAnswer, ColumnAnswer}
+use Rattle.query_rules.specs.declared.fault.QueryFault.{QueryFault}
+use Rattle.query_rules.specs.declared.fault.BindFault.{BindFault}
+use Rattle.query_rules.specs.declared.fault.BindFault.TheVariants as f
+use Rattle.query_rules.specs.declared.clause.Clause.{Clause}
+use Rattle.query_rules.specs.declared.leaf.Typed.{Typed}
+use Rattle.query_rules.specs.Judging.{Place, PartFaulty, Progress, RefusesValue, RefusesCondition, RefusesMembers, RefusesQuery, RefusesColumn}
+use Rattle.query_rules.specs.Leaves.{BindsLeaf}
+use Rattle.query_rules.specs.Meaning.{bind_refusal, query_refusal, place_of}
+use Rattle.binder.specs.Meaning.{ValueAnswer, ConditionAnswer, MembersAnswer, QueryAnswer, ColumnAnswer}
 use Rattle.std.specs.Global.{Vec, Box}
 use Rattle.std.specs.Prelude.{Bool, true, false}
 use Rattle.definitions.specs.ValueType.{TextType}
@@ -47,12 +48,9 @@ use Rattle.bound.specs.Bound.{condition_of, member_of, value_type_of}
 use Rattle.bound.specs.declared.condition.Condition.{Condition}
 use Rattle.bound.specs.declared.value.ValueExpr.{ValueExpr as BoundValue}
 use Rattle.bound.specs.declared.leaf.ValueType.{ValueType as BoundType}
+use Rattle.query_rules.proofs.Refused.{if_some}
 use Rattle.binder.proofs.Bundles.{fault_here}
 use Rattle.binder.proofs.Nodes.{binds_column}
-
-pub if_some : (o : Option Refusal) (P Q : Refusal → Type 0) → ((r : Refusal) → P r → Q r) → IfSome o P → IfSome o Q
-if_some None P Q h x = tt
-if_some (Some r) P Q h x = h r x
 
 pub is_refused : {X : Type 0} (result : Result X BindFault) (q : QueryFault) → IsErr result × IsErrAnd result (λ e. e ≡ f.Refused q) → result ≡ Err (f.Refused q)
 is_refused (Err e) q h = ap Err h.1

@@ -19,16 +19,18 @@ use Rattle.trees.specs.Trees.{block_of, column_of, source_of}
 use Rattle.trees.specs.declared.expr.Block.{Block}
 use Rattle.trees.proofs.Views.{of_block}
 use Rattle.binder.specs.declared.block.Clauses.{Clauses}
-use Rattle.binder.specs.declared.clause.Clause.{Clause}
-use Rattle.binder.specs.declared.fault.BindFault.{BindFault}
-use Rattle.binder.specs.declared.fault.BindFault.TheVariants as f
-use Rattle.binder.specs.declared.fault.QueryFault.{QueryFault}
+use Rattle.query_rules.specs.declared.clause.Clause.{Clause}
+use Rattle.query_rules.specs.declared.fault.BindFault.{BindFault}
+use Rattle.query_rules.specs.declared.fault.BindFault.TheVariants as f
+use Rattle.query_rules.specs.declared.fault.QueryFault.{QueryFault}
 use Rattle.binder.specs.declared.items.ResultColumns.{ResultColumns}
-use Rattle.binder.specs.Judging.{Place, Progress, RefusesBlock}
-use Rattle.binder.specs.Blocks.{OptionAnswer, ListAnswer, RefusesList, RefusesOption, SomeNotOwn}
+use Rattle.query_rules.specs.Judging.{Place, Progress, RefusesBlock}
+use Rattle.binder.specs.Blocks.{OptionAnswer, ListAnswer, RefusesList, RefusesOption}
+use Rattle.query_rules.specs.Groups.{SomeNotOwn}
 use Rattle.binder.specs.Clauses.{ClausesAnswer, RefusesClauses}
-use Rattle.binder.specs.Meaning.{bind_refusal, query_refusal, place_of, BlockAnswer}
-use Rattle.binder.proofs.Answering.{if_some}
+use Rattle.query_rules.specs.Meaning.{bind_refusal, query_refusal, place_of}
+use Rattle.binder.specs.Meaning.{BlockAnswer}
+use Rattle.query_rules.proofs.Refused.{if_some}
 
 pub option_err : (c : Clause) (old new : Progress) (condition : t.Condition) (result : Result (Option Condition) BindFault) (fault : BindFault) → result ≡ Err fault
     → IfSome (bind_refusal fault) (RefusesOption c.database.now c.scopes.now (place_of c.place) old condition) → OptionAnswer c old new condition result

@@ -14,8 +14,8 @@ use Rattle.definitions.specs.Binding.Parts.{PlacedBlock, is_function, item_value
 use Rattle.definitions.specs.Binding.BoundForm.{own_column}
 use Rattle.definitions.specs.Binding.Faults as fault
 use Rattle.definitions.specs.Binding.Faults.{IsTooFine, NamesNoColumn, MixesKinds, takes_right, is_condition, HasManyMembers, IsOuterColumn, IsNotOwn, IsUngrouped, IsGrouped, argument_parts, where_parts, shown_parts, all_argument_parts, all_parts, conjunct_count, item_count, BlockFaulty}
-use Rattle.binder.specs.Judging as judged
-use Rattle.binder.specs.Judging.{Place, InWhere, InShown, InArgument, takes_functions, IsUngroupedIn, PartFaulty, Refuses, IsClean}
+use Rattle.query_rules.specs.Judging as judged
+use Rattle.query_rules.specs.Judging.{Place, InWhere, InShown, InArgument, takes_functions, IsUngroupedIn, PartFaulty, Refuses, IsClean}
 use Rattle.binder.proofs.Bundles.{any_left, any_right, any_split, length_of_both}
 
 -- ---- some element

@@ -15,8 +15,10 @@ use Rattle.definitions.specs.Binding.BoundForm.{Next, after_list, after_conditio
 use Rattle.definitions.specs.Binding.Faults.{is_condition, conjunct_count, column_count, IsGrouped, shown_parts}
 use Rattle.definitions.specs.Queries.BoundBlock as b
 use Rattle.definitions.specs.Queries.BoundBlock.{Blocks, BoundFunction}
-use Rattle.binder.specs.Judging.{InWhere, IsClean, Progress, next_of, BindsBlock}
-use Rattle.binder.specs.Blocks.{IsWithinLimits, SomeNotOwn, own_columns, shown_in, condition_parts, list_parts, list_length}
+use Rattle.query_rules.specs.Judging.{InWhere, IsClean, Progress, next_of, BindsBlock}
+use Rattle.query_rules.specs.BlockLimits.{IsWithinLimits}
+use Rattle.query_rules.specs.Groups.{SomeNotOwn, own_columns, shown_in}
+use Rattle.binder.specs.Blocks.{condition_parts, list_parts, list_length}
 use Rattle.binder.specs.Clauses.{BoundClauses, BindsClauses}
 use Rattle.binder.proofs.Bundles.{clean_both, blocks_of_both, length_of_both, functions_of_both, map_of_both}
 use Rattle.binder.proofs.BlockFaults.{IsConditionIn, HasFewConjuncts, IsJudged, accepted}

@@ -11,7 +11,7 @@ use Rattle.definitions.specs.Binding.Scopes.{Scopes}
 use Rattle.definitions.specs.Binding.Parts.{PlacedBlock, is_function}
 use Rattle.definitions.specs.Binding.BoundForm.{bound_block, bound_blocks, bound_function}
 use Rattle.definitions.specs.Binding.Faults.{argument_parts}
-use Rattle.binder.specs.Judging.{Place, InArgument, PartFaulty, Refuses, part, argument, inner, misplaced, many, IsClean, Progress, Adds}
+use Rattle.query_rules.specs.Judging.{Place, InArgument, PartFaulty, Refuses, part, argument, inner, misplaced, many, IsClean, Progress, Adds}
 
 -- ---- some element
 

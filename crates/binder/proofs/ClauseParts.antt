@@ -15,7 +15,7 @@ use Rattle.trees.specs.Trees.{block_of, condition_of}
 use Rattle.trees.specs.Trees as tree
 use Rattle.trees.specs.declared.expr.Block.{Block}
 use Rattle.trees.proofs.Views.{of_block}
-use Rattle.binder.specs.Judging.{Place, InWhere, InShown, InArgument, is_where, takes_functions, Refuses, part, argument, inner, misplaced, misplaced_function, many, Progress, Adds}
+use Rattle.query_rules.specs.Judging.{Place, InWhere, InShown, InArgument, is_where, takes_functions, Refuses, part, argument, inner, misplaced, misplaced_function, many, Progress, Adds}
 use Rattle.binder.specs.Blocks.{condition_parts, list_parts, BindsList, BindsOption, RefusesList, RefusesOption}
 use Rattle.binder.specs.Clauses.{BoundClauses, BindsClauses, RefusesClauses, in_where, in_shown, condition_for_item, value_for_condition}
 use Rattle.binder.proofs.Bundles.{any_left, any_right, fault_left, fault_right}

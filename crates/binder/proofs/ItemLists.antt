@@ -19,14 +19,14 @@ use Rattle.definitions.specs.Binding.Parts.{parts, item_values, item_blocks, blo
 use Rattle.definitions.specs.Binding.BoundForm.{after_items, bound_items, header_name, result_name, star_items}
 use Rattle.definitions.specs.Binding.Faults.{is_condition}
 use Rattle.definitions.specs.Queries.BoundBlock as b
-use Rattle.binder.specs.Judging.{Place, Refuses, Progress, next_of, Adds, BindsValue, RefusesValue, IsFine}
+use Rattle.query_rules.specs.Judging.{Place, Refuses, Progress, next_of, Adds, BindsValue, RefusesValue, IsFine}
 use Rattle.scopes.proofs.FoundColumns.{all_in, numbers, HasColumnIn}
 use Rattle.trees.specs.Trees.{expr_of, item_of, name_of}
 use Rattle.trees.specs.declared.expr.Item.{Item}
 use Rattle.trees.proofs.Views.{of_item}
-use Rattle.binder.specs.Leaves.{InSight}
+use Rattle.query_rules.specs.Leaves.{InSight}
 use Rattle.binder.specs.Blocks.{BindsList, RefusesList, IsOnly}
-use Rattle.binder.proofs.LeafParts.{has_fine}
+use Rattle.query_rules.proofs.LeafParts.{has_fine}
 use Rattle.binder.proofs.Bundles.{add_none, add_both, fault_left, fault_right, length_of_both}
 use Rattle.binder.proofs.Nodes.{next_after, blocks_after}
 

@@ -1,7 +1,4 @@
 mod Bundles
-mod FoundColumns
-mod LeafParts
-mod Operators
 mod Nodes
 mod Predicates
 mod MemberLists
@@ -10,16 +7,11 @@ mod Subqueries
 mod SetFunctions
 mod Answering
 mod BlockFaults
-mod Groups
 mod ItemLists
 mod OptionalConditions
-mod Keys
 mod BlockAnswers
 mod BoundBlocks
 mod WholeBlocks
 mod ClauseParts
-mod Grouping
-mod FunctionScan
-mod BlockLimits
 mod StarItems
 mod Queries

@@ -13,7 +13,7 @@ use Rattle.definitions.specs.Binding.Parts.{parts, member_parts, blocks_in, memb
 use Rattle.definitions.specs.Binding.BoundForm.{bound_members}
 use Rattle.definitions.specs.Binding.Faults.{is_condition, SomeMemberDiffers, members_are_values, HasManyMembers}
 use Rattle.definitions.specs.Queries.BoundBlock as b
-use Rattle.binder.specs.Judging.{Place, PartFaulty, mixed_kinds, wrong_operand, many_members, Refuses, Progress, BindsValue, BindsCondition, BindsMembers, RefusesValue, RefusesCondition, RefusesMembers}
+use Rattle.query_rules.specs.Judging.{Place, PartFaulty, mixed_kinds, wrong_operand, many_members, Refuses, Progress, BindsValue, BindsCondition, BindsMembers, RefusesValue, RefusesCondition, RefusesMembers}
 use Rattle.binder.proofs.Bundles.{add_node, add_none, add_both, fault_here, fault_behind, fault_left, fault_right}
 use Rattle.binder.proofs.Nodes.{sound, alike, unlike, next_after, blocks_after}
 

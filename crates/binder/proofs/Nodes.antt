@@ -15,8 +15,8 @@ use Rattle.definitions.specs.Binding.Parts.{PlacedBlock, is_function, parts, blo
 use Rattle.definitions.specs.Binding.BoundForm.{Next, after, bound_value, bound_function}
 use Rattle.definitions.specs.Binding.Faults.{Differ, IsTooFine, NamesNoColumn, MixesKinds, takes_right, is_condition, HasManyMembers, IsOuterColumn, argument_parts}
 use Rattle.definitions.specs.Queries.BoundBlock as b
-use Rattle.binder.specs.Judging.{Place, IsUngroupedIn, PartFaulty, too_fine, no_column, mixed_kinds, wrong_operand, many_members, misplaced_function, outer_column, ungrouped, Refuses, many, Progress, next_of, Adds, BindsValue, BindsCondition, RefusesValue, RefusesCondition}
-use Rattle.binder.specs.Leaves.{BindsLeaf}
+use Rattle.query_rules.specs.Judging.{Place, IsUngroupedIn, PartFaulty, too_fine, no_column, mixed_kinds, wrong_operand, many_members, misplaced_function, outer_column, ungrouped, Refuses, many, Progress, next_of, Adds, BindsValue, BindsCondition, RefusesValue, RefusesCondition}
+use Rattle.query_rules.specs.Leaves.{BindsLeaf}
 use Rattle.binder.proofs.Bundles.{IsSoundPart, add_node, add_none, add_both, fault_here, fault_behind, fault_left, fault_right, as_many_blocks, length_of_both}
 
 module _ (db : Database) (scopes : Scopes) (place : Place) where

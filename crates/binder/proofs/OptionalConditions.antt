@@ -9,7 +9,7 @@ use Rattle.definitions.specs.Binding.Scopes.{Scopes}
 use Rattle.definitions.specs.Binding.Parts.{parts, blocks_in}
 use Rattle.definitions.specs.Binding.Faults.{is_condition}
 use Rattle.definitions.specs.Queries.BoundBlock as b
-use Rattle.binder.specs.Judging.{Place, Progress, Adds, Refuses, BindsCondition, RefusesCondition}
+use Rattle.query_rules.specs.Judging.{Place, Progress, Adds, Refuses, BindsCondition, RefusesCondition}
 use Rattle.binder.specs.Blocks.{BindsOption, RefusesOption}
 use Rattle.binder.proofs.Bundles.{add_none}
 use Rattle.binder.proofs.Nodes.{next_after}

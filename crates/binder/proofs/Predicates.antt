@@ -13,7 +13,7 @@ use Rattle.definitions.specs.Binding.Parts.{parts, blocks_in, block_blocks}
 use Rattle.definitions.specs.Binding.BoundForm.{Next, after, bound_value, known_type}
 use Rattle.definitions.specs.Binding.Faults.{is_condition, takes_right}
 use Rattle.definitions.specs.Queries.BoundBlock as b
-use Rattle.binder.specs.Judging.{Place, PartFaulty, mixed_kinds, wrong_operand, Refuses, Progress, next_of, Adds, BindsValue, BindsCondition, BindsColumn, BindsQuery, RefusesValue, RefusesCondition, RefusesQuery, RefusesColumn}
+use Rattle.query_rules.specs.Judging.{Place, PartFaulty, mixed_kinds, wrong_operand, Refuses, Progress, next_of, Adds, BindsValue, BindsCondition, BindsColumn, BindsQuery, RefusesValue, RefusesCondition, RefusesQuery, RefusesColumn}
 use Rattle.binder.proofs.Bundles.{add_node, add_both, fault_here, fault_behind, fault_left, fault_right}
 use Rattle.binder.proofs.Nodes.{sound, of_only, taken, not_taken, alike, unlike, next_after, blocks_after}
 

@@ -19,10 +19,10 @@ use Rattle.bound.specs.declared.block.Block.{Block}
 use Rattle.bound.specs.declared.block.Key.{Key}
 use Rattle.trees.specs.Trees.{key_of as tree_key_of}
 use Rattle.trees.specs.declared.statement.Key.{Key as TreeKey}
-use Rattle.binder.specs.declared.fault.BindFault.{BindFault}
-use Rattle.binder.specs.Judging.{BindsBlock, RefusesBlock}
-use Rattle.binder.specs.Keys.{header_of, names_by, bound_keys, SomeKeyIsUnknown, RefusesOrder}
-use Rattle.binder.specs.Meaning.{bind_refusal}
+use Rattle.query_rules.specs.declared.fault.BindFault.{BindFault}
+use Rattle.query_rules.specs.Judging.{BindsBlock, RefusesBlock}
+use Rattle.query_rules.specs.Keys.{header_of, names_by, bound_keys, SomeKeyIsUnknown, RefusesOrder}
+use Rattle.query_rules.specs.Meaning.{bind_refusal}
 
 pub answer_err : {X : Type 0} (result : Result X BindFault) (f : BindFault) (P : Refusal → Type 0) → result ≡ Err f → IfSome (bind_refusal f) P → IfErr result (λ f. IfSome (bind_refusal f) P)
 answer_err result f P is h = subst (λ r. IfErr r (λ f. IfSome (bind_refusal f) P)) (sym is) h

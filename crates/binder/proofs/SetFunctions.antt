@@ -17,8 +17,8 @@ use Rattle.definitions.specs.Binding.Faults.{is_condition, takes_right, argument
 use Rattle.definitions.specs.Binding.Faults as faults
 use Rattle.definitions.specs.Queries.BoundBlock as b
 use Rattle.definitions.specs.Queries.BoundBlock.{BoundFunction}
-use Rattle.binder.specs.Judging.{Place, InWhere, InShown, InArgument, is_where, takes_functions, PartFaulty, too_fine, no_column, mixed_kinds, wrong_operand, many_members, misplaced_function, outer_column, ungrouped, part, argument, inner, misplaced, many, IsClean, Progress, BindsValue, RefusesValue, IsFine}
-use Rattle.binder.specs.Leaves.{WantsNumbers}
+use Rattle.query_rules.specs.Judging.{Place, InWhere, InShown, InArgument, is_where, takes_functions, PartFaulty, too_fine, no_column, mixed_kinds, wrong_operand, many_members, misplaced_function, outer_column, ungrouped, part, argument, inner, misplaced, many, IsClean, Progress, BindsValue, RefusesValue, IsFine}
+use Rattle.query_rules.specs.Leaves.{WantsNumbers}
 use Rattle.binder.proofs.Bundles.{any_left, fault_here}
 
 abbrev pub nothing_bound : Progress

@@ -8,10 +8,10 @@ use Rattle.definitions.specs.ValueType.{ValueType}
 use Rattle.definitions.specs.Binding.Scopes.{Scopes}
 use Rattle.definitions.specs.Binding.Parts.{block_blocks}
 use Rattle.definitions.specs.Queries.BoundBlock.{BoundFunction, Blocks}
-use Rattle.binder.specs.declared.clause.Place.{Place as ClausePlace}
-use Rattle.binder.specs.declared.clause.Place.TheVariants as p
-use Rattle.binder.specs.Judging.{Place, InWhere, is_where, Refuses, part, argument, inner, misplaced, many, Progress, BindsColumn, BindsQuery, BindsBlock, RefusesQuery, RefusesColumn, RefusesBlock, IsClean}
-use Rattle.binder.specs.Meaning.{place_of}
+use Rattle.query_rules.specs.declared.clause.Place.{Place as ClausePlace}
+use Rattle.query_rules.specs.declared.clause.Place.TheVariants as p
+use Rattle.query_rules.specs.Judging.{Place, InWhere, is_where, Refuses, part, argument, inner, misplaced, many, Progress, BindsColumn, BindsQuery, BindsBlock, RefusesQuery, RefusesColumn, RefusesBlock, IsClean}
+use Rattle.query_rules.specs.Meaning.{place_of}
 
 pub not_where : (place : ClausePlace) → (place ≡ p.Where → ⊥) → IsFalse (is_where (place_of place))
 not_where p.Where h = absurd (h refl)

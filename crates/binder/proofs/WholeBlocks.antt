@@ -17,9 +17,10 @@ use Rattle.trees.specs.declared.expr.Block.{Block}
 use Rattle.trees.proofs.Views.{of_block}
 use Rattle.bound.specs.Bound.{block_of as bound_block_of}
 use Rattle.bound.specs.declared.block.Block.{Block as BoundBlock}
-use Rattle.binder.specs.Leaves.{InSight}
-use Rattle.binder.specs.Judging.{BindsBlock, RefusesBlock}
-use Rattle.binder.specs.Blocks.{IsWithinLimits, SomeNotOwn, own_columns, shown_in}
+use Rattle.query_rules.specs.Leaves.{InSight}
+use Rattle.query_rules.specs.Judging.{BindsBlock, RefusesBlock}
+use Rattle.query_rules.specs.BlockLimits.{IsWithinLimits}
+use Rattle.query_rules.specs.Groups.{SomeNotOwn, own_columns, shown_in}
 use Rattle.binder.specs.Clauses.{BoundClauses, BindsClauses, RefusesClauses, in_where, in_shown, condition_for_item, value_for_condition}
 use Rattle.binder.proofs.BlockFaults.{where_refused, shown_refused, refused}
 use Rattle.binder.proofs.BoundBlocks.{IsReady, binds_block, within_new}

@@ -1,46 +1,24 @@
 -- What is judged of the clauses of a block, and what is bound of them.
-use Rattle.std.specs.Prelude.{ℕ, ◌<◌, ◌≤◌, ◌≡◌, ◌≢◌, ◌⊎◌, Bool, true, List, [], ◌∷◌, Option, Some, None, if◌then◌else◌, length, map, flat_map, option_map, is_some, IfSome, IsTrue, IsFalse, ◌↔◌, Result, Ok, Err}
+use Rattle.std.specs.Prelude.{ℕ, ◌≡◌, ◌⊎◌, List, [], ◌∷◌, Option, Some, None, length, map, flat_map, option_map, is_some, IfSome, IsTrue, IsFalse, ◌↔◌, Result, Ok, Err}
 use Rattle.definitions.specs.Lists.{AnyOf}
-use Rattle.definitions.specs.Limits.{most_conjuncts, most_items, most_group_columns}
 use Rattle.definitions.specs.Refusal.{Refusal, MisplacedCondition}
 use Rattle.definitions.specs.Statement as t
 use Rattle.definitions.specs.Statement.{Asterisk, Listed, listed}
 use Rattle.definitions.specs.Table.{Database}
 use Rattle.definitions.specs.ValueType.{ValueType}
-use Rattle.definitions.specs.Plans.Order.{BlockColumn}
-use Rattle.definitions.specs.Binding.Scopes.{Scopes, all_columns, own_scope, resolve}
+use Rattle.definitions.specs.Binding.Scopes.{Scopes, all_columns, own_scope}
 use Rattle.definitions.specs.Binding.Types.{list_type, expr_type}
 use Rattle.definitions.specs.Binding.Parts.{parts, item_values, condition_values, list_blocks, condition_blocks}
-use Rattle.definitions.specs.Binding.BoundForm.{after_condition, after_list, own_column, bound_option, select_items}
-use Rattle.definitions.specs.Binding.Faults.{IsNotOwn, is_condition, conjunct_count, item_count, list_of, where_of, groups_of}
+use Rattle.definitions.specs.Binding.BoundForm.{after_condition, after_list, bound_option, select_items}
+use Rattle.definitions.specs.Binding.Faults.{is_condition}
 use Rattle.definitions.specs.Queries.BoundBlock as b
 use Rattle.bound.specs.Bound.{condition_of, item_of, value_type_of}
 use Rattle.bound.specs.declared.condition.Condition.{Condition}
-use Rattle.binder.specs.declared.clause.Clause.{Clause}
-use Rattle.binder.specs.declared.fault.BindFault.{BindFault}
+use Rattle.query_rules.specs.declared.clause.Clause.{Clause}
+use Rattle.query_rules.specs.declared.fault.BindFault.{BindFault}
 use Rattle.binder.specs.declared.items.ResultColumns.{ResultColumns}
-use Rattle.binder.specs.Judging.{Place, InShown, Progress, next_of, Adds, Refuses, IsFine}
-use Rattle.binder.specs.Meaning.{bind_refusal, place_of}
-
--- ---- GROUP BY
-
-abbrev pub own_columns : Scopes → List t.ColumnReference → List BlockColumn
-own_columns scopes = map (λ reference. own_column (resolve scopes reference))
-
-abbrev pub SomeNotOwn : Database → Scopes → List t.ColumnReference → Type 0
-SomeNotOwn db scopes = AnyOf (λ reference. IsNotOwn db scopes (resolve scopes reference))
-
--- where result columns and HAVING stand: if the block is grouped, only its columns of GROUP BY may
-abbrev pub shown_in : Bool → List BlockColumn → Place
-shown_in grouped columns = InShown grouped (if grouped then columns else [])
-
--- ---- the limits of a block, and its asterisk
-
-pub record IsWithinLimits (grouped : Bool) (query : t.Block) : Type 0 where
-  pub items : item_count (list_of query) ≤ most_items
-  pub groups : length (groups_of query) ≤ most_group_columns
-  pub conjuncts : AnyOf (λ e. most_conjuncts < conjunct_count e) (condition_values (where_of query)) → ⊥
-  pub no_star : grouped ≡ true → list_of query ≢ Asterisk
+use Rattle.query_rules.specs.Judging.{Place, Progress, next_of, Adds, Refuses, IsFine}
+use Rattle.query_rules.specs.Meaning.{bind_refusal, place_of}
 
 -- ---- a condition that may be absent
 

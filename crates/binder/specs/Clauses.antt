@@ -12,10 +12,10 @@ use Rattle.definitions.specs.Queries.BoundBlock as b
 use Rattle.definitions.specs.Queries.BoundBlock.{Blocks, BoundFunction}
 use Rattle.bound.specs.Bound.{bound_function_of, condition_of, item_of, value_type_of}
 use Rattle.binder.specs.declared.block.Clauses.{Clauses}
-use Rattle.binder.specs.declared.fault.BindFault.{BindFault}
-use Rattle.binder.specs.Judging.{Place, InWhere, Progress, Refuses}
+use Rattle.query_rules.specs.declared.fault.BindFault.{BindFault}
+use Rattle.query_rules.specs.Judging.{Place, InWhere, Progress, Refuses}
 use Rattle.binder.specs.Blocks.{BindsList, BindsOption}
-use Rattle.binder.specs.Meaning.{bind_refusal}
+use Rattle.query_rules.specs.Meaning.{bind_refusal}
 
 -- the clauses of a block, one behind another in text order
 pub record BoundClauses : Type 0 where

@@ -1,5 +1,5 @@
--- What faults, types and what is bound so far stand for.
-use Rattle.std.specs.Prelude.{ℕ, List, Option, Some, None, Result, Ok, Err, true, false, [], map, option_map, IfSome}
+-- What is bound so far, and what is answered where a part is bound or refused.
+use Rattle.std.specs.Prelude.{ℕ, List, Option, Result, Ok, Err, map, option_map, IfSome}
 use Rattle.std.specs.Global.{Vec, Box}
 use Rattle.std.specs.Prelude.{◌≡◌, Bool}
 use Rattle.definitions.specs.Binding.Faults.{is_logical}
@@ -13,63 +13,17 @@ use Rattle.definitions.specs.Statement.{Expr, Members}
 use Rattle.definitions.specs.Table.{Database}
 use Rattle.definitions.specs.Binding.Scopes.{Scopes}
 use Rattle.definitions.specs.Queries.BoundBlock.{Blocks}
-use Rattle.definitions.specs.Refusal as r
-use Rattle.definitions.specs.Refusal.{Refusal}
-use Rattle.bound.specs.Bound.{block_of, bound_function_of, column_of, condition_of, member_of, value_of, value_type_of}
+use Rattle.bound.specs.Bound.{block_of, bound_function_of, condition_of, member_of, value_of, value_type_of}
 use Rattle.bound.specs.declared.block.Block.{Block}
 use Rattle.bound.specs.declared.block.BoundFunction.{BoundFunction}
 use Rattle.bound.specs.declared.condition.Condition.{Condition}
 use Rattle.bound.specs.declared.value.ValueExpr.{ValueExpr}
 use Rattle.bound.specs.declared.leaf.ValueType.{ValueType}
-use Rattle.binder.specs.declared.fault.QueryFault.{QueryFault}
-use Rattle.binder.specs.declared.fault.QueryFault.TheVariants as q
-use Rattle.binder.specs.declared.fault.BindFault.{BindFault}
-use Rattle.binder.specs.declared.fault.BindFault.TheVariants as f
-use Rattle.binder.specs.declared.clause.Place.{Place}
-use Rattle.binder.specs.declared.clause.Place.TheVariants as p
-use Rattle.binder.specs.declared.clause.Clause.{Clause}
-use Rattle.binder.specs.declared.leaf.Typed.{Typed}
-use Rattle.binder.specs.Judging as j
-
-abbrev pub query_refusal : QueryFault → Refusal
-query_refusal (q.ManyTables n) = r.ManyTables
-query_refusal (q.NoTable n) = r.NotFound
-query_refusal (q.NameTwice n) = r.NameTaken
-query_refusal (q.NoColumn c) = r.UnknownColumn
-query_refusal (q.AmbiguousColumn c) = r.UnknownColumn
-query_refusal (q.GroupNotOwn c) = r.UnknownColumn
-query_refusal (q.OuterInFunction c) = r.MisplacedFunction
-query_refusal (q.Ungrouped c) = r.UngroupedColumn
-query_refusal (q.GreatScale e) = r.ScaleTooGreat
-query_refusal (q.GreatProduct x) = r.ScaleTooGreat
-query_refusal (q.TextForNumber e) = r.MixedKinds
-query_refusal (q.NumberForText e) = r.MixedKinds
-query_refusal (q.NumberWithText e) = r.MixedKinds
-query_refusal (q.TextWithNumber e) = r.MixedKinds
-query_refusal (q.NotOneColumn b) = r.MixedKinds
-query_refusal (q.ConditionForValue e) = r.MisplacedCondition
-query_refusal (q.ValueForCondition e) = r.MisplacedCondition
-query_refusal (q.MisplacedFunction e) = r.MisplacedFunction
-query_refusal (q.StarOfGroups b) = r.UngroupedColumn
-query_refusal (q.UnknownKey k) = r.UnknownKey
-query_refusal (q.ManyBlocks b) = r.OverQueryLimit
-query_refusal (q.MisplacedQuery b) = r.OverQueryLimit
-query_refusal (q.ManyConjuncts e) = r.OverQueryLimit
-query_refusal (q.ManyMembers e) = r.OverQueryLimit
-query_refusal (q.ManyItems b) = r.OverQueryLimit
-query_refusal (q.ManyGroups b) = r.OverQueryLimit
-query_refusal (q.ManyKeys k) = r.OverQueryLimit
-
--- the refusal of a query that is not bound; none where memory was wanting
-abbrev pub bind_refusal : BindFault → Option Refusal
-bind_refusal (f.Refused fault) = Some (query_refusal fault)
-bind_refusal f.Memory = None
-
-abbrev pub place_of : Place → j.Place
-place_of p.Where = j.InWhere
-place_of p.Shown = j.InShown false []
-place_of (p.Grouped columns) = j.InShown true (map column_of columns.now)
-place_of p.Argument = j.InArgument
+use Rattle.query_rules.specs.declared.fault.BindFault.{BindFault}
+use Rattle.query_rules.specs.declared.clause.Clause.{Clause}
+use Rattle.query_rules.specs.declared.leaf.Typed.{Typed}
+use Rattle.query_rules.specs.Judging as j
+use Rattle.query_rules.specs.Meaning.{bind_refusal, place_of}
 
 abbrev pub progress_of : List Block → List BoundFunction → j.Progress
 progress_of blocks functions = record { blocks = map block_of blocks; functions = map bound_function_of functions }

@@ -1,23 +1,23 @@
 //! Query blocks.
 
 ghost use Rattle.std.specs.Prelude.{◌≡◌, ◌≤◌, ◌<◌, IsTrue, length, map, slice_set};
-ghost use Rattle.binder.specs.Judging.{takes_functions};
+ghost use Rattle.query_rules.specs.Judging.{takes_functions};
 ghost use Rattle.definitions.specs.Limits.{most_blocks};
 ghost use Rattle.bound.specs.Bound.{block_of};
 ghost use Rattle.trees.specs.Trees.{block_of as query_of, condition_of as tree_condition_of};
 ghost use Rattle.binder.specs.Blocks.{OptionAnswer};
 ghost use Rattle.binder.specs.Clauses.{ClausesAnswer};
-ghost use Rattle.binder.specs.Leaves.{InSight};
-ghost use Rattle.binder.specs.Meaning.{place_of, progress_of, BlockAnswer};
+ghost use Rattle.query_rules.specs.Leaves.{InSight};
+ghost use Rattle.query_rules.specs.Meaning.{place_of};
+ghost use Rattle.binder.specs.Meaning.{progress_of, BlockAnswer};
 
-use crate::clause::{Clause, Place};
 use crate::condition::condition;
-use crate::fault::{BindFault, QueryFault};
-use crate::group::{group_columns, is_grouped, shown_place};
 use crate::items::{ResultColumns, result_columns};
-use crate::limit::judge_limits;
 use bound::{Block, BoundFunction, Condition, Item, ValueType};
 use catalog::Database;
+use query_rules::{
+    BindFault, Clause, Place, QueryFault, group_columns, is_grouped, judge_limits, shown_place,
+};
 use scopes::Scopes;
 use std::alloc::Global;
 use trees::Expr;

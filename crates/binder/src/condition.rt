@@ -8,14 +8,12 @@ ghost use Rattle.definitions.specs.Binding.Faults.{is_logical};
 ghost use Rattle.definitions.specs.Queries.BoundBlock as spec;
 ghost use Rattle.bound.specs.Bound.{block_of};
 ghost use Rattle.trees.specs.Trees.{block_of as query_of, expr_of, member_of as tree_member_of, operand_of};
-ghost use Rattle.binder.specs.Leaves.{InSight};
+ghost use Rattle.query_rules.specs.Leaves.{InSight};
 ghost use Rattle.binder.specs.Meaning.{IsLine, IsList, members_in, progress_of, ColumnAnswer, ConditionAnswer, MembersAnswer, QueryAnswer};
 
-use crate::clause::{Clause, Place};
-use crate::fault::{BindFault, QueryFault};
-use crate::operand::{are_logical, judge_kinds};
 use crate::value::value;
 use bound::{Block, BoundFunction, Condition, ValueExpr, ValueType};
+use query_rules::{BindFault, Clause, Place, QueryFault, are_logical, judge_kinds};
 use trees::{Expr, LineOperator, Operand};
 
 /// How many members an IN list may have (own).

@@ -9,13 +9,12 @@ ghost use Rattle.definitions.specs.Binding.Types.{single_type};
 ghost use Rattle.bound.specs.Bound.{item_of, value_type_of};
 ghost use Rattle.trees.specs.Trees.{item_of as listed_item_of, list_of};
 ghost use Rattle.binder.specs.Blocks.{ListAnswer};
-ghost use Rattle.binder.specs.Leaves.{InSight};
+ghost use Rattle.query_rules.specs.Leaves.{InSight};
 ghost use Rattle.binder.specs.Meaning.{progress_of};
 
-use crate::clause::Clause;
-use crate::fault::BindFault;
 use crate::value::value;
 use bound::{Block, BoundFunction, Item, ValueExpr, ValueType};
+use query_rules::{BindFault, Clause};
 use scopes::Scopes;
 use std::alloc::{AllocError, Global};
 use trees::{Expr, SelectList};

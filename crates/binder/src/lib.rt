@@ -2,24 +2,15 @@
 #![tactic(auto)]
 
 mod block;
-mod clause;
 mod condition;
-mod fault;
-mod function;
-mod group;
 mod items;
-mod key;
-mod leaf;
-mod limit;
-mod operand;
 mod query;
 mod value;
 
 pub use block::MAX_BLOCKS;
 pub use condition::MAX_MEMBERS;
-pub use fault::{BindFault, QueryFault};
-pub use key::MAX_KEYS;
-pub use leaf::MAX_SCALE;
-pub use limit::{MAX_CONJUNCTS, MAX_GROUP_COLUMNS, MAX_ITEMS};
 pub use query::bind;
-pub use scopes::MAX_FROM_TABLES;
+pub use query_rules::{
+    BindFault, MAX_CONJUNCTS, MAX_FROM_TABLES, MAX_GROUP_COLUMNS, MAX_ITEMS, MAX_KEYS, MAX_SCALE,
+    QueryFault,
+};

@@ -6,13 +6,12 @@ ghost use Rattle.definitions.specs.Binding.Faults.{Binds, Faulty};
 ghost use Rattle.definitions.specs.Binding.Formed.{AreFormed, AreWritten};
 ghost use Rattle.bound.specs.Bound.{block_of};
 ghost use Rattle.trees.specs.Trees.{select_of};
-ghost use Rattle.binder.specs.Meaning.{bind_refusal};
+ghost use Rattle.query_rules.specs.Meaning.{bind_refusal};
 
 use crate::block::block;
-use crate::fault::BindFault;
-use crate::key::bound_order;
 use bound::Block;
 use catalog::Database;
+use query_rules::{BindFault, bound_order};
 use scopes::Scopes;
 use std::alloc::Global;
 use trees::Select;

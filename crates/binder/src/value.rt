@@ -9,16 +9,17 @@ ghost use Rattle.definitions.specs.Queries.BoundBlock.{Blocks, SetValue};
 ghost use Rattle.definitions.specs.Refusal as refusal;
 ghost use Rattle.bound.specs.Bound.{bound_function_of, value_of, value_type_of};
 ghost use Rattle.trees.specs.Trees.{expr_of, function_of, operand_of};
-ghost use Rattle.binder.specs.Judging.{takes_functions};
-ghost use Rattle.binder.specs.Leaves.{InSight};
-ghost use Rattle.binder.specs.Meaning.{IsLine, place_of, progress_of, query_refusal, ValueAnswer};
+ghost use Rattle.query_rules.specs.Judging.{takes_functions};
+ghost use Rattle.query_rules.specs.Leaves.{InSight};
+ghost use Rattle.binder.specs.Meaning.{IsLine, progress_of, ValueAnswer};
+ghost use Rattle.query_rules.specs.Meaning.{place_of, query_refusal};
 
-use crate::clause::{Clause, Place};
 use crate::condition::column_of_query;
-use crate::fault::{BindFault, QueryFault};
-use crate::leaf::{Typed, column, number, string};
-use crate::operand::{are_logical, function_type, joined_scale, number_scale, operator};
 use bound::{Block, BoundFunction, Operand as BoundOperand, ValueExpr, ValueType};
+use query_rules::{
+    BindFault, Clause, Place, QueryFault, Typed, are_logical, column, function_type, joined_scale,
+    number, number_scale, operator, string,
+};
 use std::alloc::AllocError;
 use trees::{Expr, Operand, SetFunction};
 

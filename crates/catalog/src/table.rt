@@ -5,6 +5,7 @@ ghost use Rattle.std.specs.List.{AllByRecursion, position_from};
 ghost use Rattle.definitions.specs.Limits.{most_columns, most_rows};
 ghost use Rattle.definitions.specs.Table as spec;
 ghost use Rattle.definitions.specs.Change as change;
+ghost use Rattle.definitions.specs.Figures.{row_width};
 ghost use Rattle.definitions.specs.Invariant.{IsCount, IsPageCount, IsTable};
 ghost use Rattle.definitions.specs.Value.{IsType};
 ghost use Rattle.catalog.specs.Places.{IsColumnPlace};
@@ -21,7 +22,7 @@ use loading::{Column, cut_columns};
 use sqlvalue::{Op, SqlType, Value};
 use std::alloc::Global;
 use std::marker::Model;
-use table_indexes::{Index, TableFigures};
+use table_indexes::{Index, TableFigures, row_width};
 use trees::{ColumnDefinition, Constraint, Name};
 
 /// How many rows a table may have (own).
@@ -106,6 +107,14 @@ impl Table {
         ensures { result ≡ length self.now.columns }
     {
         self.columns.len()
+    }
+
+    /// What a row of the table takes, in bytes (own).
+    pub fn row_width(&self) -> u64
+        ensures exact { result ≡ row_width self.now.columns }
+        ensures bound { result ≤ 20000 }
+    {
+        row_width(self.columns.as_slice())
     }
 
     /// The name of a column.

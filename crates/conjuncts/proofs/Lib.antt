@@ -1,2 +1,3 @@
-mod Naming
+pub mod FormedBlocks
+pub mod Naming
 mod Splitting

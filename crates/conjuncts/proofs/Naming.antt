@@ -1,100 +1,121 @@
--- Whether parts name tables, one part after another.
-use Rattle.std.proofs.Common.{◌≡◌, ◌∙◌, refl, sym, ap, ℕ, zero, suc, ◌+◌, ◌<◌, ◌^◌, ◌⊎◌, inl, inr, Bool, true, false, List, [], ◌∷◌, ◌++◌, Option, Some, None, length, map, get_or, drop, arith}
-use Rattle.std.specs.Prelude.{◌||◌, bit_or}
+-- The tables that parts name, one part after another.
+use Rattle.std.proofs.Common.{◌≡◌, ◌∙◌, refl, sym, ap, ap₂, subst, ℕ, zero, suc, ◌+◌, ◌<◌, ◌≤◌, ◌^◌, ◌⊎◌, inl, inr, List, [], ◌∷◌, ◌++◌, Option, Some, None, length, map, get_or, drop, arith}
+use Rattle.std.specs.Prelude.{bit_or}
+use Rattle.std.specs.Int.Bits.{or_zero_r}
+use Rattle.std.proofs.lemmas.Bool.{cases_lt}
 use Rattle.std.proofs.lemmas.List.{drop_more}
-use Rattle.std.proofs.lemmas.Nat.{le_or_l, pow_pos}
-use Rattle.std.proofs.lemmas.Bool.Decides.{nat_tests}
+use Rattle.std.proofs.lemmas.Nat.{le_or_l, le_or_r}
+use Rattle.std.proofs.lemmas.Nat.Bits.{bit_at_or, same_from_bits}
+use Rattle.std.proofs.Math.Nat.{pow-le-pow_right}
 use Rattle.definitions.specs.Plans.TableSet.{TableSet, only}
-use Rattle.definitions.specs.Queries.BoundBlock.{ValueExpr, Operands, Operand, Condition, Conditions, Part}
+use Rattle.definitions.specs.Queries.BoundBlock.{ValueExpr, Operand, Condition, Conditions}
 use Rattle.definitions.specs.Queries.Conjuncts.{values_of, values_of_parts, tables_named, operands_tables, tables_in, condition_tables, member_values}
 use Rattle.bound.specs.Bound.{condition_of, conditions, member_of, value_of, operand_of, operands, OperandTree}
 use Rattle.bound.specs.declared.condition.Condition.{Condition as Code}
-use Rattle.bound.specs.declared.condition.Condition.TheViews as views
 use Rattle.bound.specs.declared.value.ValueExpr.{ValueExpr as Value}
 use Rattle.bound.specs.declared.value.Operand.{Operand as Operand'}
-use Rattle.bound.proofs.Views.{of_and, of_or, of_operand}
-use Rattle.conjuncts.specs.Naming.{are_some}
+use Rattle.bound.proofs.Views.{of_operand}
+use Rattle.conjuncts.specs.Naming.{AreFew, NamesFew}
 
-not_none : (n : ℕ) → 0 < n → are_some n ≡ true
-not_none n h = grind (arith, nat_tests, h)
+-- ---- unions
 
-pub one_is_some : (t : ℕ) → are_some (only t) ≡ true
-one_is_some t = not_none (2 ^ t) (pow_pos t)
+pub or_assoc : (a b c : ℕ) → bit_or (bit_or a b) c ≡ bit_or a (bit_or b c)
+or_assoc a b c = same_from_bits (bit_or (bit_or a b) c) (bit_or a (bit_or b c)) (λ i. simp bit_at_or (omega arith))
 
-pub some_of_both : (a b : TableSet) → are_some (bit_or a b) ≡ are_some a || are_some b
-some_of_both zero b = refl
-some_of_both (suc a) b =
-    not_none (bit_or (suc a) b) (let h = le_or_l (suc a) b in omega (arith, h))
-    ∙ sym (ap (λ x. x || are_some b) (not_none (suc a) (omega (arith))))
+-- the next of some parts is done, too, and all are done where none is left
+pub next_done : (new old step next rest here all : TableSet) → new ≡ bit_or old step → step ≡ next → here ≡ bit_or next rest → bit_or old here ≡ all → bit_or new rest ≡ all
+next_done new old step next rest here all n s h o =
+    ap (λ set. bit_or set rest) (n ∙ ap (bit_or old) s) ∙ or_assoc old next rest ∙ ap (bit_or old) (sym h) ∙ o
 
-some_in_both : (xs ys : List ValueExpr) → are_some (tables_in (xs ++ ys)) ≡ are_some (tables_in xs) || are_some (tables_in ys)
-some_in_both [] ys = refl
-some_in_both (x ∷ xs) ys =
-    some_of_both (tables_named x) (tables_in (xs ++ ys))
-    ∙ ap (λ b. are_some (tables_named x) || b) (some_in_both xs ys)
-    ∙ regrouped (are_some (tables_named x)) (are_some (tables_in xs)) (are_some (tables_in ys))
-    ∙ ap (λ b. b || are_some (tables_in ys)) (sym (some_of_both (tables_named x) (tables_in xs)))
+pub all_done : (done rest all : TableSet) → rest ≡ 0 → bit_or done rest ≡ all → done ≡ all
+all_done done rest all r h = sym (or_zero_r done) ∙ ap (bit_or done) (sym r) ∙ h
+
+-- ---- few tables
+
+pub still_few : (a b : TableSet) → a ≡ b → AreFew a → AreFew b
+still_few a b e h = subst AreFew e h
+
+pub left_few : (a b : TableSet) → AreFew (bit_or a b) → AreFew a
+left_few a b h = let le = le_or_l a b in omega (arith, h, le)
+
+pub right_few : (a b : TableSet) → AreFew (bit_or a b) → AreFew b
+right_few a b h = let le = le_or_r a b in omega (arith, h, le)
+
+pub next_few : (done next rest here all : TableSet) → here ≡ bit_or next rest → bit_or done here ≡ all → AreFew all → AreFew next
+next_few done next rest here all h e f =
+    left_few next rest (still_few here (bit_or next rest) h (right_few done here (still_few all (bit_or done here) (sym e) f)))
+
+pub table_few : (t : ℕ) → AreFew (only t) → t < 14
+table_few t h = of_cases (cases_lt t 14)
   where
-    regrouped : (a b c : Bool) → a || (b || c) ≡ (a || b) || c
-    regrouped true b c = refl
-    regrouped false b c = refl
+    of_cases : (t < 14) ⊎ (14 ≤ t) → t < 14
+    of_cases (inl lt) = lt
+    of_cases (inr le) = let most : 2 ^ 14 ≤ 2 ^ t = pow-le-pow_right (omega arith) le in absurd (omega (arith, most, h))
+
+-- ---- one value and more
+
+pub tables_of_one : (e : ValueExpr) → tables_in (e ∷ []) ≡ tables_named e
+tables_of_one e = or_zero_r (tables_named e)
+
+pub tables_of_two : (set a b : TableSet) (l r : ValueExpr) → set ≡ bit_or a b → a ≡ tables_named l → b ≡ tables_named r → set ≡ tables_in (l ∷ r ∷ [])
+tables_of_two set a b l r e p q = e ∙ ap₂ bit_or p (q ∙ sym (tables_of_one r))
+
+pub tables_of_both : (xs ys : List ValueExpr) → tables_in (xs ++ ys) ≡ bit_or (tables_in xs) (tables_in ys)
+tables_of_both [] ys = refl
+tables_of_both (x ∷ xs) ys = ap (bit_or (tables_named x)) (tables_of_both xs ys) ∙ sym (or_assoc (tables_named x) (tables_in xs) (tables_in ys))
 
 -- ---- the values of a condition
 
-nothing_more : (a : Bool) → a || false ≡ a
-nothing_more true = refl
-nothing_more false = refl
+pub only_value : (c : Condition) (e : ValueExpr) → values_of c ≡ e ∷ [] → tables_named e ≡ condition_tables c
+only_value c e h = sym (tables_of_one e) ∙ ap tables_in (sym h)
 
-pub of_one : (a : ValueExpr) → are_some (tables_in (a ∷ [])) ≡ are_some (tables_named a)
-of_one a = some_of_both (tables_named a) 0 ∙ nothing_more (are_some (tables_named a))
+pub first_few : (c : Condition) (e : ValueExpr) (others : List ValueExpr) → values_of c ≡ e ∷ others → NamesFew c → AreFew (tables_named e)
+first_few c e others h f = left_few (tables_named e) (tables_in others) (still_few (condition_tables c) (tables_in (e ∷ others)) (ap tables_in h) f)
 
-pub of_more : (a : ValueExpr) (es : List ValueExpr) → are_some (tables_in (a ∷ es)) ≡ are_some (tables_named a) || are_some (tables_in es)
-of_more a es = some_of_both (tables_named a) (tables_in es)
-
-pub of_two : (a b : ValueExpr) → are_some (tables_in (a ∷ b ∷ [])) ≡ are_some (tables_named a) || are_some (tables_named b)
-of_two a b = of_more a (b ∷ []) ∙ ap (λ x. are_some (tables_named a) || x) (of_one b)
-
--- what is answered at the first of two, and behind it
-pub then_or : (r a b : Bool) → r ≡ a → r ≡ true → r ≡ a || b
-then_or r a b h k = k ∙ ap (λ x. x || b) (sym k ∙ h)
-
-pub else_or : (r s a b : Bool) → r ≡ a → r ≡ false → s ≡ b → s ≡ a || b
-else_or r s a b h k l = l ∙ ap (λ x. x || b) (sym k ∙ h)
+pub others_few : (c : Condition) (e : ValueExpr) (others : List ValueExpr) → values_of c ≡ e ∷ others → NamesFew c → AreFew (tables_in others)
+others_few c e others h f = right_few (tables_named e) (tables_in others) (still_few (condition_tables c) (tables_in (e ∷ others)) (ap tables_in h) f)
 
 -- ---- the operands of AND and OR
 
-abbrev pub parts_name : Conditions → Bool
-parts_name parts = are_some (tables_in (values_of_parts parts))
+abbrev pub part_tables : Conditions → TableSet
+part_tables parts = tables_in (values_of_parts parts)
 
-first_part : (part : Condition) (others : Conditions) → parts_name (Part part others) ≡ are_some (condition_tables part) || parts_name others
-first_part part others = some_in_both (values_of part) (values_of_parts others)
+abbrev pub tables_from : List Code → TableSet
+tables_from cs = part_tables (conditions (map condition_of cs))
 
-pub under : (condition : Code) (parts : _) → (condition ≡ views.And parts) ⊎ (condition ≡ views.Or parts) → are_some (condition_tables (condition_of condition)) ≡ parts_name (conditions (map condition_of parts.items))
-under condition parts (inl h) = ap (λ c. are_some (condition_tables (condition_of c))) h ∙ ap (λ c. are_some (condition_tables c)) (of_and parts)
-under condition parts (inr h) = ap (λ c. are_some (condition_tables (condition_of c))) h ∙ ap (λ c. are_some (condition_tables c)) (of_or parts)
+pub next_part : (cs : List Code) (i : ℕ) (x : Code) → i < length cs → x ≡ get_or cs i x → tables_from (drop i cs) ≡ bit_or (condition_tables (condition_of x)) (tables_from (drop (i + 1) cs))
+next_part cs i x h e =
+    ap tables_from (drop_more cs i x h ∙ ap (λ y. y ∷ drop (i + 1) cs) (sym e))
+    ∙ tables_of_both (values_of (condition_of x)) (values_of_parts (conditions (map condition_of (drop (i + 1) cs))))
 
-pub next_part : (cs : List Code) (i : ℕ) (x : Code) → i < length cs → x ≡ get_or cs i x → parts_name (conditions (map condition_of (drop i cs))) ≡ are_some (condition_tables (condition_of x)) || parts_name (conditions (map condition_of (drop (i + 1) cs)))
-next_part cs i x h e = ap (λ xs. parts_name (conditions (map condition_of xs))) (drop_more cs i x h ∙ ap (λ y. y ∷ drop (i + 1) cs) (sym e)) ∙ first_part (condition_of x) (conditions (map condition_of (drop (i + 1) cs)))
+from_few : (cs : List Code) (i : ℕ) → AreFew (tables_from cs) → AreFew (tables_from (drop i cs))
+from_few cs zero h = h
+from_few [] (suc i) h = h
+from_few (c ∷ cs) (suc i) h =
+    from_few cs i (right_few (condition_tables (condition_of c)) (tables_from cs) (still_few _ _ (tables_of_both (values_of (condition_of c)) (values_of_parts (conditions (map condition_of cs)))) h))
+
+pub part_few : (cs : List Code) (i : ℕ) (x : Code) → i < length cs → x ≡ get_or cs i x → AreFew (tables_from cs) → NamesFew (condition_of x)
+part_few cs i x h e f =
+    left_few (condition_tables (condition_of x)) (tables_from (drop (i + 1) cs)) (still_few _ _ (next_part cs i x h e) (from_few cs i f))
 
 -- ---- the members of a list
 
-abbrev pub members_name : List (Option ValueExpr) → Bool
-members_name members = are_some (tables_in (member_values members))
+abbrev pub list_tables : List (Option ValueExpr) → TableSet
+list_tables members = tables_in (member_values members)
 
-first_member : (member : Option ValueExpr) (members : List (Option ValueExpr)) → members_name (member ∷ members) ≡ members_name (member ∷ []) || members_name members
+first_member : (member : Option ValueExpr) (members : List (Option ValueExpr)) → list_tables (member ∷ members) ≡ bit_or (list_tables (member ∷ [])) (list_tables members)
 first_member None members = refl
-first_member (Some e) members = of_more e (member_values members) ∙ ap (λ b. b || members_name members) (sym (of_one e))
+first_member (Some e) members = ap (λ set. bit_or set (list_tables members)) (sym (tables_of_one e))
 
-pub next_member : (ms : List (Option Value)) (i : ℕ) (x : Option Value) → i < length ms → x ≡ get_or ms i x → members_name (map member_of (drop i ms)) ≡ members_name (member_of x ∷ []) || members_name (map member_of (drop (i + 1) ms))
-next_member ms i x h e = ap (λ xs. members_name (map member_of xs)) (drop_more ms i x h ∙ ap (λ y. y ∷ drop (i + 1) ms) (sym e)) ∙ first_member (member_of x) (map member_of (drop (i + 1) ms))
+pub next_member : (ms : List (Option Value)) (i : ℕ) (x : Option Value) → i < length ms → x ≡ get_or ms i x → list_tables (map member_of (drop i ms)) ≡ bit_or (list_tables (member_of x ∷ [])) (list_tables (map member_of (drop (i + 1) ms)))
+next_member ms i x h e = ap (λ xs. list_tables (map member_of xs)) (drop_more ms i x h ∙ ap (λ y. y ∷ drop (i + 1) ms) (sym e)) ∙ first_member (member_of x) (map member_of (drop (i + 1) ms))
 
 -- ---- the operands of a line
 
-abbrev pub line_names : Operands → Bool
-line_names others = are_some (operands_tables others)
+abbrev pub line_tables : List Operand' → TableSet
+line_tables xs = operands_tables (operands (map operand_of xs))
 
-pub next_operand : (xs : List Operand') (i : ℕ) (x : Operand') → i < length xs → x ≡ get_or xs i x → line_names (operands (map operand_of (drop i xs))) ≡ are_some (tables_named (value_of x.value)) || line_names (operands (map operand_of (drop (i + 1) xs)))
+pub next_operand : (xs : List Operand') (i : ℕ) (x : Operand') → i < length xs → x ≡ get_or xs i x → line_tables (drop i xs) ≡ bit_or (tables_named (value_of x.value)) (line_tables (drop (i + 1) xs))
 next_operand xs i x h e =
-    ap (λ ys. line_names (operands (map operand_of ys))) (drop_more xs i x h ∙ ap (λ y. y ∷ drop (i + 1) xs) (sym e))
-    ∙ ap (λ (y : OperandTree). line_names (Operand y.0 y.1 (operands (map operand_of (drop (i + 1) xs))))) (of_operand x)
-    ∙ some_of_both (tables_named (value_of x.value)) (operands_tables (operands (map operand_of (drop (i + 1) xs))))
+    ap line_tables (drop_more xs i x h ∙ ap (λ y. y ∷ drop (i + 1) xs) (sym e))
+    ∙ ap (λ (y : OperandTree). operands_tables (Operand y.0 y.1 (operands (map operand_of (drop (i + 1) xs))))) (of_operand x)

@@ -10,7 +10,7 @@ use Rattle.bound.specs.declared.condition.Condition.TheOpen.{Condition-F}
 use Rattle.bound.specs.declared.condition.Condition.TheOpen as o
 use Rattle.bound.specs.declared.condition.Condition.TheVariants as w
 use Rattle.bound.specs.declared.condition.Condition.TheFolds as folds
-use Rattle.conjuncts.specs.Parts.{condition_in, IsJudged}
+use Rattle.conjuncts.specs.Parts.{condition_in}
 use Rattle.conjuncts.specs.declared.split.Conjunct.{Conjunct}
 
 by_layer : (P : spec.Condition → Type 0) (c : Condition) → ((x : Condition-F Condition) → c ≡ roll-Condition x → P (condition_layer (folds.map-Condition _ _ condition_of x))) → P (condition_of c)
@@ -36,9 +36,9 @@ pub with_last : (cs : List Conjunct) (c : Conjunct) → map condition_in (cs ++ 
 with_last [] c = refl
 with_last (x ∷ cs) c = ap (λ ys. condition_in x ∷ ys) (with_last cs c)
 
-pub judged_last : (cs : List Conjunct) (c : Conjunct) → AllByRecursion IsJudged cs → IsJudged c → AllByRecursion IsJudged (cs ++ c ∷ [])
-judged_last [] c h l = (l, tt)
-judged_last (x ∷ cs) c h l = (h.0, judged_last cs c h.1 l)
+pub all_last : (P : Conjunct → Type 0) (cs : List Conjunct) (c : Conjunct) → AllByRecursion P cs → P c → AllByRecursion P (cs ++ c ∷ [])
+all_last P [] c h l = (l, tt)
+all_last P (x ∷ cs) c h l = (h.0, all_last P cs c h.1 l)
 
 -- the conjuncts of the parts that are left, behind those of one part
 pub next_conjuncts : (before after : List spec.Condition) (cs : List Condition) (i : ℕ) (x : Condition) → i < length cs → x ≡ get_or cs i x → after ≡ before ++ conjuncts_of (condition_of x)

@@ -1,7 +1,8 @@
-//! The conjuncts of a block's WHERE, early and late.
+//! The conjuncts of a block's WHERE, early and late, and the tables that they name.
 #![tactic(auto)]
 
-mod lateness;
 mod split;
+mod tables;
 
 pub use split::{Conjunct, conjuncts};
+pub use tables::value_tables;

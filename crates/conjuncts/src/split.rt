@@ -1,21 +1,25 @@
 //! Conditions taken apart at their ANDs.
 
-ghost use Rattle.std.specs.Prelude.{◌≡◌, ◌++◌, IfOk, OnOk, map, option_map};
+ghost use Rattle.std.specs.Prelude.{◌≡◌, ◌++◌, IfOk, IfSome, OnOk, map, option_map};
 ghost use Rattle.std.specs.List.{AllByRecursion};
 ghost use Rattle.definitions.specs.Queries.Conjuncts.{conjuncts_of, conjuncts_of_option};
 ghost use Rattle.bound.specs.Bound.{condition_of};
-ghost use Rattle.conjuncts.specs.Parts.{condition_in, IsJudged};
+ghost use Rattle.conjuncts.specs.Naming.{NamesFew};
+ghost use Rattle.conjuncts.specs.Parts.{condition_in, HasItsTables, IsJudged};
 
-use crate::lateness::is_late;
+use crate::tables::condition_tables;
 use bound::Condition;
+use expr::condition_can_raise;
 use std::alloc::{AllocError, Global};
+use table_sets::TableSet;
 
-/// A conjunct: a part of WHERE that every row has to meet. A late one can raise, or names no table of its block, and is
-/// evaluated only where all early ones are true (own).
+/// A conjunct: a part of WHERE that every row has to meet, and the tables of its block that it names. A late one can raise,
+/// or names no table, and is evaluated only where all early ones are true (own).
 #[derive(Clone, Copy)]
 pub struct Conjunct<'a> {
     pub condition: &'a Condition,
     pub late: bool,
+    pub tables: TableSet,
 }
 
 /// The conjuncts of a condition, in text order; of none where there is no condition (own).
@@ -23,8 +27,10 @@ pub fn conjuncts<'a>(
     alloc: Global,
     condition: &'a Option<Condition>,
 ) -> Result<Vec<Conjunct<'a>>, AllocError>
+    requires few { IfSome (option_map condition_of condition.now) NamesFew }
     ensures whole { IfOk result (λ cs. map condition_in cs.items ≡ conjuncts_of_option (option_map condition_of condition.now)) }
     ensures late { IfOk result (λ cs. AllByRecursion IsJudged cs.items) }
+    ensures tables { IfOk result (λ cs. AllByRecursion HasItsTables cs.items) }
 {
     let mut conjuncts = Vec::new(alloc);
     if let Some(condition) = condition {
@@ -38,9 +44,12 @@ fn push_conjuncts<'a>(
     conjuncts: &mut Vec<Conjunct<'a>>,
     condition: &'a Condition,
 ) -> Result<(), AllocError>
+    requires few { NamesFew (condition_of condition.now) }
     requires late { AllByRecursion IsJudged conjuncts.old.items }
+    requires tables { AllByRecursion HasItsTables conjuncts.old.items }
     ensures whole { OnOk result (map condition_in conjuncts.new.items ≡ map condition_in conjuncts.old.items ++ conjuncts_of (condition_of condition.now)) }
     ensures late { OnOk result (AllByRecursion IsJudged conjuncts.new.items) }
+    ensures tables { OnOk result (AllByRecursion HasItsTables conjuncts.new.items) }
 {
     match condition {
         Condition::And(parts) => {
@@ -50,11 +59,23 @@ fn push_conjuncts<'a>(
             Ok(())
         }
         other => {
-            conjuncts.push(Conjunct {
-                condition: other,
-                late: is_late(other),
-            })?;
+            conjuncts.push(judged(other))?;
             Ok(())
         }
+    }
+}
+
+/// A condition as a conjunct.
+fn judged<'a>(condition: &'a Condition) -> Conjunct<'a>
+    requires few { NamesFew (condition_of condition.now) }
+    ensures itself { condition_in result ≡ condition_of condition.now }
+    ensures late { IsJudged result }
+    ensures tables { HasItsTables result }
+{
+    let tables = condition_tables(condition);
+    Conjunct {
+        condition,
+        late: condition_can_raise(condition) || tables.is_empty(),
+        tables,
     }
 }

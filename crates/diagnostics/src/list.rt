@@ -1,7 +1,7 @@
 //! Lists of columns of a table, and why they stand for none.
 
-use crate::near::{write_near_column, write_near_table};
 use catalog::{Database, ListFault, MAX_INDEX_COLUMNS};
+use near_names::{write_near_column, write_near_table};
 use sqlr::ColumnList;
 use std::alloc::Global;
 use std::fmt::{self, Display, Formatter};

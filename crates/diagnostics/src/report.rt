@@ -4,9 +4,7 @@ use crate::create::write_create;
 use crate::figures::{write_figures, write_table_figures};
 use crate::index::write_index;
 use crate::list::write_list_hint;
-use crate::near::write_near_table;
 use crate::places::offset_of;
-use crate::query::{write_query, write_query_hint};
 use crate::record::{FileRecord, write_record, write_record_hint};
 use crate::repeated::write_repeated;
 use crate::text::{write_lexical, write_lexical_hint};
@@ -16,6 +14,7 @@ use catalog::{
     TableFiguresFault,
 };
 use excerpts::{Lines, Place, write_excerpt};
+use near_names::write_near_table;
 use sqlr::{Cause, ColumnList, FileLoad, Refused};
 use std::alloc::Global;
 use std::fmt::{self, Display, Formatter};
@@ -127,7 +126,7 @@ impl Report<'_> {
             Cause::NoTable(name) => write!(f, "there is no table {}", name.text),
             Cause::NoFile(file) => write!(f, "there is no file '{}'", file.text),
             Cause::ManyRows(_) => write!(f, "a table has at most {MAX_ROWS} rows"),
-            Cause::Query(cause) => write_query(f, *cause),
+            Cause::Query(cause) => query_messages::write_fault(f, cause.query, cause.fault),
             Cause::NotYet(_) => f.write_str("this form of SELECT can't be run yet"),
             Cause::Record { .. } | Cause::Repeated { .. } => Ok(()),
         }
@@ -152,7 +151,9 @@ impl Report<'_> {
                 _ => Ok(()),
             },
             Cause::NoTable(name) => self.write_table_hint(f, name),
-            Cause::Query(cause) => write_query_hint(f, self.alloc, self.database, *cause),
+            Cause::Query(cause) => {
+                query_messages::write_hint(f, self.alloc, self.database, cause.query, cause.fault)
+            },
             Cause::NotYet(_) => f.write_str(NOT_YET_HINT),
             _ => Ok(()),
         }

@@ -1,8 +1,8 @@
 //! What could have stood where a script goes wrong.
 
-use crate::near::Nearest;
 use excerpts::Visible;
 use lexer::{TokenKind, Word};
+use near_names::Nearest;
 use std::alloc::Global;
 use std::fmt::{self, Display, Formatter};
 use syntax::{MAX_LEVELS, TokenClass, Unexpected};

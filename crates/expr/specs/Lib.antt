@@ -2,3 +2,4 @@ pub use Rattle.definitions.specs.Queries.Evaluation
 pub use Rattle.definitions.specs.Queries.CanRaise
 pub mod Answers
 pub mod Sizes
+pub mod Shorts

@@ -18,6 +18,7 @@ use crate::evaluation::value;
 use crate::predicate::{
     both, compared, either, fits, has_row, is_null, opposite, quantified, unless,
 };
+use crate::short::compared_in_short;
 use crate::surroundings::Surroundings;
 use bound::{Condition, Quantifier, ValueExpr};
 use sqlvalue::{Op, Raise, Tri, Value};
@@ -30,11 +31,10 @@ pub fn truth<'a, S: Surroundings>(condition: &'a Condition, env: &'a S) -> Resul
     ensures { MayAnswer (meaning.truth (S.environment env.now) (condition_of condition.now)) (truth_answer_of result) }
 {
     match condition {
-        Condition::Compare { op, left, right } => compared(
-            *op,
-            value(left, env),
-            value(right, env),
-        ),
+        Condition::Compare { op, left, right } => match compared_in_short(*op, left, right, env) {
+            Some(truth) => Ok(truth),
+            None => compared(*op, value(left, env), value(right, env)),
+        },
         Condition::Quantified {
             op,
             quantifier,

@@ -6,6 +6,7 @@ mod evaluation;
 mod operation;
 mod predicate;
 mod raising;
+mod short;
 mod surroundings;
 
 pub use condition::truth;

@@ -1,5 +1,10 @@
 //! What can raise, and the conjuncts of a condition.
 
+ghost use Rattle.std.specs.Prelude.{IfOk};
+ghost use Rattle.definitions.specs.Queries.Conjuncts.{tables_named};
+ghost use Rattle.bound.specs.Bound.{condition_of, value_of};
+ghost use Rattle.conjuncts.specs.Naming.{AreFew, NamesFew};
+
 use bound::{BlockColumn, Condition, NumberLiteral, Operand, Operator, ValueExpr, ValueType};
 use conjuncts::conjuncts;
 use expr::can_raise;
@@ -8,7 +13,9 @@ use std::alloc::{AllocError, Global};
 use std::test::Fail;
 
 /// A column of the first table.
-fn column(sql_type: SqlType) -> ValueExpr {
+fn column(sql_type: SqlType) -> ValueExpr
+    ensures { AreFew (tables_named (value_of result)) }
+{
     ValueExpr::Column {
         column: BlockColumn {
             table: 0,
@@ -22,12 +29,23 @@ fn numeric(precision: u8, scale: u8) -> ValueExpr {
     column(SqlType::Numeric { precision, scale })
 }
 
-fn one() -> ValueExpr {
+fn one() -> ValueExpr
+    ensures { AreFew (tables_named (value_of result)) }
+{
     ValueExpr::Number(NumberLiteral {
         units: 1,
         digits: 1,
         scale: 0,
     })
+}
+
+fn subquery() -> ValueExpr
+    ensures { AreFew (tables_named (value_of result)) }
+{
+    ValueExpr::Subquery {
+        block: 2,
+        value_type: ValueType::Text,
+    }
 }
 
 /// Two operands with an operator between them.
@@ -45,12 +63,29 @@ fn joined(
     })
 }
 
-fn equal(left: ValueExpr, right: ValueExpr) -> Condition {
+fn equal(left: ValueExpr, right: ValueExpr) -> Condition
+    ensures { AreFew (tables_named (value_of left)) → AreFew (tables_named (value_of right)) → NamesFew (condition_of result) }
+{
     Condition::Compare {
         op: Op::Equals,
         left,
         right,
     }
+}
+
+fn exists() -> Condition
+    ensures { NamesFew (condition_of result) }
+{
+    Condition::Exists { block: 1 }
+}
+
+fn both(alloc: Global, left: Condition, right: Condition) -> Result<Condition, AllocError>
+    ensures { NamesFew (condition_of left) → NamesFew (condition_of right) → IfOk result (λ c. NamesFew (condition_of c)) }
+{
+    let mut parts = Vec::new(alloc);
+    parts.push(left)?;
+    parts.push(right)?;
+    Ok(Condition::And(parts))
 }
 
 #[test]
@@ -90,15 +125,13 @@ fn values_of_39_digits_can_raise(rt: HostRuntime) -> Result<(), Fail> {
 #[test]
 fn conjuncts_stand_in_text_order(rt: HostRuntime) -> Result<(), Fail> {
     let alloc = rt.alloc();
-    let quotient = joined(alloc, one(), Operator::Over, column(SqlType::Smallint))?;
-    let mut inner = Vec::new(alloc);
-    inner.push(equal(one(), one()))?;
-    inner.push(equal(column(SqlType::Integer), one()))?;
-    let mut parts = Vec::new(alloc);
-    parts.push(equal(quotient, one()))?;
-    parts.push(Condition::And(inner))?;
-    parts.push(Condition::Exists { block: 1 })?;
-    let condition = Some(Condition::And(parts));
+    let inner = both(
+        alloc,
+        equal(one(), one()),
+        equal(column(SqlType::Integer), one()),
+    )?;
+    let front = both(alloc, equal(column(SqlType::Integer), subquery()), inner)?;
+    let condition = Some(both(alloc, front, exists())?);
     let mut late = Vec::new(alloc);
     for conjunct in conjuncts(alloc, &condition)? {
         late.push(conjunct.late)?;

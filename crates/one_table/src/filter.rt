@@ -1,10 +1,11 @@
 //! A WHERE taken apart.
 
-ghost use Rattle.std.specs.Prelude.{◌≡◌, ◌&&◌, ◌||◌, ◌++◌, ◌∷◌, [], IfOk, OnOk, option_map};
+ghost use Rattle.std.specs.Prelude.{◌≡◌, ◌&&◌, ◌||◌, ◌++◌, ◌∷◌, [], IfOk, IfSome, OnOk, option_map};
 ghost use Rattle.std.specs.List.{AllByRecursion};
 ghost use Rattle.definitions.specs.Table.{Row};
 ghost use Rattle.definitions.specs.Queries.Conjuncts.{conjuncts_of_option};
 ghost use Rattle.bound.specs.Bound.{condition_of};
+ghost use Rattle.conjuncts.specs.Naming.{NamesFew};
 ghost use Rattle.conjuncts.specs.Parts.{condition_in, IsJudged};
 ghost use Rattle.one_table.specs.OneRow.{all_hold, holds, IsConditionOver};
 
@@ -32,7 +33,8 @@ impl<'a> Filter<'a> {
         table: &Table,
         condition: &'a Option<Condition>,
     ) -> Result<Filter<'a>, AllocError>
-        requires { AllByRecursion (IsConditionOver table.now) (conjuncts_of_option (option_map condition_of condition.now)) }
+        requires own { AllByRecursion (IsConditionOver table.now) (conjuncts_of_option (option_map condition_of condition.now)) }
+        requires few { IfSome (option_map condition_of condition.now) NamesFew }
         ensures over { IfOk result (IsFilterOver table.now) }
         ensures early { IfOk result (λ f. (row : Row) → passes f row ≡ all_hold (early_of (conjuncts_of_option (option_map condition_of condition.now))) row) }
         ensures late { IfOk result (λ f. conditions_of f.late.items ≡ late_of (conjuncts_of_option (option_map condition_of condition.now))) }

@@ -12,3 +12,4 @@ mod pages;
 pub use extension::{ExtendFault, RepeatedRow, extended};
 pub use figures::{IndexFigures, KeyRange, TableFigures};
 pub use index::Index;
+pub use pages::row_width;

@@ -36,7 +36,8 @@ pub(crate) fn entry_pages(columns: &[Column], numbers: &[usize], rows: usize) ->
     pages_for(rows as u64, entry_width(columns, numbers))
 }
 
-fn row_width(columns: &[Column]) -> u64
+/// What a row of a table takes, in bytes.
+pub fn row_width(columns: &[Column]) -> u64
     requires narrow { length columns.now ≤ most_columns }
     ensures exact { result ≡ figures.row_width (headers columns.now) }
     ensures bound { result ≤ 20000 }

@@ -9,15 +9,18 @@ use Rattle.trees.proofs.Views.{of_column, of_numeral, of_string, of_signed, of_n
 use Rattle.std.specs.Prelude.{IfSome, option_map, IsTrue}
 use Rattle.definitions.specs.Grammar.{operands, items, members}
 use Rattle.trees.specs.declared.expr.Expr.{the_lemmas}
-use Rattle.binder.specs.Judging.{BindsValue, BindsCondition, BindsColumn, RefusesValue, RefusesColumn, InWhere, takes_functions, InArgument, BindsMembers, BindsQuery, RefusesCondition, RefusesMembers, RefusesQuery, RefusesBlock}
+use Rattle.query_rules.specs.Judging.{BindsValue, BindsCondition, BindsColumn, RefusesValue, RefusesColumn, InWhere, takes_functions, InArgument, BindsMembers, BindsQuery, RefusesCondition, RefusesMembers, RefusesQuery, RefusesBlock}
 use Rattle.binder.proofs.Predicates.{scalar_query, binds_scalar, binds_is_null, is_null_operand, binds_like, like_operand, like_number, binds_not, not_operand, binds_between, between_operand, between_low, between_high, between_low_mixed, between_high_mixed, binds_exists, exists_query, in_query, compare_all, binds_test, test_operand, test_query, test_mixed}
 use Rattle.binder.proofs.SetFunctions.{count_rows_misplaced, binds_count_rows, function_misplaced, binds_function, function_argument, function_of_text, nothing_bound}
-use Rattle.binder.specs.Meaning.{place_of, progress_of, query_refusal, bind_refusal, IsLine, IsList}
-use Rattle.binder.proofs.Answering.{if_some, is_refused, value_err, value_refused, few_blocks, few_items, numeral_refused, column_answer, next_tree, no_tree, pushed_operand, condition_err, condition_refused, members_err, members_refused, column_err, query_err, line_is, is_text, next_member_tree, no_member_tree, as_many_members, pushed_member, pushed_condition, pushed_function, as_many_functions, nothing_more, connected_and, connected_or, others_there}
+use Rattle.query_rules.specs.Meaning.{place_of, query_refusal, bind_refusal}
+use Rattle.binder.specs.Meaning.{progress_of, IsLine, IsList}
+use Rattle.query_rules.proofs.Refused.{if_some}
+use Rattle.binder.proofs.Answering.{is_refused, value_err, value_refused, few_blocks, few_items, numeral_refused, column_answer, next_tree, no_tree, pushed_operand, condition_err, condition_refused, members_err, members_refused, column_err, query_err, line_is, is_text, next_member_tree, no_member_tree, as_many_members, pushed_member, pushed_condition, pushed_function, as_many_functions, nothing_more, connected_and, connected_or, others_there}
 use Rattle.binder.proofs.Lines.{OperandsLeft, begin_operands, past_operand, fault_at_operand, text_at_operand, great_at_operand, end_operands, binds_chain, chain_first, chain_text, chain_operands, PartsLeft, begin_parts, past_part, fault_at_part, end_parts, binds_logical, logical_first, logical_parts}
 use Rattle.binder.proofs.Nodes.{binds_numeral, binds_string, binds_signed, signed_operand, signed_text, binds_compare, compare_left, compare_right, compare_mixed, few_after}
 use Rattle.std.proofs.lemmas.List.{take_all, append_assoc}
-use Rattle.binder.specs.Blocks.{BindsList, BindsOption, IsOnly, RefusesList, shown_in}
+use Rattle.binder.specs.Blocks.{BindsList, BindsOption, IsOnly, RefusesList}
+use Rattle.query_rules.specs.Groups.{shown_in}
 use Rattle.binder.proofs.+binding.Goals.{items::result_columns-then-is_empty, items::result_columns-else-is_empty, condition::bound_members-in-Some+in_ok-typed-in-Some+in_ok-judge_kinds-in-Some+in_ok-push-in-Some, condition::bound_members-in-None+in_ok-push-in-None}
 use Rattle.binder.specs.Clauses.{clauses_of, BindsClauses, RefusesClauses}
 use Rattle.binder.proofs.Bundles.{length_of_both}

@@ -8,10 +8,10 @@ use Rattle.definitions.proofs.BindingTheory.AcceptedQueries.{accepted_queries_ar
 use Rattle.bound.specs.Bound.{block_of, item_of, key_of, value_type_of}
 use Rattle.trees.specs.Trees.{block_of as query_of, key_of as tree_key_of, list_of, select_of}
 use Rattle.trees.proofs.Views.{of_block}
-use Rattle.binder.specs.Judging.{BindsBlock, RefusesBlock}
-use Rattle.binder.specs.Keys.{names_by, bound_keys, SomeKeyIsUnknown, RefusesOrder}
-use Rattle.binder.specs.Meaning.{bind_refusal}
-use Rattle.binder.proofs.Answering.{if_some}
+use Rattle.query_rules.specs.Judging.{BindsBlock, RefusesBlock}
+use Rattle.query_rules.specs.Keys.{names_by, bound_keys, SomeKeyIsUnknown, RefusesOrder}
+use Rattle.query_rules.specs.Meaning.{bind_refusal}
+use Rattle.query_rules.proofs.Refused.{if_some}
 use Rattle.binder.proofs.Queries.{answer_err, names_in, refused_block, refused_keys, accepted, first_of, with_keys, as_many_keys}
 use Rattle.binder.proofs.query.bind.Goals as goal
 

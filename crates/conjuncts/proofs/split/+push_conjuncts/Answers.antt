@@ -1,42 +1,52 @@
 use Rattle.std.proofs.Common.{rules, ◌≡◌, ◌∙◌, refl, sym, ap, ◌++◌, ◌∷◌, [], map}
 use Rattle.std.proofs.lemmas.List.{drop_all}
-use Rattle.definitions.specs.Queries.Conjuncts.{conjuncts_of_parts}
+use Rattle.definitions.specs.Queries.Conjuncts.{condition_tables, conjuncts_of_parts}
 use Rattle.bound.specs.Bound.{condition_of, conditions}
 use Rattle.bound.specs.declared.condition.Condition.{the_lemmas}
 use Rattle.bound.proofs.Views.{of_and}
-use Rattle.conjuncts.specs.Parts.{condition_in}
-use Rattle.conjuncts.specs.declared.split.Conjunct.{Conjunct}
-use Rattle.conjuncts.proofs.Splitting.{alone, with_last, judged_last, next_conjuncts, no_more}
+use Rattle.conjuncts.specs.Naming.{AreFew, NamesFew}
+use Rattle.conjuncts.specs.Parts.{condition_in, HasItsTables, IsJudged}
+use Rattle.conjuncts.proofs.Naming.{part_few, still_few, tables_from}
+use Rattle.conjuncts.proofs.Splitting.{all_last, alone, with_last, next_conjuncts, no_more}
 use Rattle.conjuncts.proofs.split.+push_conjuncts.Goals as goal
 
 pub loop-part-init : goal.loop-part-init
 loop-part-init t c =
     let tree = ap condition_of c.in-And.is ∙ of_and c.in-And.parts in
-    rw (tree, c.deref-part-items.ensures.value) (refl, c.requires.late)
+    rw (tree, c.deref-part-items.ensures.value) (record { whole = refl; late = c.requires.late; tables = c.requires.tables })
 
 pub push_conjuncts-requires : goal.push_conjuncts-requires
 push_conjuncts-requires t c =
-    let late = c.loop-part.invariant.1 in
-    search (rules, the_lemmas, late)
+    let tree = ap condition_of c.in-And.is ∙ of_and c.in-And.parts in
+    let all : AreFew (tables_from c.deref-part-items.result.now) = rw c.deref-part-items.ensures.value (still_few _ _ (ap condition_tables tree) c.requires.few) in
+    let few : NamesFew (condition_of c.part-item.result) = part_few c.deref-part-items.result.now c.loop-part.part-index c.part-item.result c.loop-part-test.true c.part-item.is all in
+    let late = c.loop-part.invariant.late in
+    let tables = c.loop-part.invariant.tables in
+    search (rules, the_lemmas, few, late, tables)
 
 pub loop-part-preserved : goal.loop-part-preserved
 loop-part-preserved t c =
     let x = c.part-item.result in
     let next = next_conjuncts (map condition_in c.loop-part.conjuncts.items) (map condition_in c.push_conjuncts.new.conjuncts.items) c.deref-part-items.result.now c.loop-part.part-index x c.loop-part-test.true c.part-item.is c.in_ok-push_conjuncts-in-And.ensures.whole in
-    (next ∙ c.loop-part.invariant.0, c.in_ok-push_conjuncts-in-And.ensures.late)
+    record { whole = next ∙ c.loop-part.invariant.whole; late = c.in_ok-push_conjuncts-in-And.ensures.late; tables = c.in_ok-push_conjuncts-in-And.ensures.tables }
 
-pub returns-after-loop-part-clause-whole : goal.returns-after-loop-part-clause-whole
-returns-after-loop-part-clause-whole t c =
+pub returns-after-loop-part : goal.returns-after-loop-part
+returns-after-loop-part t c =
     let none = ap (λ xs. conjuncts_of_parts (conditions (map condition_of xs))) (drop_all c.loop-part.part-index c.deref-part-items.result.now c.loop-part-test.false) in
-    sym (no_more (map condition_in c.loop-part.conjuncts.items)) ∙ sym (ap (λ ys. map condition_in c.loop-part.conjuncts.items ++ ys) none) ∙ c.loop-part.invariant.0
-
-pub returns-after-loop-part-clause-late : goal.returns-after-loop-part-clause-late
-returns-after-loop-part-clause-late t c = c.loop-part.invariant.1
+    record {
+      whole = sym (no_more (map condition_in c.loop-part.conjuncts.items)) ∙ sym (ap (λ ys. map condition_in c.loop-part.conjuncts.items ++ ys) none) ∙ c.loop-part.invariant.whole;
+      late = c.loop-part.invariant.late;
+      tables = c.loop-part.invariant.tables;
+    }
 
 pub returns-in_ok-push-in_default : goal.returns-in_ok-push-in_default
 returns-in_ok-push-in_default t c =
     let old = c.args.conjuncts.now.items in
-    let new : Conjunct = record { condition = c.args.condition; late = c.is_late.result } in
+    let new = c.judged.result in
     let items : c.push.new.self.items ≡ old ++ new ∷ [] = c.in_ok-push-in_default.ensures.items in
-    let whole = ap (map condition_in) items ∙ with_last old new ∙ ap (λ ys. map condition_in old ++ ys) (sym (alone c.args.condition.now c.in_default.not-And)) in
-    record { whole = whole; late = rw items (judged_last old new c.requires.late c.is_late.ensures) }
+    let own = ap (λ z. map condition_in old ++ z ∷ []) c.judged.ensures.itself ∙ ap (λ ys. map condition_in old ++ ys) (sym (alone c.args.condition.now c.in_default.not-And)) in
+    record {
+      whole = ap (map condition_in) items ∙ with_last old new ∙ own;
+      late = rw items (all_last IsJudged old new c.requires.late c.judged.ensures.late);
+      tables = rw items (all_last HasItsTables old new c.requires.tables c.judged.ensures.tables);
+    }

@@ -20,11 +20,16 @@ use Rattle.expr.proofs.condition.+truth.Goals as goal
 
 -- ---- values
 
-pub returns-in-Compare : goal.returns-in-Compare
-returns-in-Compare g t c =
+pub returns-in-Some : goal.returns-in-Some
+returns-in-Some g t c =
+    let tree = ap condition_of c.in-Compare.is ∙ of_compare c.in-Compare.op c.in-Compare.left c.in-Compare.right in
+    rw (tree, c.in-Some.ensures) refl
+
+pub returns-in-None : goal.returns-in-None
+returns-in-None g t c =
     let env = g.S.Surroundings.environment c.args.env.now in
     let tree = ap condition_of c.in-Compare.is ∙ of_compare c.in-Compare.op c.in-Compare.left c.in-Compare.right in
-    rw tree (c.compared.ensures (value env (tree_of c.in-Compare.left)) (value env (tree_of c.in-Compare.right)) c.value.ensures c.value-in-Compare.ensures)
+    rw tree (c.compared.ensures (value env (tree_of c.in-Compare.left)) (value env (tree_of c.in-Compare.right)) c.value.ensures c.value-in-None.ensures)
 
 pub returns-in-IsNull : goal.returns-in-IsNull
 returns-in-IsNull g t c =

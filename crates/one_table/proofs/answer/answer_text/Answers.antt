@@ -1,4 +1,4 @@
-use Rattle.std.proofs.Common.{ℕ, ◌≡◌, ◌∙◌, ◌<◌, ap, List, [], ◌++◌, length, map}
+use Rattle.std.proofs.Common.{ℕ, ◌≡◌, ◌∙◌, ◌<◌, ap, List, [], ◌∷◌, ◌++◌, length, map}
 use Rattle.std.specs.Prelude.{Contains, filter}
 use Rattle.std.specs.Borrow.{Bor}
 use Rattle.std.proofs.lemmas.List.Elements.{All-filter, filter_agree}
@@ -18,12 +18,18 @@ use Rattle.one_table.specs.OneRow.{all_hold, raises_in, result_raises_in, result
 use Rattle.one_table.specs.declared.fault.AnswerFault.{AnswerFault}
 use Rattle.one_table.specs.declared.fault.AnswerFault.TheVariants as f
 use Rattle.one_table.specs.declared.filter.Filter.{Filter}
+use Rattle.conjuncts.proofs.FormedBlocks.{formed_few}
 use Rattle.one_table.proofs.Formed.{block_where_over, block_items_over}
 use Rattle.one_table.proofs.Meaning.{late_raise_told, column_raise_told, rows_told}
 use Rattle.one_table.proofs.answer.answer_text.Goals as goal
 
 pub new-requires : goal.new-requires
-new-requires c = block_where_over c.args.database.now (block_of c.args.block.now) c.only_table-table.result.now c.only_table-table.ensures c.requires.formed
+new-requires c =
+    let b : Block = block_of c.args.block.now in
+    record {
+      own = block_where_over c.args.database.now b c.only_table-table.result.now c.only_table-table.ensures c.requires.formed;
+      few = formed_few c.args.database.now (b ∷ []) [] 0 b c.requires.formed;
+    }
 
 pub write_table-requires-clause-over : goal.write_table-requires-clause-over
 write_table-requires-clause-over c = rw c.deref-2.ensures.value (block_items_over c.args.database.now (block_of c.args.block.now) c.only_table-table.result.now c.only_table-table.ensures c.requires.formed)

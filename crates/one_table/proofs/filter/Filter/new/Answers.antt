@@ -14,7 +14,7 @@ pub push-requires-clause-own : goal.push-requires-clause-own
 push-requires-clause-own c =
     let items : List Conjunct = c.deref-conjunct-items.result.now in
     let whole : conjuncts_of_option (option_map condition_of c.args.condition.now) ≡ map condition_in items = sym c.in_ok-conjuncts.ensures.whole ∙ ap (map condition_in) (sym c.deref-conjunct-items.ensures.value) in
-    at_place (IsConditionOver c.args.table.now) condition_in items c.conjuncts.conjunct-index c.conjunct-item.result (subst (AllByRecursion (IsConditionOver c.args.table.now)) whole c.requires) c.conjuncts-test.true c.conjunct-item.is
+    at_place (IsConditionOver c.args.table.now) condition_in items c.conjuncts.conjunct-index c.conjunct-item.result (subst (AllByRecursion (IsConditionOver c.args.table.now)) whole c.requires.own) c.conjuncts-test.true c.conjunct-item.is
 
 pub conjuncts-preserved : goal.conjuncts-preserved
 conjuncts-preserved c =

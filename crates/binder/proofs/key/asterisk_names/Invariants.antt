@@ -1,8 +1,0 @@
-use Rattle.std.proofs.Common.{◌≡◌, map, take}
-use Rattle.bound.specs.Bound.{item_of}
-use Rattle.bound.specs.declared.block.Item.{Item}
-use Rattle.binder.specs.Keys.{header_of, known_name}
-use Rattle.binder.proofs.key.asterisk_names.Given as goal
-
-abbrev pub invariant-columns : goal.invariant-columns
-invariant-columns l = map known_name l.names.items ≡ map (λ (i : Item). header_of (item_of i)) (take l.item-index l.items)

@@ -1,8 +1,0 @@
-use Rattle.std.proofs.Common.{◌∙◌, ap, map}
-use Rattle.trees.specs.Trees.{list_of, item_of}
-use Rattle.trees.proofs.Views.{of_items}
-use Rattle.binder.proofs.Keys.{listed_items}
-use Rattle.binder.proofs.key.column_names.Goals as goal
-
-pub returns-in-Items : goal.returns-in-Items
-returns-in-Items c = rw (ap list_of c.in-Items.is ∙ of_items c.in-Items.list, listed_items (map item_of c.in-Items.list.items)) (rw c.deref.ensures.value at c.listed_names.ensures)

@@ -1,0 +1,4 @@
+mod Merging
+mod Passing
+mod Labelling
+mod Rows

@@ -1,0 +1,3 @@
+pub use Rattle.definitions.specs.Plans.ColumnClass
+pub mod Labels
+pub mod Classes

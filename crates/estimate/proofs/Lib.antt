@@ -1,0 +1,4 @@
+mod Places
+mod Left
+mod Members
+mod Sizes

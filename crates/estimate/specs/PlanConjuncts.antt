@@ -1,0 +1,20 @@
+-- What the conjuncts of this crate stand for.
+use Rattle.std.specs.Prelude.{ℕ, Bool, ◌&&◌, option_map}
+use Rattle.definitions.specs.Plans.Conjunct as spec
+use Rattle.definitions.specs.Plans.TableSet.{TableSet, with_table}
+use Rattle.definitions.specs.Estimates.BlockTables.{has, is_within}
+use Rattle.definitions.specs.Queries.BoundBlock.{Condition}
+use Rattle.bound.specs.Bound.{condition_of}
+use Rattle.estimate.specs.Columns.{pair_of}
+use Rattle.table_sets.specs.Sets.{set_of}
+use Rattle.estimate.specs.declared.plan_conjunct.PlanConjunct.{PlanConjunct}
+
+abbrev pub conjunct_of : PlanConjunct → spec.Conjunct
+conjunct_of c = record { early = c.early; tables = set_of c.tables; equated = option_map pair_of c.equated; selectivity = c.selectivity }
+
+abbrev pub condition_told : PlanConjunct → Condition
+condition_told c = condition_of c.condition.now
+
+-- it names a table, and beside it only tables whose rows are known
+abbrev pub names_known : TableSet → ℕ → spec.Conjunct → Bool
+names_known known table c = has c.tables table && is_within c.tables (with_table known table)

@@ -1,0 +1,2 @@
+pub use Rattle.definitions.specs.Plans.Plan
+pub mod Plans

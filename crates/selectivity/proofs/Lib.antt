@@ -1,0 +1,4 @@
+mod EitherOf
+mod Drawing
+mod OwnIndex
+mod Known

@@ -1,0 +1,4 @@
+pub use Rattle.definitions.specs.Estimates
+pub mod Ranges
+pub mod Views
+pub mod Tables

@@ -1,0 +1,2 @@
+pub use Rattle.definitions.specs.Plans.TableSet
+pub mod Sets
