@@ -26,12 +26,11 @@ pub struct Equation {
 
 /// Labels columns by the equations whose tables are all in a set.
 pub(crate) fn label(
-    labels: &mut [u16],
+    labels: &mut [usize],
     columns: &[BlockColumn],
     equations: &[Equation],
     tables: TableSet,
 )
-    requires few { length columns.now ≤ 2 ^ 16 }
     requires paired { length labels.old ≡ length columns.now }
     requires between { All (IsBetween (length columns.now)) equations.now }
     ensures len { length labels.new ≡ length labels.old }
@@ -61,7 +60,7 @@ pub struct ColumnClasses {
     columns: usize,
     tables: usize,
     // a row of labels for each set, in the order of the sets' places
-    labels: Vec<u16>,
+    labels: Vec<usize>,
     ghost whole: { length labels.items ≡ 2 ^ tables * columns },
 }
 
@@ -69,14 +68,13 @@ impl ColumnClasses {
     ghost use Rattle.column_classes.specs.Classes.{columns_in, sets_in, AreClasses, AreDistinct, AreEquations};
 
     /// The classes of columns by the equations that a block's early conjuncts say; no column comes twice. It looks at each
-    /// equation for each set of the tables, and at each column for each equation.
+    /// equation for each set of the tables, and at each column for each equation. They take 8 bytes for each column and set.
     pub fn new(
         alloc: Global,
         columns: &[BlockColumn],
         equations: &[Equation],
         tables: usize,
     ) -> Result<ColumnClasses, AllocError>
-        requires few { length columns.now ≤ 2 ^ 16 }
         requires tables { tables ≤ most_from_tables }
         requires distinct { AreDistinct (map column_of columns.now) }
         requires between { All (IsBetween (length columns.now)) equations.now }

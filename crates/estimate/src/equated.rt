@@ -26,8 +26,8 @@ pub(crate) fn equated_columns(condition: &Condition) -> Option<(BlockColumn, Blo
     }
 }
 
-/// The column that a value is, if it is one.
-fn column_of(value: &ValueExpr) -> Option<BlockColumn>
+/// The column of its block that a value is, if it is one.
+pub fn column_of(value: &ValueExpr) -> Option<BlockColumn>
     ensures { option_map bound.column_of result ≡ sides.column_of (bound.value_of value.now) }
 {
     match value {

@@ -10,6 +10,7 @@ mod planning;
 mod shares;
 mod table_size;
 
+pub use equated::column_of;
 pub use estimate::Estimate;
 pub use limits::{LIMIT, saturated};
 pub use plan_conjunct::PlanConjunct;

@@ -2,7 +2,6 @@
 
 ghost use Rattle.std.specs.Prelude.{◌<◌, ◌^◌, nat_abs};
 
-use crate::statements::apply;
 use catalog::{
     Database, EarlierRow, IndexFault, IndexFigures, KeyRange, LoadFault, RepeatedKey,
     RepeatedRecord, Table, TableFigures,
@@ -13,6 +12,7 @@ use std::alloc::{AllocError, Global};
 use std::ops::Bound::{self, Excluded, Included, Unbounded};
 use std::test::Fail;
 use syntax::Name;
+use test_databases::apply;
 
 /// Seven records, in two of which a value is null; three have one key.
 const RECORDS: &[u8] = b"1.5,b,1\n\\N,a,1\n1.5,b,1\n-2,b,\\N\n1.5,B,2\n-2.0,b,7\n1.5,\"b \",1\n";

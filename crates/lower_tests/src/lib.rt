@@ -13,8 +13,6 @@ mod names;
 #[cfg(test)]
 mod queries;
 #[cfg(test)]
-mod statements;
-#[cfg(test)]
 mod tables;
 #[cfg(test)]
 mod tokens;

@@ -1,12 +1,12 @@
 //! Queries bound from their text.
 
-use crate::statements::apply;
 use binder::{BindFault, bind};
 use bound::Block;
 use catalog::Database;
 use lexer::lex;
 use std::alloc::Global;
 use syntax::{Statement, parse};
+use test_databases::apply;
 
 /// The tables of the queries.
 const TABLES: &str = "CREATE TABLE T (A INTEGER, B NUMERIC(5,2), D CHAR(3));

@@ -1,5 +1,6 @@
 -- What the paths, plans and orders of this crate stand for.
 use Rattle.std.specs.Prelude.{List, map}
+use Rattle.std.specs.Global.{Vec}
 use Rattle.definitions.specs.Plans.Order as o
 use Rattle.definitions.specs.Plans.Path as p
 use Rattle.definitions.specs.Plans.Plan as spec
@@ -18,6 +19,9 @@ key_of k = record { column = column_of k.column; descending = k.descending }
 
 abbrev pub order_of : List SortKey → o.Order
 order_of = map key_of
+
+abbrev pub orders_in : List (Vec SortKey) → List o.Order
+orders_in = map (λ (keys : Vec SortKey). order_of keys.items)
 
 abbrev pub path_of : Path → p.Path
 path_of (path.Segment table) = p.SegmentScan table

@@ -6,7 +6,7 @@ use std::alloc::Global;
 use syntax::{Statement, parse};
 
 /// Whether each statement of a script changes a database.
-pub(crate) fn apply(alloc: Global, database: &mut Database, script: &str) -> bool {
+pub fn apply(alloc: Global, database: &mut Database, script: &str) -> bool {
     let Ok(tokens) = lex(alloc, script) else {
         return false;
     };

@@ -1,0 +1,8 @@
+mod Early
+mod Bounding
+mod Matching
+mod Chaining
+mod Pushing
+mod Opening
+mod Costing
+mod Rooms

@@ -1,0 +1,38 @@
+-- The paths of a table, whichever tables' rows are known.
+use Rattle.std.specs.Prelude.{ℕ, ◌≡◌, Bool, true, false, if◌then◌else◌, List, [], ◌∷◌, map, filter}
+use Rattle.definitions.specs.Table.{Database}
+use Rattle.definitions.specs.Plans.TableSet.{TableSet}
+use Rattle.definitions.specs.Plans.Path as p
+use Rattle.definitions.specs.Queries.BoundBlock.{Block}
+use Rattle.definitions.specs.Estimates.BlockTables.{is_within}
+use Rattle.definitions.specs.Estimates.Cardinality.{path_rows}
+use Rattle.definitions.specs.Estimates.PathCost.{path_cost}
+use Rattle.plans.specs.Plans.{path_of}
+use Rattle.table_sets.specs.Sets.{set_of}
+use Rattle.access_paths.specs.Scans.{ScanCost, scan_cost_of, cost_with}
+use Rattle.access_paths.specs.declared.paths.TablePath.{TablePath}
+
+-- a path, the tables whose rows have to be known for it, and what a scan costs but for the rows that it hands on
+pub record FoundPath : Type 0 where
+  pub path : p.Path
+  pub needs : TableSet
+  pub cost : ScanCost
+
+abbrev pub path_told : TablePath → FoundPath
+path_told x = record { path = path_of x.path; needs = set_of x.needs; cost = scan_cost_of x.cost }
+
+-- the directions of indexes: forward, and backward, too
+abbrev pub directions_with : Bool → List Bool
+directions_with backward = if backward then false ∷ true ∷ [] else false ∷ []
+
+-- those for which no more has to be known
+abbrev pub is_open : TableSet → FoundPath → Bool
+is_open known x = is_within x.needs known
+
+abbrev pub open_paths : TableSet → List TablePath → List p.Path
+open_paths known paths = map (λ (x : FoundPath). x.path) (filter (is_open known) (map path_told paths))
+
+-- where it is open, a scan costs what its path costs
+abbrev pub CostsAsPath : Database → Block → ℕ → FoundPath → Type 0
+CostsAsPath db block table x =
+    (known : TableSet) → is_open known x ≡ true → cost_with x.cost (path_rows db block known table) ≡ path_cost db block known x.path

@@ -1,0 +1,60 @@
+-- The conjuncts that match the columns of an index.
+use Rattle.std.specs.Prelude.{ℕ, Bool, not, ◌&&◌, if◌then◌else◌, bit_or, nat_eq, List, [], ◌∷◌, ◌++◌, length, map, flat_map, filter_map, Option, None, option_map, option_and_then, slice_get}
+use Rattle.std.specs.List.{range_with_len}
+use Rattle.definitions.specs.Plans.TableSet.{TableSet}
+use Rattle.definitions.specs.Plans.Order.{BlockColumn}
+use Rattle.definitions.specs.Queries.BoundBlock.{Condition, Block}
+use Rattle.definitions.specs.Queries.Conjuncts.{conjuncts, is_late}
+use Rattle.access_paths.specs.Bounds.{Bound, bound_of}
+
+-- ---- of one column
+
+-- a conjunct that matches a column, by its number, once the rows of some tables are known
+pub record Match : Type 0 where
+  pub conjunct : ℕ
+  pub equals : Bool
+  pub needs : TableSet
+
+abbrev pub early_bound : BlockColumn → Condition → Option Bound
+early_bound column c = if is_late c then None else bound_of column c
+
+module _ (block : Block) where
+  abbrev pub match_at : BlockColumn → ℕ → Option Match
+  match_at column number =
+      option_map (λ (b : Bound). record { conjunct = number; equals = b.equals; needs = b.needs })
+      (option_and_then (early_bound column) (slice_get (conjuncts block) number))
+
+  -- in the order of the text
+  abbrev pub column_matches : BlockColumn → List Match
+  column_matches column = filter_map (match_at column) (range_with_len 0 (length (conjuncts block)))
+
+-- ---- of columns one after another
+
+-- conjuncts that match the first columns of an index in turn, one each; whether all say what their column equals; and the tables
+-- whose rows have to be known
+pub record Chain : Type 0 where
+  pub conjuncts : List ℕ
+  pub equal : Bool
+  pub needs : TableSet
+
+abbrev pub only_match : Match → Chain
+only_match m = record { conjuncts = m.conjunct ∷ []; equal = m.equals; needs = m.needs }
+
+abbrev pub before : Match → Chain → Chain
+before m c = record { conjuncts = m.conjunct ∷ c.conjuncts; equal = c.equal; needs = bit_or m.needs c.needs }
+
+-- a match alone, and, where it says what its column equals, before each chain of the further columns
+abbrev pub chains_from : List Chain → Match → List Chain
+chains_from others m = only_match m ∷ (if m.equals then map (before m) others else [])
+
+abbrev pub with_column : List Chain → List Match → List Chain
+with_column others matches = flat_map (chains_from others) matches
+
+-- the chains of the columns of an index
+module _ (block : Block) (table : ℕ) where
+  abbrev pub matches_of : ℕ → List Match
+  matches_of number = column_matches block (record { table = table; number = number })
+
+  abbrev pub index_chains : List ℕ → List Chain
+  index_chains [] = []
+  index_chains (number ∷ numbers) = with_column (index_chains numbers) (matches_of number)

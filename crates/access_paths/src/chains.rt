@@ -1,0 +1,109 @@
+//! Matches of the columns of an index, one after another.
+
+ghost use Rattle.std.specs.Prelude.{◌≡◌, ◌<◌, ◌≤◌, ◌++◌, IfOk, OnOk, length, map};
+ghost use Rattle.std.specs.List.{AllByRecursion};
+ghost use Rattle.definitions.specs.Limits.{most_index_columns, most_from_tables};
+ghost use Rattle.bound.specs.Bound.{block_of};
+ghost use Rattle.access_paths.specs.Matches as spec;
+ghost use Rattle.access_paths.specs.Views.{chain_told, match_told};
+
+use crate::matches::{ColumnMatch, column_matches};
+use arrayvec::ArrayVec;
+use bound::BlockColumn;
+use estimate::Estimate;
+use plans::MAX_MATCHED;
+use std::alloc::{AllocError, Global};
+use table_sets::TableSet;
+
+/// Conjuncts that match the first columns of an index in turn, one each; whether all say what their column equals; and the tables
+/// whose rows have to be known.
+#[derive(Drop)]
+pub(crate) struct Chain {
+    pub conjuncts: ArrayVec<usize, MAX_MATCHED>,
+    pub equal: bool,
+    pub needs: TableSet,
+}
+
+/// The chains of the columns of an index (Selinger et al. 1979, section 4: an initial substring of the columns of the index key).
+pub(crate) fn index_chains(
+    alloc: Global,
+    estimate: &Estimate,
+    table: usize,
+    columns: &[usize],
+) -> Result<Vec<Chain>, AllocError>
+    requires short { length columns.now ≤ most_index_columns }
+    ensures exact { IfOk result (λ chains. map chain_told chains.items ≡ spec.index_chains (block_of estimate.now.block) table columns.now) }
+{
+    let mut chains = Vec::new(alloc);
+    let mut rest = columns;
+    'columns: while let Some((number, before)) = rest.split_last() {
+        let column = BlockColumn {
+            table,
+            number: *number,
+        };
+        let matches = column_matches(alloc, estimate, column)?;
+        chains = with_column(alloc, &matches, &chains)?;
+        rest = before;
+    }
+    Ok(chains)
+}
+
+/// The chains of a column and those behind it.
+fn with_column(
+    alloc: Global,
+    matches: &[ColumnMatch],
+    others: &[Chain],
+) -> Result<Vec<Chain>, AllocError>
+    requires room { AllByRecursion (λ (c : spec.Chain). length c.conjuncts < most_index_columns) (map chain_told others.now) }
+    ensures exact { IfOk result (λ chains. map chain_told chains.items ≡ spec.with_column (map chain_told others.now) (map match_told matches.now)) }
+{
+    let mut chains = Vec::new(alloc);
+    'matches: for found in matches {
+        chains.push(only_match(*found))?;
+        if found.equals {
+            push_before(&mut chains, *found, others)?;
+        }
+    }
+    Ok(chains)
+}
+
+fn only_match(found: ColumnMatch) -> Chain
+    ensures exact { chain_told result ≡ spec.only_match (match_told found) }
+{
+    let mut conjuncts = ArrayVec::new();
+    conjuncts.push(found.conjunct);
+    Chain {
+        conjuncts,
+        equal: found.equals,
+        needs: found.needs,
+    }
+}
+
+/// Adds a match before each of some chains.
+fn push_before(
+    chains: &mut Vec<Chain>,
+    found: ColumnMatch,
+    others: &[Chain],
+) -> Result<(), AllocError>
+    requires room { AllByRecursion (λ (c : spec.Chain). length c.conjuncts < most_index_columns) (map chain_told others.now) }
+    ensures exact { OnOk result (map chain_told chains.new.items ≡ map chain_told chains.old.items ++ map (spec.before (match_told found)) (map chain_told others.now)) }
+{
+    'others: for other in others {
+        chains.push(before(found, other)?)?;
+    }
+    Ok(())
+}
+
+/// A match before a chain.
+fn before(found: ColumnMatch, other: &Chain) -> Result<Chain, AllocError>
+    requires room { length (chain_told other.now).conjuncts < most_index_columns }
+    ensures exact { IfOk result (λ chain. chain_told chain ≡ spec.before (match_told found) (chain_told other.now)) }
+{
+    let mut conjuncts = other.conjuncts.clone()?;
+    conjuncts.insert(0, found.conjunct);
+    Ok(Chain {
+        conjuncts,
+        equal: other.equal,
+        needs: found.needs.union(other.needs),
+    })
+}

@@ -1,0 +1,12 @@
+//! Access paths: the ways to read a table of a block where the rows of some tables are known, and what they cost
+//! (Selinger et al. 1979, sections 4 and 5).
+#![tactic(auto)]
+
+mod bounds;
+mod chains;
+mod matches;
+mod paths;
+mod scans;
+
+pub use paths::{TablePath, table_paths};
+pub use scans::ScanCost;

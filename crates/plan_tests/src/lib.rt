@@ -1,0 +1,9 @@
+//! Tests of the crates of the optimiser, on worked figures.
+#![tactic(auto)]
+
+#[cfg(test)]
+mod estimates;
+#[cfg(test)]
+mod orders;
+#[cfg(test)]
+mod paths;
