@@ -6,3 +6,4 @@ mod Pushing
 mod Opening
 mod Costing
 mod Rooms
+mod Reading

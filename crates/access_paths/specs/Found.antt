@@ -1,10 +1,10 @@
 -- The paths of a table, whichever tables' rows are known.
-use Rattle.std.specs.Prelude.{ℕ, ◌≡◌, Bool, true, false, if◌then◌else◌, List, [], ◌∷◌, map, filter}
-use Rattle.definitions.specs.Table.{Database}
+use Rattle.std.specs.Prelude.{ℕ, ◌≡◌, Some, Bool, true, false, if◌then◌else◌, List, [], ◌∷◌, map, filter}
+use Rattle.definitions.specs.Table.{Index, Database}
 use Rattle.definitions.specs.Plans.TableSet.{TableSet}
 use Rattle.definitions.specs.Plans.Path as p
 use Rattle.definitions.specs.Queries.BoundBlock.{Block}
-use Rattle.definitions.specs.Estimates.BlockTables.{is_within}
+use Rattle.definitions.specs.Estimates.BlockTables.{is_within, index_at}
 use Rattle.definitions.specs.Estimates.Cardinality.{path_rows}
 use Rattle.definitions.specs.Estimates.PathCost.{path_cost}
 use Rattle.plans.specs.Plans.{path_of}
@@ -31,6 +31,15 @@ is_open known x = is_within x.needs known
 
 abbrev pub open_paths : TableSet → List TablePath → List p.Path
 open_paths known paths = map (λ (x : FoundPath). x.path) (filter (is_open known) (map path_told paths))
+
+-- it reads the table, as a whole or by one of its indexes
+abbrev pub HasIndex : Database → Block → ℕ → ℕ → Type 0
+HasIndex db block table number = (i : Index) × (index_at db block table number ≡ Some i)
+
+abbrev pub Reads : Database → Block → ℕ → p.Path → Type 0
+Reads db block table (p.SegmentScan read) = read ≡ table
+Reads db block table (p.IndexScan read number backward) = (read ≡ table) × HasIndex db block table number
+Reads db block table (p.MatchingScan read number conjuncts backward) = (read ≡ table) × HasIndex db block table number
 
 -- where it is open, a scan costs what its path costs
 abbrev pub CostsAsPath : Database → Block → ℕ → FoundPath → Type 0

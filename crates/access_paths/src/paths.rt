@@ -12,7 +12,7 @@ ghost use Rattle.definitions.specs.Estimates.Orders.{indexes_at};
 ghost use Rattle.definitions.specs.Estimates.Paths as spec;
 ghost use Rattle.definitions.specs.Estimates.Version.{Version, directions};
 ghost use Rattle.bound.specs.Bound.{block_of};
-ghost use Rattle.access_paths.specs.Found.{path_told, directions_with, open_paths, CostsAsPath};
+ghost use Rattle.access_paths.specs.Found.{path_told, directions_with, open_paths, CostsAsPath, FoundPath, Reads};
 ghost use Rattle.access_paths.specs.Listing.{segment_found, whole_found, matching_found, scans_found, number_found};
 ghost use Rattle.access_paths.specs.Scans.{IsSizeOf};
 ghost use Rattle.access_paths.specs.Matches as matches;
@@ -48,6 +48,7 @@ pub fn table_paths(
     requires table { table < length (block_of estimate.now.block).tables }
     requires indexes { (t : stored.Table) → table_at estimate.now.database (block_of estimate.now.block) table ≡ Some t → AllByRecursion (λ number. number < length t.indexes) indexes.now }
     ensures paths { IfOk result (λ paths. (version : Version) → indexes.now ≡ indexes_at version estimate.now.database (block_of estimate.now.block) table → directions_with backward ≡ directions version → (known : Tables) → open_paths known paths.items ≡ spec.paths_of version estimate.now.database (block_of estimate.now.block) known table) }
+    ensures reads { IfOk result (λ paths. AllByRecursion (λ (x : FoundPath). Reads estimate.now.database (block_of estimate.now.block) table x.path) (map path_told paths.items)) }
     ensures costs { IfOk result (λ paths. AllByRecursion (CostsAsPath estimate.now.database (block_of estimate.now.block) table) (map path_told paths.items)) }
 {
     let mut paths = Vec::new(alloc);

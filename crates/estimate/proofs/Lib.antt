@@ -1,4 +1,4 @@
 pub mod Places
 mod Left
-mod Members
+pub mod Members
 mod Sizes

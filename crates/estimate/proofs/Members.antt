@@ -20,10 +20,10 @@ width_from db block bytes tables = fold (λ a t. a + figure_at db block (λ (t :
 next_table : (table count : ℕ) → table < count → range_with_len table (count - table) ≡ table ∷ range_with_len (table + 1) (count - (table + 1))
 next_table table count h = let e : count - table ≡ suc (count - (table + 1)) = omega arith in ap (range_with_len table) e
 
-one_kept : (tables : TableSet) (table : ℕ) (rest : List ℕ) → has tables table ≡ true → filter (has tables) (table ∷ rest) ≡ table ∷ filter (has tables) rest
+pub one_kept : (tables : TableSet) (table : ℕ) (rest : List ℕ) → has tables table ≡ true → filter (has tables) (table ∷ rest) ≡ table ∷ filter (has tables) rest
 one_kept tables table rest h = rw h refl
 
-one_left_out : (tables : TableSet) (table : ℕ) (rest : List ℕ) → has tables table ≡ false → filter (has tables) (table ∷ rest) ≡ filter (has tables) rest
+pub one_left_out : (tables : TableSet) (table : ℕ) (rest : List ℕ) → has tables table ≡ false → filter (has tables) (table ∷ rest) ≡ filter (has tables) rest
 one_left_out tables table rest h = rw h refl
 
 pub next_member : (tables : TableSet) (table count : ℕ) → table < count → has tables table ≡ true → members_from tables table count ≡ table ∷ members_from tables (table + 1) count

@@ -141,8 +141,9 @@ impl<'a> Estimate<'a> {
         rows
     }
 
-    /// Of the product of some rows with those of one more table, what the conjuncts leave that it completes.
-    fn joined_with(&self, taken: TableSet, rows: u64, table: usize) -> u64
+    /// How many rows a join of some rows with one more table is taken to give: of their product, what the conjuncts leave that it
+    /// completes (section 5: QCARD).
+    pub fn joined_with(&self, taken: TableSet, rows: u64, table: usize) -> u64
         requires { table < length (block_of self.now.block).tables }
         ensures exact { result ≡ spec.joined_with self.now.database (block_of self.now.block) (set_of taken) rows table }
         ensures below { result ≤ limit }
@@ -174,12 +175,13 @@ impl<'a> Estimate<'a> {
         width
     }
 
-    /// How many pages the rows of a set of tables fill.
-    fn pages(&self, tables: TableSet) -> u64
+    /// How many pages the rows of a set of tables fill, where it is known how many they are.
+    fn pages(&self, tables: TableSet, rows: u64) -> u64
+        requires { rows ≡ spec.cardinality self.now.database (block_of self.now.block) (set_of tables) }
         ensures exact { result ≡ spec.pages self.now.database (block_of self.now.block) (set_of tables) }
         ensures below { result ≤ limit }
     {
-        let bytes = u128::from(self.cardinality(tables)) * u128::from(self.width(tables));
+        let bytes = u128::from(rows) * u128::from(self.width(tables));
         saturated(bytes.div_ceil(PAGE_BYTES))
     }
 
@@ -188,7 +190,16 @@ impl<'a> Estimate<'a> {
         ensures exact { result ≡ spec.sort_cost self.now.database (block_of self.now.block) (set_of tables) }
         ensures below { result ≤ limit }
     {
-        saturated(20 * u128::from(self.pages(tables)) + u128::from(self.cardinality(tables)))
+        self.sort_cost_of(tables, self.cardinality(tables))
+    }
+
+    /// What a sort of the rows of a set of tables costs, where it is known how many they are.
+    pub fn sort_cost_of(&self, tables: TableSet, rows: u64) -> u64
+        requires { rows ≡ spec.cardinality self.now.database (block_of self.now.block) (set_of tables) }
+        ensures exact { result ≡ spec.sort_cost self.now.database (block_of self.now.block) (set_of tables) }
+        ensures below { result ≤ limit }
+    {
+        saturated(20 * u128::from(self.pages(tables, rows)) + u128::from(rows))
     }
 }
 

@@ -2,6 +2,7 @@
 
 use catalog::Database;
 use estimate::Estimate;
+use set_figures::SetFigures;
 use std::alloc::Global;
 use std::test::Fail;
 use table_sets::TableSet;
@@ -50,13 +51,15 @@ fn conditions_have_their_shares(rt: HostRuntime) -> Result<(), Fail> {
     Ok(())
 }
 
-/// The rows of both tables, of the second for a known row of the first, and what sorts of the first, the second and both cost.
-fn figures(alloc: Global, database: &Database, query: &str) -> Option<[u64; 5]> {
+/// The rows of both tables, of the second for a known row of the first, and what sorts of the first, the second and both cost; and
+/// as they are made at once for all sets, the rows of no table and of both, and what a sort of both costs.
+fn figures(alloc: Global, database: &Database, query: &str) -> Option<[u64; 8]> {
     let block = block(alloc, database, query)?;
     let estimate = Estimate::new(alloc, database, &block).ok()?;
-    if estimate.table_count() < 2 {
+    if estimate.table_count() != 2 {
         return None;
     }
+    let made = SetFigures::new(alloc, &estimate).ok()?;
     let both = TableSet::first(2);
     Some([
         estimate.cardinality(both),
@@ -64,6 +67,9 @@ fn figures(alloc: Global, database: &Database, query: &str) -> Option<[u64; 5]> 
         estimate.sort_cost(TableSet::only(0)),
         estimate.sort_cost(TableSet::only(1)),
         estimate.sort_cost(both),
+        made.cardinality(TableSet::none()),
+        made.cardinality(both),
+        made.sort_cost(both),
     ])
 }
 
@@ -74,15 +80,15 @@ fn sets_of_tables_have_their_rows(rt: HostRuntime) -> Result<(), Fail> {
     for (query, wanted) in [
         (
             "SELECT P, Q FROM T1, T2 WHERE X = Y;",
-            [10_000, 100, 120, 1080, 11_580],
+            [10_000, 100, 120, 1080, 11_580, 1, 10_000, 11_580],
         ),
         (
             "SELECT P, Q FROM T1, T2;",
-            [100_000, 1000, 120, 1080, 115_640],
+            [100_000, 1000, 120, 1080, 115_640, 1, 100_000, 115_640],
         ),
         (
             "SELECT P, Q FROM T1, T2 WHERE X = Y AND P = 1;",
-            [1000, 100, 30, 1080, 1160],
+            [1000, 100, 30, 1080, 1160, 1, 1000, 1160],
         ),
     ] {
         assert_eq!(rt; figures(rt.alloc(), &database, query), Some(wanted));

@@ -7,3 +7,5 @@ mod estimates;
 mod orders;
 #[cfg(test)]
 mod paths;
+#[cfg(test)]
+mod uses;

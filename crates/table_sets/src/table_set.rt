@@ -1,8 +1,9 @@
 //! Sets of tables.
 
-ghost use Rattle.std.specs.Prelude.{◌≡◌, ◌<◌, ◌≤◌, ◌==◌, ◌^◌, bit_or};
+ghost use Rattle.std.specs.Prelude.{ℕ, ◌≡◌, ◌<◌, ◌≤◌, ◌==◌, ◌^◌, bit_or};
+ghost use Rattle.std.specs.Bool.{Decides};
 ghost use Rattle.definitions.specs.Limits.{most_from_tables};
-ghost use Rattle.definitions.specs.Plans.TableSet.{no_tables, only, with_table, first_tables};
+ghost use Rattle.definitions.specs.Plans.TableSet.{Has, no_tables, only, with_table, first_tables};
 ghost use Rattle.definitions.specs.Estimates.BlockTables.{has, is_within};
 
 /// How many tables the FROM of a block may have (own).
@@ -88,6 +89,13 @@ impl TableSet {
         TableSet {
             bits: self.bits | other.bits,
         }
+    }
+
+    /// Whether two sets have a table in common.
+    pub fn meets(self, other: TableSet) -> bool
+        ensures { Decides result ((table : ℕ) × Has (set_of self) table × Has (set_of other) table) }
+    {
+        self.bits & other.bits != 0
     }
 
     /// Whether all tables of the set are in another.

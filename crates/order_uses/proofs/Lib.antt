@@ -1,0 +1,10 @@
+mod Each
+mod Growing
+mod Stated
+mod Serving
+mod Merging
+mod Opening
+mod Partners
+mod Going
+mod Reaching
+mod Numbered

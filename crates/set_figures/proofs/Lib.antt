@@ -1,0 +1,3 @@
+mod LastTable
+mod Taking
+mod Made

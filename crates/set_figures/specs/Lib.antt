@@ -1,0 +1,3 @@
+pub use Rattle.definitions.specs.Estimates
+pub mod Figures
+pub mod Sets

@@ -1,0 +1,4 @@
+mod Sets
+mod Linking
+mod Linked
+mod Following

@@ -1,0 +1,3 @@
+pub use Rattle.definitions.specs.Plans.PlanSpace
+pub mod Linked
+pub mod Links
