@@ -8,3 +8,4 @@ mod Partners
 mod Going
 mod Reaching
 mod Numbered
+mod Sorting

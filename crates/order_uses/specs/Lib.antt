@@ -5,3 +5,4 @@ pub mod Reach
 pub mod Merges
 pub mod Equated
 pub mod Uses
+pub mod Sorts

@@ -5,6 +5,8 @@ mod equated;
 mod order_use;
 mod places;
 mod reach;
+mod sorts;
 mod uses;
 
+pub use sorts::Sorts;
 pub use uses::OrderUses;

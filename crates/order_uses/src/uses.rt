@@ -12,11 +12,13 @@ ghost use Rattle.plans.specs.Plans.{order_of, orders_in};
 ghost use Rattle.table_sets.specs.Sets.{set_of};
 ghost use Rattle.order_uses.specs.Merges.{GoesBy, IsMergedWith, IsWithin};
 ghost use Rattle.order_uses.specs.Equated.{places_in};
+ghost use Rattle.order_uses.specs.Sorts.{AreSorts};
 ghost use Rattle.order_uses.specs.declared.order_use.OrderUse.{OrderUse};
 
 use crate::equated::EquatedColumns;
 use crate::order_use::{OrderUse, order_uses};
 use crate::reach::are_within;
+use crate::sorts::Sorts;
 use estimate::PlanConjunct;
 use plans::SortKey;
 use std::alloc::{AllocError, Global};
@@ -118,6 +120,24 @@ impl OrderUses {
         ensures { (space : Space) → AreUses space self.now → Decides result (IsOver space (set_of tables) order) }
     {
         order < self.orders.len() && are_within(self.at(order).tables, tables)
+    }
+
+    /// The orders into which rows of a set of tables may be sorted. One step looks at each order as it comes to it.
+    pub fn sorts(&self, tables: TableSet) -> Sorts<'_>
+        ensures { (space : Space) → AreUses space self.now → AreSorts space (set_of tables) result }
+    {
+        match self.orders.split_first() {
+            Some((_, rest)) => Sorts::new(rest, self.orders.len(), tables),
+            None => Sorts::new(&[], 0, tables),
+        }
+    }
+
+    /// Whether rows of plans on a set of tables in one order are in another, too. It goes through the keys.
+    pub fn satisfies(&self, tables: TableSet, order: &[SortKey], wanted: &[SortKey]) -> bool
+        requires set { set_of tables < sets_in self.now }
+        ensures { (space : Space) → AreUses space self.now → Decides result (Satisfies space (set_of tables) (order_of order.now) (order_of wanted.now)) }
+    {
+        self.equated.satisfies(tables, order, wanted)
     }
 
     /// Whether an order of a set of tables goes by the set's column of a merge conjunct, by which a table comes next.

@@ -8,4 +8,6 @@ mod orders;
 #[cfg(test)]
 mod paths;
 #[cfg(test)]
+mod spaces;
+#[cfg(test)]
 mod uses;

@@ -17,6 +17,10 @@ const TWO_TABLES: &str = "CREATE TABLE T1 (X INTEGER, P INTEGER);
 const TWO_COLUMNS: &str = "CREATE TABLE T (A INTEGER, B INTEGER, C INTEGER);
     CREATE INDEX ON T (A, B); CREATE INDEX ON T (C);";
 
+/// Indexes that aren't made in the order of their columns.
+const LATER_FIRST: &str = "CREATE TABLE T (A INTEGER, B INTEGER, C INTEGER);
+    CREATE INDEX ON T (C); CREATE INDEX ON T (A, B); CREATE INDEX ON T (A);";
+
 const THREE_TABLES: &str = "CREATE TABLE A (X INTEGER); CREATE TABLE C (Z INTEGER);
     CREATE TABLE B (P INTEGER, Q INTEGER); CREATE UNIQUE INDEX ON B (P, Q);";
 
@@ -116,6 +120,18 @@ fn orders_have_numbers(rt: HostRuntime) -> Result<(), Fail> {
             "SELECT A, B FROM T WHERE A = 7 ORDER BY A DESC, B DESC;",
             Version::One,
             "| -0.0 -0.1 | +0.2 | ",
+        ),
+        (
+            LATER_FIRST,
+            "SELECT B FROM T;",
+            Version::One,
+            "| +0.0 | +0.2 | ",
+        ),
+        (
+            LATER_FIRST,
+            "SELECT B FROM T;",
+            Version::Two,
+            "| +0.2 | -0.2 | +0.0 +0.1 | -0.0 -0.1 | +0.0 | -0.0 | ",
         ),
         (
             THREE_TABLES,

@@ -28,7 +28,7 @@ const JOINED: &str = "CREATE TABLE T1 (X INTEGER, P INTEGER); CREATE TABLE T (Y 
     SET STATISTICS T (Y) KEYS 1000 PAGES 10;";
 
 /// A path with numbers from 0, and its cost.
-fn spelled(alloc: Global, path: &Path, cost: u64) -> Result<String, AllocError> {
+pub(crate) fn spelled(alloc: Global, path: &Path, cost: u64) -> Result<String, AllocError> {
     match path {
         Path::Segment { table } => format!(in alloc; "SEG {table}: {cost}; "),
         Path::Index {

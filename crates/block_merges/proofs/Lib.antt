@@ -1,0 +1,5 @@
+pub mod Sides
+mod Ways
+mod Adding
+mod Walking
+mod Opening

@@ -1,0 +1,4 @@
+pub mod AccessRule
+pub mod JoinRule
+pub mod SortRule
+pub mod Listed

@@ -1,0 +1,9 @@
+use Rattle.plan_space.specs.Planned.{space_in}
+use Rattle.std.proofs.Common.{ℕ, ◌<◌, get_or}
+use Rattle.cert_check.specs.Checks.{IsFinal}
+use Rattle.certificate.specs.declared.states.State.{State}
+use Rattle.certificate.specs.Certificates.{state_of}
+use Rattle.cert_check.proofs.target.final_order.Given as goal
+
+abbrev pub invariant-states : goal.invariant-states
+invariant-states l = (i : ℕ) (d : State) → i < l.state-index → IsFinal (space_in l.space) (state_of (get_or l.state-items i d)).tables (get_or l.state-items i d).order → ⊥

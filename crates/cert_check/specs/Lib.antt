@@ -1,0 +1,3 @@
+pub use Rattle.definitions.specs.Plans.Checking
+pub mod Checks
+pub mod Verdicts

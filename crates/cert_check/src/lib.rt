@@ -1,0 +1,12 @@
+//! A checker of certificates, which knows of no search.
+#![tactic(auto)]
+
+mod accesses;
+mod joins;
+mod rules;
+mod sorts;
+mod target;
+mod verdict;
+
+pub use rules::check;
+pub use verdict::{Place, Rule, Verdict};

@@ -1,0 +1,60 @@
+//! The check of a certificate.
+
+ghost use Rattle.definitions.specs.Plans.Certificate.{IsCertificate};
+ghost use Rattle.definitions.specs.Plans.Checking.{IsVerdict};
+ghost use Rattle.plans.specs.Plans.{plan_of};
+ghost use Rattle.certificate.specs.Certificates.{certificate_of};
+ghost use Rattle.cert_check.specs.Verdicts.{verdict_of};
+ghost use Rattle.plan_space.specs.Planned.{space_in};
+
+use crate::accesses::access_failing;
+use crate::joins::join_failing;
+use crate::sorts::sort_failing;
+use crate::target::{final_order, is_met};
+use crate::verdict::{Place, Rule, Verdict};
+use certificate::Certificate;
+use plan_space::Space;
+use plans::Plan;
+use table_sets::TableSet;
+
+/// Whether a certificate shows that a plan is least; if not, the first rule that fails and a state where it does (own). It takes no
+/// memory, and looks at each step from each listed state once.
+pub fn check(space: &Space<'_>, plan: &Plan, certificate: &Certificate) -> Verdict
+    requires { IsCertificate (space_in space.now) (certificate_of certificate.now) }
+    ensures { IsVerdict (space_in space.now) (certificate_of certificate.now) (plan_of plan.now) (verdict_of result) }
+{
+    if let Some(place) = access_failing(space, certificate) {
+        return Verdict::Refused {
+            rule: Rule::Accesses,
+            place,
+        };
+    }
+    if let Some(place) = join_failing(space, certificate) {
+        return Verdict::Refused {
+            rule: Rule::Joins,
+            place,
+        };
+    }
+    if let Some(place) = sort_failing(space, certificate) {
+        return Verdict::Refused {
+            rule: Rule::Sorts,
+            place,
+        };
+    }
+    let tables = TableSet::first(space.table_count());
+    if let Some(order) = final_order(space, certificate, tables) {
+        let place = Place { tables, order };
+        return Verdict::Refused {
+            rule: Rule::Target,
+            place,
+        };
+    }
+    if !is_met(space, plan, certificate, tables) {
+        let place = Place { tables, order: 0 };
+        return Verdict::Refused {
+            rule: Rule::Target,
+            place,
+        };
+    }
+    Verdict::Pass
+}

@@ -1,0 +1,50 @@
+//! The rule of sorts.
+
+ghost use Rattle.std.specs.Prelude.{◌≡◌, ◌<◌, ◌^◌, MatchOption};
+ghost use Rattle.std.specs.Bool.{Decides};
+ghost use Rattle.definitions.specs.Plans.Certificate.{bound, IsCertificate, IsListed};
+ghost use Rattle.definitions.specs.Plans.Checking.{SortFails};
+ghost use Rattle.definitions.specs.Plans.Validity.{SortsHold};
+ghost use Rattle.table_sets.specs.Sets.{set_of};
+ghost use Rattle.certificate.specs.Certificates.{certificate_of};
+ghost use Rattle.plan_space.specs.Planned.{space_in};
+
+use crate::verdict::Place;
+use certificate::{Certificate, State};
+use estimate::saturated;
+use plan_space::Space;
+
+/// The first listed state from which a sort leads below the bound of the state that it reaches.
+pub(crate) fn sort_failing(space: &Space<'_>, certificate: &Certificate) -> Option<Place>
+    requires { IsCertificate (space_in space.now) (certificate_of certificate.now) }
+    ensures { MatchOption result (SortsHold (space_in space.now) (certificate_of certificate.now))
+        (λ p. IsListed (certificate_of certificate.now) (set_of p.tables) p.order
+        × SortFails (space_in space.now) (certificate_of certificate.now) (set_of p.tables) p.order) }
+{
+    'states: for state in &certificate.states {
+        if sort_fails_at(space, certificate, *state) {
+            return Some(Place {
+                tables: state.tables,
+                order: state.order,
+            });
+        }
+    }
+    None
+}
+
+/// Whether a sort from a listed state does.
+fn sort_fails_at(space: &Space<'_>, certificate: &Certificate, state: State) -> bool
+    requires form { IsCertificate (space_in space.now) (certificate_of certificate.now) }
+    requires set { set_of state.tables < 2 ^ (space_in space.now).table_count }
+    requires bound { state.cost ≡ bound (certificate_of certificate.now) (set_of state.tables) state.order }
+    ensures { Decides result (SortFails (space_in space.now) (certificate_of certificate.now) (set_of state.tables) state.order) }
+{
+    let sorted = saturated(u128::from(state.cost) + u128::from(space.sort_cost(state.tables)));
+    'orders: for order in space.sorts(state.tables) {
+        let folded = space.fold(state.tables, order);
+        if sorted < certificate.bound(state.tables, folded) {
+            return true;
+        }
+    }
+    false
+}

@@ -1,0 +1,3 @@
+pub use Rattle.definitions.specs.Plans.Certificate
+pub mod Preceding
+pub mod Certificates

@@ -1,0 +1,157 @@
+-- Accesses and joins of a table, one after another.
+use Rattle.std.proofs.Common.{◌≡◌, ◌∙◌, ℕ, ◌*◌, ◌<◌, ◌≤◌, List, ◌∷◌, Option, None, length, arith, refl, sym, ap, subst}
+use Rattle.std.specs.List.{AllByRecursion}
+use Rattle.definitions.specs.Plans.TableSet.{only, with_table}
+use Rattle.definitions.specs.Plans.Path.{Path}
+use Rattle.definitions.specs.Plans.Plan.{Inner}
+use Rattle.definitions.specs.Plans.Space.{Space}
+use Rattle.definitions.specs.Plans.PlanSpace.{MayFollow}
+use Rattle.definitions.specs.Plans.Folding.{Folds}
+use Rattle.definitions.specs.Plans.Cost.{saturated, merge_cost}
+use Rattle.definitions.proofs.PlanTheory.Orders.{folds_once}
+use Rattle.block_paths.specs.Item.{Item, AreItems}
+use Rattle.block_merges.specs.Merge.{Merge as MergeItem, IsMergeItem, AreMerges}
+use Rattle.plan_space.proofs.Lists.{has_each, head_has, both}
+use Rattle.plan_space.proofs.PathItems.{IsPathItem, each_path, found_item}
+use Rattle.join_dp.specs.Steps.{Join, Loop, Merge, AccessOf, Candidate}
+use Rattle.join_dp.specs.Joining.{IsJoin, IsAdded}
+use Rattle.join_dp.specs.Rows.{Row, cost_at, offered, Below}
+use Rattle.join_dp.specs.Solving.{Solved, IsUnsorted, AreUnsorted, LowByAccesses, LowByJoin}
+use Rattle.join_dp.proofs.Found.{improved_size, below_same, below_trans, LeadsLow, goes_low}
+use Rattle.join_dp.proofs.Offering.{offered_below, offered_low, offered_unsorted}
+
+module _ (space : Space) (table : ℕ) where
+  -- ---- accesses
+
+  abbrev pub AccessSeen : List (Option Candidate) → Item → Type 0
+  AccessSeen row item = (folded : ℕ) → Folds space (only table) item.order folded → cost_at row folded ≤ item.cost
+
+  pub record Accessed (old row : List (Option Candidate)) (items : List Item) : Type 0 where
+    pub size : length row ≡ length space.orders
+    pub made : (states : List Solved) → AreUnsorted space states (only table) old → AreUnsorted space states (only table) row
+    pub below : Below row old
+    pub leads : LeadsLow (IsPathItem space 0 table) AccessSeen (LowByAccesses space table) row items
+
+  pub accesses_begin : (row : List (Option Candidate)) (items : List Item) → length row ≡ length space.orders → AreItems space 0 table items → Accessed row row items
+  accesses_begin row items size are = record {
+    size = size;
+    made = λ states made. made;
+    below = below_same row;
+    leads = (each, λ later below all path folded at there folds. of_item later path folded folds (found_item space 0 table items (λ (item : Item). IsPathItem space 0 table item × AccessSeen later item) are (both (IsPathItem space 0 table) (AccessSeen later) items each all) path at there));
+  }
+    where
+      each : AllByRecursion (IsPathItem space 0 table) items
+      each = each_path space 0 table items are
+
+      of_item : (later : List (Option Candidate)) (path : Path) (folded : ℕ) → Folds space (only table) (space.path_order path) folded → (item : Item) × (IsPathItem space 0 table item × AccessSeen later item) × (item.path ≡ path) → cost_at later folded ≤ space.path_cost 0 path
+      of_item later path folded folds (item, (right, seen), is) =
+          let o : item.order ≡ space.path_order path = rw is at right.0.order in
+          let c : item.cost ≡ space.path_cost 0 path = rw is at right.0.cost in
+          rw c at (seen folded (rw o folds))
+
+  pub access_within : (old row : List (Option Candidate)) (items rest : List Item) (item : Item) (f : ℕ) → items ≡ item ∷ rest → f ≤ item.order → Accessed old row items → f < length row
+  access_within old row items rest item f is le s =
+      let right = head_has (IsPathItem space 0 table) items rest item is s.leads.0 in
+      omega (arith, right.0.numbered, s.size, le)
+
+  pub accesses_go : (old : List (Option Candidate)) (row row' : Row) (items rest : List Item) (item : Item) (f : ℕ) → table < space.table_count → items ≡ item ∷ rest → f ≤ item.order → Folds space (only table) item.order f
+      → Accessed old row.found items → row' ≡ offered row f (record { step = AccessOf item.path; sorted = None; cost = item.cost }) → Accessed old row'.found rest
+  accesses_go old row row' items rest item f lt is le folds s e = record {
+    size = ap (λ (r : Row). length r.found) e ∙ improved_size row.found f candidate ∙ s.size;
+    made = λ states made. offered_unsorted space states (only table) row row' f candidate e within (s.made states made) (fits states);
+    below = below_trans _ _ _ below s.below;
+    leads = goes_low (IsPathItem space 0 table) AccessSeen (LowByAccesses space table) row.found row'.found items rest item is s.leads below
+        (λ later b folded folds'. let once : f ≡ folded = folds_once space (only table) item.order f folded folds folds' in let l = b.lower f in let h = offered_low row row' f candidate e within in rw (← once) (omega (arith, l, h)));
+  }
+    where
+      candidate : Candidate
+      candidate = record { step = AccessOf item.path; sorted = None; cost = item.cost }
+
+      right : IsPathItem space 0 table item
+      right = head_has (IsPathItem space 0 table) items rest item is s.leads.0
+
+      within : f < length row.found
+      within = access_within old row.found items rest item f is le s
+
+      below : Below row'.found row.found
+      below = offered_below row row' f candidate e within right.0.small
+
+      fits : (states : List Solved) → IsUnsorted space states (only table) f candidate
+      fits states = record {
+        small = right.0.small;
+        unsorted = refl;
+        made = (rw right.0.reads lt, right.1, ap only (sym right.0.reads), rw right.0.order at folds, right.0.cost);
+      }
+
+module _ (space : Space) (states : List Solved) (s table : ℕ) where
+  -- ---- loops
+
+  abbrev pub LoopSeen : List (Option Candidate) → Item → Type 0
+  LoopSeen row item = LowByJoin space states s table (Loop item.path) row
+
+  abbrev pub LowByLoops : List (Option Candidate) → Type 0
+  LowByLoops row = (path : Path) → IsJoin space s table (Loop path) → LowByJoin space states s table (Loop path) row
+
+  pub join_low_later : (join : Join) (later row : List (Option Candidate)) → Below later row → LowByJoin space states s table join row → LowByJoin space states s table join later
+  join_low_later join later row below low place within on folded goes folds = let l = below.lower folded in let h = low place within on folded goes folds in omega (arith, l, h)
+
+  pub record Looped (old row : List (Option Candidate)) (items : List Item) : Type 0 where
+    pub made : AreUnsorted space states (with_table s table) row
+    pub below : Below row old
+    pub leads : LeadsLow (IsPathItem space s table) LoopSeen LowByLoops row items
+
+  pub loops_begin : (row : List (Option Candidate)) (items : List Item) → AreUnsorted space states (with_table s table) row → AreItems space s table items → Looped row row items
+  loops_begin row items made are = record {
+    made = made;
+    below = below_same row;
+    leads = (each_path space s table items are, λ later below all path is. of_item later path (found_item space s table items (LoopSeen later) are all path is.0 is.1));
+  }
+    where
+      of_item : (later : List (Option Candidate)) (path : Path) → (item : Item) × LoopSeen later item × (item.path ≡ path) → LowByJoin space states s table (Loop path) later
+      of_item later path (item, seen, is) = subst (λ p. LowByJoin space states s table (Loop p) later) is seen
+
+  pub loops_go : (old row row' : List (Option Candidate)) (items rest : List Item) (item : Item) → items ≡ item ∷ rest → Looped old row items
+      → AreUnsorted space states (with_table s table) row' → Below row' row → LoopSeen row' item → Looped old row' rest
+  loops_go old row row' items rest item is so_far made below low = record {
+    made = made;
+    below = below_trans row' row old below so_far.below;
+    leads = goes_low (IsPathItem space s table) LoopSeen LowByLoops row row' items rest item is so_far.leads below (λ later b. join_low_later (Loop item.path) later row' b low);
+  }
+
+  pub loop_added : (item : Item) (cardinality n added : ℕ) → MayFollow space s table → IsPathItem space s table item → n ≡ cardinality → cardinality ≡ space.cardinality s → (cost : ℕ) → cost ≡ item.cost → added ≡ saturated (n * cost) → IsAdded space s table (Loop item.path) added
+  loop_added item cardinality n added follows right a b cost d e = record {
+    follows = follows;
+    is_join = (right.0.reads, right.1);
+    cost = rw (← b, ← right.0.cost, ← d, ← a) e;
+  }
+
+  -- ---- merges
+
+  abbrev pub MergeSeen : List (Option Candidate) → MergeItem → Type 0
+  MergeSeen row item = LowByJoin space states s table (Merge item.conjunct item.inner) row
+
+  abbrev pub LowByMerges : List (Option Candidate) → Type 0
+  LowByMerges row = (number : ℕ) (inner : Inner) → IsJoin space s table (Merge number inner) → LowByJoin space states s table (Merge number inner) row
+
+  pub record Merged (old row : List (Option Candidate)) (items : List MergeItem) : Type 0 where
+    pub made : AreUnsorted space states (with_table s table) row
+    pub below : Below row old
+    pub leads : LeadsLow (IsMergeItem space s table) MergeSeen LowByMerges row items
+
+  pub merges_begin : (row : List (Option Candidate)) (items : List MergeItem) → AreUnsorted space states (with_table s table) row → AreMerges space s table items → Merged row row items
+  merges_begin row items made are = record {
+    made = made;
+    below = below_same row;
+    leads = (are.each, λ later below all number inner is. has_each (MergeSeen later) items (record { conjunct = number; inner = inner; cost = merge_cost space s number inner }) all (are.all number inner is));
+  }
+
+  pub merges_go : (old row row' : List (Option Candidate)) (items rest : List MergeItem) (item : MergeItem) → items ≡ item ∷ rest → Merged old row items
+      → AreUnsorted space states (with_table s table) row' → Below row' row → MergeSeen row' item → Merged old row' rest
+  merges_go old row row' items rest item is so_far made below low = record {
+    made = made;
+    below = below_trans row' row old below so_far.below;
+    leads = goes_low (IsMergeItem space s table) MergeSeen LowByMerges row row' items rest item is so_far.leads below (λ later b. join_low_later (Merge item.conjunct item.inner) later row' b low);
+  }
+
+  pub merge_added : (item : MergeItem) → MayFollow space s table → IsMergeItem space s table item → IsAdded space s table (Merge item.conjunct item.inner) item.cost
+  merge_added item follows right = record { follows = follows; is_join = right.is_merge; cost = right.cost }

@@ -1,0 +1,16 @@
+pub mod Found
+pub mod Least
+pub mod LessSets
+pub mod Offering
+pub mod Leading
+pub mod Sorting
+pub mod Lasting
+pub mod Entries
+pub mod RowSteps
+pub mod Sizes
+pub mod Planning
+pub mod Growing
+pub mod Ending
+pub mod Indexed
+pub mod Finals
+pub mod Counted

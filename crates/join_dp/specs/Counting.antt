@@ -1,0 +1,42 @@
+-- How many steps a search may take (own).
+use Rattle.std.specs.Prelude.{ℕ, zero, suc, ◌+◌, ◌-◌, ◌*◌, ◌^◌, ◌<◌, ◌≤◌, if◌then◌else◌, ◌==◌, List, length, get_or}
+use Rattle.definitions.specs.Estimates.BlockTables.{has}
+use Rattle.definitions.specs.Plans.TableSet.{TableSet, no_tables}
+use Rattle.definitions.specs.Plans.Order.{OrderNumber}
+use Rattle.definitions.specs.Plans.Space.{Space, whole}
+use Rattle.definitions.specs.Plans.PlanSpace.{MayFollow}
+use Rattle.block_merges.specs.Merge.{Merge as MergeItem, AreMerges}
+use Rattle.order_uses.specs.Sorts.{AreSorts}
+
+-- a set has at most so many states, by where the sets begin
+abbrev pub AreFew : ℕ → List ℕ → Type 0
+AreFew most starts = (tables : ℕ) → tables + 1 < length starts → get_or starts (tables + 1) 0 ≤ get_or starts tables 0 + most
+
+module _ (space : Space) (sorts : TableSet → ℕ) (joins : TableSet → ℕ → ℕ) where
+  -- no more sorts of a set, and joins of it with a table that may follow, than so many
+  pub record AreCounts : Type 0 where
+    pub of_sorts : (tables : TableSet) (orders : List OrderNumber) → AreSorts space tables orders → length orders ≤ sorts tables
+    pub of_joins : (tables : TableSet) (table : ℕ) (merges : List MergeItem) → MayFollow space tables table → AreMerges space tables table merges
+        → length (space.paths tables table) + length merges ≤ joins tables table
+
+  -- the steps by which a table comes last to a set: its accesses, or its joins on top of each state of the set without it
+  abbrev pub most_last : TableSet → ℕ → ℕ
+  most_last tables table =
+      if has tables table then (if tables - 2 ^ table == no_tables then length (space.paths no_tables table) else length space.orders * joins (tables - 2 ^ table) table)
+      else 0
+
+  -- of the first tables
+  abbrev pub most_lasts : TableSet → ℕ → ℕ
+  most_lasts tables zero = 0
+  most_lasts tables (suc table) = most_lasts tables table + most_last tables table
+
+  -- to a set, and to all sets up to one
+  abbrev pub most_to : TableSet → ℕ
+  most_to tables = most_lasts tables space.table_count + sorts tables
+
+  abbrev pub most_up_to : TableSet → ℕ
+  most_up_to zero = 0
+  most_up_to (suc tables) = most_up_to tables + most_to (suc tables)
+
+  abbrev pub most_steps : ℕ
+  most_steps = most_up_to (whole space)

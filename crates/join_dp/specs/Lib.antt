@@ -1,0 +1,12 @@
+pub mod Steps
+pub mod Rows
+pub mod Joining
+pub mod Solving
+pub mod Indexing
+pub mod Views
+pub mod States
+pub mod Solved
+pub mod Words
+pub mod Planned
+pub mod Final
+pub mod Counting

@@ -1,0 +1,35 @@
+-- Plans by their last steps.
+use Rattle.std.specs.Prelude.{ℕ, Option, Some, None, nat_lt, if◌then◌else◌}
+use Rattle.definitions.specs.Plans.Order.{OrderNumber}
+use Rattle.definitions.specs.Plans.Path.{Path, table_of}
+use Rattle.definitions.specs.Plans.Plan as plan
+
+-- a loop over a path, or a merge by a conjunct
+pub data Join : Type 0 where
+  Loop : (path : Path) → Join
+  Merge : (number : ℕ) (inner : plan.Inner) → Join
+
+-- an access, or a join on top of the plan of the state at a place
+pub data Step : Type 0 where
+  AccessOf : (path : Path) → Step
+  JoinOn : (from : ℕ) (join : Join) → Step
+
+-- a plan by its last step, the order that it is sorted into behind that, and its cost
+pub record Candidate : Type 0 where
+  pub step : Step
+  pub sorted : Option OrderNumber
+  pub cost : ℕ
+
+abbrev pub table_in : Join → ℕ
+table_in (Loop path) = table_of path
+table_in (Merge number inner) = table_of inner.path
+
+-- a plan and a join on top of it
+abbrev pub joined : plan.Plan → Join → plan.Plan
+joined outer (Loop path) = plan.Loop outer path
+joined outer (Merge number inner) = plan.Merge outer number inner
+
+-- the one that costs less, the first where both cost the same
+abbrev pub better : Option Candidate → Candidate → Candidate
+better None candidate = candidate
+better (Some known) candidate = if nat_lt candidate.cost known.cost then candidate else known

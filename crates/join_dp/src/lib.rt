@@ -1,0 +1,13 @@
+//! The search for a least plan, by the sets of tables that plans are on (Selinger et al. 1979, section 5).
+#![tactic(auto)]
+
+mod cheapest;
+mod filling;
+mod plan;
+mod row;
+mod search;
+mod solve;
+mod states;
+mod step;
+
+pub use search::{Tried, optimise};

@@ -1,0 +1,80 @@
+//! Plans of solved states, by their last steps.
+
+ghost use Rattle.std.specs.Prelude.{◌≡◌, ◌<◌, IfOk, length};
+ghost use Rattle.definitions.specs.Plans.Space.{Space};
+ghost use Rattle.plan_space.specs.Laws.{IsSpace};
+ghost use Rattle.plans.specs.Plans.{path_of, plan_of};
+ghost use Rattle.join_dp.specs.Planned.{AreFromBefore, IsPlanAt, IsStepPlanAt};
+ghost use Rattle.join_dp.specs.Solving.{AllMade};
+ghost use Rattle.join_dp.specs.States.{states_in};
+ghost use Rattle.join_dp.specs.Steps.{joined};
+ghost use Rattle.join_dp.specs.Views.{join_of};
+
+use crate::states::States;
+use crate::step::{Join, Step};
+use plans::{Inner, Path, Plan};
+use std::alloc::{AllocError, Global};
+
+/// The plan of the state at a place.
+#[cycle(plans)]
+pub(crate) fn plan_at(alloc: Global, states: &States<'_>, place: usize) -> Result<Plan, AllocError>
+    requires place { place < length (states_in states.now) }
+    requires before { AreFromBefore (states_in states.now) }
+    ensures { (space : Space) → IsSpace space → AllMade space (states_in states.now) → IfOk result (λ plan. IsPlanAt space (states_in states.now) place (plan_of plan)) }
+{
+    let plan = step_plan(alloc, states, place)?;
+    match states.at(place).found.sorted {
+        None => Ok(plan),
+        Some(order) => Ok(Plan::Sort {
+            input: Box::new(alloc, plan)?,
+            order,
+        }),
+    }
+}
+
+/// The same without the sort behind its last step.
+#[cycle(plans)]
+fn step_plan(alloc: Global, states: &States<'_>, place: usize) -> Result<Plan, AllocError>
+    requires place { place < length (states_in states.now) }
+    requires before { AreFromBefore (states_in states.now) }
+    ensures { (space : Space) → IsSpace space → AllMade space (states_in states.now) → IfOk result (λ plan. IsStepPlanAt space (states_in states.now) place (plan_of plan)) }
+{
+    match states.at(place).found.step {
+        Step::Access { path } => Ok(Plan::Access(copied(path)?)),
+        Step::Join { from, join } => {
+            let outer = Box::new(alloc, plan_at(alloc, states, from)?)?;
+            joined_plan(outer, join)
+        }
+    }
+}
+
+/// A plan and a join on top of it.
+fn joined_plan(outer: Box<Plan>, join: Join<'_>) -> Result<Plan, AllocError>
+    ensures { IfOk result (λ plan. plan_of plan ≡ joined (plan_of outer.value) (join_of join.entry)) }
+{
+    match join {
+        Join::Loop { path } => Ok(Plan::Loop {
+            outer,
+            path: copied(path)?,
+        }),
+        Join::Merge {
+            conjunct,
+            path,
+            sorted,
+        } => Ok(Plan::Merge {
+            outer,
+            conjunct,
+            inner: Inner {
+                path: copied(path)?,
+                sorted,
+            },
+        }),
+    }
+}
+
+/// The same path once more.
+fn copied(path: &Path) -> Result<Path, AllocError>
+    ensures { IfOk result (λ p. path_of p ≡ path_of path.now) }
+{
+    path.clone()
+}

@@ -1,0 +1,80 @@
+//! A least plan, with its certificate.
+
+ghost use Rattle.std.specs.Prelude.{ℕ, ◌+◌, ◌*◌, ◌≤◌, ◌≡◌, List, IfOk, length, map};
+ghost use Rattle.definitions.specs.Plans.Certificate.{StateCost};
+ghost use Rattle.definitions.specs.Plans.Exact.{IsExact};
+ghost use Rattle.definitions.specs.Plans.Least.{IsLeast};
+ghost use Rattle.definitions.specs.Plans.Search.{certificate_below};
+ghost use Rattle.definitions.specs.Plans.Validity.{IsValid};
+ghost use Rattle.plans.specs.Plans.{plan_of};
+ghost use Rattle.certificate.specs.Certificates.{certificate_of};
+ghost use Rattle.join_dp.specs.Counting.{AreCounts, most_steps};
+ghost use Rattle.join_dp.specs.Final.{AreSolutions};
+ghost use Rattle.join_dp.specs.Solved.{told_all};
+ghost use Rattle.join_dp.specs.States.{states_in};
+ghost use Rattle.join_dp.specs.Words.{words_in};
+ghost use Rattle.plan_space.specs.Planned.{space_in};
+
+use crate::cheapest::cheapest;
+use crate::plan::plan_at;
+use crate::solve::solve;
+use crate::states::States;
+use certificate::{Certificate, State};
+use plan_space::Space;
+use plans::Plan;
+use std::alloc::{AllocError, Global};
+use table_sets::TableSet;
+
+/// How much a search did: the states that it solved, and the steps on the way, each an access, a join or a sort whose cost was
+/// added up.
+#[derive(Clone, Copy, Debug, PartialEq, Eq)]
+pub struct Tried {
+    pub solutions: u64,
+    pub steps: u64,
+}
+
+/// A least plan, the certificate that shows it, and how much was tried (Selinger et al. 1979, section 5). It fails where memory
+/// runs out.
+pub fn optimise(alloc: Global, space: &Space<'_>) -> Result<(Plan, Certificate, Tried), AllocError>
+    ensures least { IfOk result (λ r. IsLeast (space_in space.now) (plan_of r.0)) }
+    ensures valid { IfOk result (λ r. IsValid (space_in space.now) (plan_of r.0) (certificate_of r.1)) }
+    ensures exact { IfOk result (λ r. IsExact (space_in space.now) (certificate_of r.1)) }
+    ensures short { IfOk result (λ r. words_in (plan_of r.0) ≤ 64) }
+    ensures solutions { IfOk result (λ r. AreSolutions (space_in space.now) r.2.solutions) }
+    ensures listed { IfOk result (λ r. length (certificate_of r.1).states + 1 ≤ r.2.solutions) }
+    ensures solved { IfOk result (λ r. r.2.solutions ≤ r.2.steps) }
+    ensures steps { (sorts : ℕ → ℕ) (joins : ℕ → ℕ → ℕ) → AreCounts (space_in space.now) sorts joins → IfOk result (λ r. r.2.steps ≤ most_steps (space_in space.now) sorts joins) }
+{
+    let states = solve(alloc, space)?;
+    let all = TableSet::first(space.table_count());
+    let Some(place) = cheapest(space, &states, all) else {
+        unreachable!()
+    };
+    let plan = plan_at(alloc, &states, place)?;
+    let certificate = certificate(alloc, &states, states.at(place).found.cost)?;
+    let tried = Tried {
+        solutions: states.len() as u64,
+        steps: states.steps,
+    };
+    Ok((plan, certificate, tried))
+}
+
+/// The states that cost less than a target.
+fn certificate(alloc: Global, states: &States<'_>, target: u64) -> Result<Certificate, AllocError>
+    ensures { IfOk result (λ c. certificate_of c ≡ certificate_below target (told_all (states_in states.now))) }
+{
+    let mut kept = Vec::new(alloc);
+    'states: for state in &states.solved {
+        if state.found.cost < target {
+            kept.push(State {
+                tables: state.tables,
+                order: state.order,
+                cost: state.found.cost,
+            })?;
+        }
+    }
+    Ok(Certificate {
+        target,
+        states: kept,
+    })
+}

@@ -1,0 +1,31 @@
+//! The search: row after row, in rising order of the sets.
+
+ghost use Rattle.std.specs.Prelude.{ℕ, ◌≤◌, ◌^◌, IfOk, length};
+ghost use Rattle.join_dp.specs.Counting.{AreCounts, most_steps};
+ghost use Rattle.join_dp.specs.Solved.{AreSolvedBelow};
+ghost use Rattle.join_dp.specs.States.{states_in, starts_in};
+ghost use Rattle.plan_space.specs.Planned.{space_in};
+
+use crate::filling::fill_row;
+use crate::row::Row;
+use crate::states::States;
+use plan_space::Space;
+use std::alloc::{AllocError, Global};
+use table_sets::TableSet;
+
+/// The states of all sets of a block's tables, with their least plans.
+pub(crate) fn solve<'a>(alloc: Global, space: &'a Space<'_>) -> Result<States<'a>, AllocError>
+    ensures solved { IfOk result (λ s. AreSolvedBelow (space_in space.now) (2 ^ (space_in space.now).table_count) (states_in s) (starts_in s)) }
+    ensures counted { IfOk result (λ s. length (states_in s) ≤ s.steps) }
+    ensures steps { (sorts : ℕ → ℕ) (joins : ℕ → ℕ → ℕ) → AreCounts (space_in space.now) sorts joins → IfOk result (λ s. s.steps ≤ most_steps (space_in space.now) sorts joins) }
+{
+    let mut states = States::new(alloc)?;
+    let whole = TableSet::first(space.table_count());
+    'sets: for place in 1..whole.place() + 1 {
+        let tables = TableSet::at(place);
+        let mut row = Row::new(alloc, space.order_count())?;
+        fill_row(space, &states, tables, &mut row);
+        states.push_row(tables, &row)?;
+    }
+    Ok(states)
+}

@@ -1,0 +1,10 @@
+-- What the links of a space say of it.
+use Rattle.std.specs.Prelude.{◌≡◌, Option, Some, None, true, false}
+use Rattle.definitions.specs.Plans.Space.{Space}
+use Rattle.table_links.specs.Links.{tables_in, AreLinks}
+use Rattle.table_links.specs.declared.links.TableLinks.{TableLinks}
+
+-- there are none where products are free
+abbrev pub LinksSay : Space → Option TableLinks → Type 0
+LinksSay space None = space.free_products ≡ true
+LinksSay space (Some links) = (space.free_products ≡ false) × (tables_in links ≡ space.table_count) × AreLinks space links

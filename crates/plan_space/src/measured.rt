@@ -1,0 +1,15 @@
+//! The figures of a plan.
+
+ghost use Rattle.std.specs.Prelude.{◌≤◌};
+ghost use Rattle.definitions.specs.Plans.Cost.{limit};
+
+use table_sets::TableSet;
+
+/// The tables of a plan, the number of the order of its rows, and what it costs, at most 10^18.
+#[derive(Clone, Copy, Debug)]
+pub struct Measured {
+    pub tables: TableSet,
+    pub order: usize,
+    pub cost: u64,
+    pub ghost small: { cost ≤ limit },
+}

@@ -1,0 +1,160 @@
+//! What plans come to.
+
+ghost use Rattle.std.specs.Prelude.{◌≡◌, ◌<◌, ◌^◌, true, IfSome, option_map};
+ghost use Rattle.std.specs.Bool.{Decides};
+ghost use Rattle.definitions.specs.Limits.{most_from_tables};
+ghost use Rattle.definitions.specs.Plans.Path.{table_of};
+ghost use Rattle.definitions.specs.Plans.Plan as trees;
+ghost use Rattle.definitions.specs.Plans.PlanSpace.{MayFollow};
+ghost use Rattle.plans.specs.Plans.{path_of, inner_of, plan_of};
+ghost use Rattle.table_sets.specs.Sets.{set_of};
+ghost use Rattle.order_uses.specs.Merges.{GoesBy};
+ghost use Rattle.block_paths.specs.Items.{item_of};
+ghost use Rattle.block_merges.specs.Merges.{merge_of};
+ghost use Rattle.plan_space.specs.Planned.{space_in};
+ghost use Rattle.plan_space.specs.Measures.{IsMeasured, Measures, IsPathFound, IsMergeFound};
+
+use crate::measured::Measured;
+use crate::same::are_one;
+use crate::space::Space;
+use block_merges::MergeItem;
+use block_paths::PathItem;
+use estimate::saturated;
+use plans::{Inner, Path, Plan};
+use table_sets::TableSet;
+
+/// What a plan comes to, if it is one of the block.
+pub(crate) fn measure(space: &Space, plan: &Plan) -> Option<Measured>
+    ensures { Measures (space_in space.now) (plan_of plan.now) result }
+{
+    match plan {
+        Plan::Access(path) => access(space, path),
+        Plan::Loop { outer, path } => looped(space, measure(space, outer)?, path),
+        Plan::Merge {
+            outer,
+            conjunct,
+            inner,
+        } => merged(space, measure(space, outer)?, *conjunct, inner),
+        Plan::Sort { input, order } => sorted(space, measure(space, input)?, *order),
+    }
+}
+
+/// What the rows of one table come to.
+fn access(space: &Space, path: &Path) -> Option<Measured>
+    ensures { Measures (space_in space.now) (trees.Access (path_of path.now)) result }
+{
+    let item = find_path(space, TableSet::none(), path)?;
+    Some(Measured {
+        tables: TableSet::only(path.table()),
+        order: item.order,
+        cost: item.cost,
+    })
+}
+
+/// What a loop comes to, on top of a plan.
+fn looped(space: &Space, outer: Measured, path: &Path) -> Option<Measured>
+    requires { set_of outer.tables < 2 ^ (space_in space.now).table_count }
+    ensures { (plan : trees.Plan) → IsMeasured (space_in space.now) plan outer → Measures (space_in space.now) (trees.Loop plan (path_of path.now)) result }
+{
+    if !follows(space, outer.tables, path.table()) {
+        return None;
+    }
+    let item = find_path(space, outer.tables, path)?;
+    let rows = u128::from(space.cardinality(outer.tables));
+    let scans = saturated(rows * u128::from(item.cost));
+    Some(Measured {
+        tables: outer.tables.with(path.table()),
+        order: outer.order,
+        cost: saturated(u128::from(outer.cost) + u128::from(scans)),
+    })
+}
+
+/// What a merge comes to, on top of a plan.
+fn merged(space: &Space, outer: Measured, conjunct: usize, inner: &Inner) -> Option<Measured>
+    requires { set_of outer.tables < 2 ^ (space_in space.now).table_count }
+    ensures { (plan : trees.Plan) → IsMeasured (space_in space.now) plan outer → Measures (space_in space.now) (trees.Merge plan conjunct (inner_of inner.now)) result }
+{
+    let table = inner.path.table();
+    if !follows(space, outer.tables, table) {
+        return None;
+    }
+    if !space.goes_by(outer.tables, outer.order, conjunct, table) {
+        return None;
+    }
+    let item = find_merge(space, outer.tables, conjunct, inner)?;
+    Some(Measured {
+        tables: outer.tables.with(table),
+        order: outer.order,
+        cost: saturated(u128::from(outer.cost) + u128::from(item.cost)),
+    })
+}
+
+/// What a sort comes to, on top of a plan.
+fn sorted(space: &Space, input: Measured, order: usize) -> Option<Measured>
+    requires { set_of input.tables < 2 ^ (space_in space.now).table_count }
+    ensures { (plan : trees.Plan) → IsMeasured (space_in space.now) plan input → Measures (space_in space.now) (trees.Sort plan order) result }
+{
+    if !space.can_sort(input.tables, order) {
+        return None;
+    }
+    let sort_cost = space.sort_cost(input.tables);
+    Some(Measured {
+        tables: input.tables,
+        order,
+        cost: saturated(u128::from(input.cost) + u128::from(sort_cost)),
+    })
+}
+
+/// Whether a table, whatever its number, may come next after a set of tables.
+fn follows(space: &Space, tables: TableSet, table: usize) -> bool
+    requires { set_of tables < 2 ^ (space_in space.now).table_count }
+    ensures few { result ≡ true → table < most_from_tables }
+    ensures exact { Decides result (MayFollow (space_in space.now) (set_of tables) table) }
+{
+    table < space.table_count() && space.may_follow(tables, table)
+}
+
+/// A path among those where the rows of a set of tables are known.
+fn find_path<'s>(space: &'s Space<'_>, known: TableSet, path: &Path) -> Option<PathItem<'s>>
+    ensures within { IfSome result (λ _. table_of (path_of path.now) < (space_in space.now).table_count) }
+    ensures few { IfSome result (λ _. table_of (path_of path.now) < most_from_tables) }
+    ensures exact { IsPathFound (space_in space.now) (set_of known) (path_of path.now) (option_map item_of result) }
+{
+    if path.table() >= space.table_count() {
+        return None;
+    }
+    let mut rest = space.paths(known, path.table());
+    'paths: while let Some(item) = rest.next() {
+        if are_one(item.path, path) {
+            return Some(item);
+        }
+    }
+    None
+}
+
+/// A merge among those on top of plans on a set of tables.
+fn find_merge<'s>(
+    space: &'s Space<'_>,
+    tables: TableSet,
+    conjunct: usize,
+    inner: &Inner,
+) -> Option<MergeItem<'s>>
+    requires set { set_of tables < 2 ^ (space_in space.now).table_count }
+    requires table { table_of (path_of inner.now.path) < (space_in space.now).table_count }
+    ensures { IsMergeFound (space_in space.now) (set_of tables) conjunct (inner_of inner.now) (option_map merge_of result) }
+{
+    let mut rest = space.merges(tables, inner.path.table());
+    'merges: while let Some(item) = rest.next() {
+        if is_it(item, conjunct, inner) {
+            return Some(item);
+        }
+    }
+    None
+}
+
+/// Whether a merge is by a conjunct, with an inner side.
+fn is_it(item: MergeItem<'_>, conjunct: usize, inner: &Inner) -> bool
+    ensures { Decides result (((merge_of item.entry).conjunct ≡ conjunct) × ((merge_of item.entry).inner ≡ inner_of inner.now)) }
+{
+    item.conjunct == conjunct && item.sorted == inner.sorted && are_one(item.path, &inner.path)
+}

@@ -1,0 +1,298 @@
+//! The plan space of a block.
+
+ghost use Rattle.std.specs.Prelude.{◌≡◌, ◌<◌, ◌≤◌, ◌^◌, IfOk, length};
+ghost use Rattle.std.specs.Bool.{Decides};
+ghost use Rattle.definitions.specs.Limits.{most_from_tables};
+ghost use Rattle.definitions.specs.Estimates.BlockSpace.{space_of};
+ghost use Rattle.definitions.specs.Estimates.Laws.{HasPlans};
+ghost use Rattle.definitions.specs.Plans.ColumnClass.{Satisfies};
+ghost use Rattle.definitions.specs.Plans.Cost.{limit, cost_of};
+ghost use Rattle.definitions.specs.Plans.Folding.{Folds};
+ghost use Rattle.definitions.specs.Plans.PlanSpace.{MayFollow, CanSort, InSpace};
+ghost use Rattle.definitions.specs.Plans.Space.{whole, order_at};
+ghost use Rattle.definitions.specs.Plans.TableSet.{only};
+ghost use Rattle.bound.specs.Bound.{block_of};
+ghost use Rattle.plans.specs.Plans.{order_of, orders_in, plan_of};
+ghost use Rattle.table_sets.specs.Sets.{set_of};
+ghost use Rattle.plan_orders.specs.Versions.{version_of};
+ghost use Rattle.order_uses.specs.Merges.{GoesBy};
+ghost use Rattle.order_uses.specs.Sorts.{AreSorts};
+ghost use Rattle.block_paths.specs.Item.{AreItems};
+ghost use Rattle.block_merges.specs.Merge.{AreMerges};
+ghost use Rattle.plan_space.specs.Planned.{space_in};
+ghost use Rattle.plan_space.specs.Laws.{IsSpace};
+ghost use Rattle.plan_space.specs.Links.{LinksSay};
+ghost use Rattle.plan_space.specs.Measures.{Measures};
+
+use crate::measured::Measured;
+use crate::measuring::measure;
+use block_merges::{BlockMerges, Merges};
+use block_paths::{BlockPaths, Paths};
+use estimate::{Estimate, saturated};
+use order_uses::{OrderUses, Sorts};
+use plan_orders::{PlanOrders, Version, required_order};
+use plans::{Plan, SortKey};
+use set_figures::SetFigures;
+use std::alloc::{AllocError, Global};
+use std::marker::Model;
+use table_links::TableLinks;
+use table_sets::TableSet;
+
+/// The plans of a block, in one of the versions of the plan space: what each step of a plan may be, and what it costs. What a
+/// search asks for again and again is made once.
+#[derive(Drop)]
+pub struct Space<'a> {
+    estimate: Estimate<'a>,
+    version: Version,
+    orders: PlanOrders,
+    paths: BlockPaths,
+    merges: BlockMerges,
+    figures: SetFigures,
+    uses: OrderUses,
+    // none where products are free
+    links: Option<TableLinks>,
+}
+
+impl<'a> Model for Space<'a> {
+    ghost use Rattle.std.specs.Coded.{codes};
+    ghost use Rattle.bound.specs.contracts.block.Block as b;
+    ghost use Rattle.plan_space.specs.Planned.{Planned};
+
+    ghost Value = { Planned };
+
+    ghost coded = { Prim.hlevel (codes, b.the_row.coded) };
+
+    ghost use Rattle.plan_space.specs.Inside.{planned, IsPlanSpace};
+
+    ghost view = { planned };
+
+    ghost invariant = { IsPlanSpace };
+}
+
+impl<'a> Space<'a> {
+    /// The plan space of a block. For n tables, c conjuncts and m orders it takes 18 bytes for each of the 2^n sets of tables and
+    /// 8 for each column that a conjunct equates with another and set, and goes through the conjuncts for each set, table and order.
+    pub fn new(
+        alloc: Global,
+        estimate: Estimate<'a>,
+        version: Version,
+    ) -> Result<Space<'a>, AllocError>
+        requires { HasPlans (block_of estimate.block) }
+        ensures version { IfOk result (λ s. s.version ≡ version_of version) }
+        ensures database { IfOk result (λ s. s.database ≡ estimate.entry.database) }
+        ensures block { IfOk result (λ s. s.block ≡ estimate.entry.block) }
+    {
+        let tables = estimate.table_count();
+        let required = required_order(alloc, estimate.block())?;
+        let orders = PlanOrders::new(alloc, &estimate, version, &required)?;
+        let paths = BlockPaths::new(alloc, &estimate, version, &orders)?;
+        let figures = SetFigures::new(alloc, &estimate)?;
+        let uses = OrderUses::new(alloc, estimate.conjuncts(), orders.all(), &required, tables)?;
+        let merges = BlockMerges::new(alloc, &estimate, &paths, &uses, &figures)?;
+        let links = table_links(alloc, &estimate, version)?;
+        Ok(Space {
+            estimate,
+            version,
+            orders,
+            paths,
+            merges,
+            figures,
+            uses,
+            links,
+        })
+    }
+
+    /// How many tables the block has. What the theory of plans says of complete spaces holds of this one.
+    pub fn table_count(&self) -> usize
+        ensures exact { result ≡ (space_in self.now).table_count }
+        ensures few { result ≤ most_from_tables }
+        ensures lawful { IsSpace (space_in self.now) }
+    {
+        self.estimate.table_count()
+    }
+
+    /// The set of all tables.
+    pub fn whole(&self) -> TableSet
+        ensures { set_of result ≡ whole (space_in self.now) }
+    {
+        TableSet::first(self.table_count())
+    }
+
+    /// The numbered orders, by number, the empty one first.
+    pub fn orders(&self) -> &[Vec<SortKey>]
+        ensures exact { orders_in result.now ≡ (space_in self.now).orders }
+        ensures some { 0 < length result.now }
+    {
+        self.orders.all()
+    }
+
+    /// How many numbered orders there are.
+    pub fn order_count(&self) -> usize
+        ensures exact { result ≡ length (space_in self.now).orders }
+        ensures some { 0 < result }
+    {
+        self.orders.all().len()
+    }
+
+    /// Whether a table may come next after a set of tables. This and the calls below, but those that say otherwise, take constant
+    /// time.
+    pub fn may_follow(&self, tables: TableSet, table: usize) -> bool
+        requires set { set_of tables < 2 ^ (space_in self.now).table_count }
+        requires table { table < (space_in self.now).table_count }
+        ensures { Decides result (MayFollow (space_in self.now) (set_of tables) table) }
+    {
+        match &self.links {
+            Some(links) => links.may_follow(tables, table),
+            None => !tables.has(table),
+        }
+    }
+
+    /// The paths of a table where the rows of a set of tables are known. It looks at each conjunct once, and at each path of the table
+    /// as it comes to it.
+    pub fn paths(&self, known: TableSet, table: usize) -> Paths<'_>
+        requires { table < (space_in self.now).table_count }
+        ensures { AreItems (space_in self.now) (set_of known) table result }
+    {
+        self.paths.paths(&self.estimate, known, table)
+    }
+
+    /// The merges that bring a table on top of plans on a set of tables. It looks at each merge of the table as it comes to it.
+    pub fn merges(&self, tables: TableSet, table: usize) -> Merges<'_>
+        requires set { set_of tables < 2 ^ (space_in self.now).table_count }
+        requires table { table < (space_in self.now).table_count }
+        ensures { AreMerges (space_in self.now) (set_of tables) table result }
+    {
+        let outer = u128::from(self.cardinality(tables));
+        let inner = u128::from(self.table_rows(table));
+        self.merges.merges(tables, table, saturated(outer * inner))
+    }
+
+    /// Whether rows of a set of tables may be sorted into an order.
+    pub fn can_sort(&self, tables: TableSet, order: usize) -> bool
+        ensures { Decides result (CanSort (space_in self.now) (set_of tables) order) }
+    {
+        self.uses.can_sort(tables, order)
+    }
+
+    /// The orders into which rows of a set of tables may be sorted. It looks at each order as it comes to it.
+    pub fn sorts(&self, tables: TableSet) -> Sorts<'_>
+        ensures { AreSorts (space_in self.now) (set_of tables) result }
+    {
+        self.uses.sorts(tables)
+    }
+
+    /// Whether an order of plans on a set of tables goes by the set's column of a merge conjunct, by which a table comes next.
+    pub fn goes_by(&self, tables: TableSet, order: usize, conjunct: usize, table: usize) -> bool
+        requires { set_of tables < 2 ^ (space_in self.now).table_count }
+        ensures { Decides result (GoesBy (space_in self.now) (set_of tables) order conjunct table) }
+    {
+        self.uses.goes_by(tables, order, conjunct, table)
+    }
+
+    /// The fold of an order at a set of tables: itself where it is still of use, else the empty one.
+    pub fn fold(&self, tables: TableSet, order: usize) -> usize
+        ensures exact { Folds (space_in self.now) (set_of tables) order result }
+        ensures within { result ≤ order }
+    {
+        self.uses.fold(tables, order)
+    }
+
+    /// Whether rows of all tables in an order are in the one that the block asks for.
+    pub fn gives_required(&self, order: usize) -> bool
+        ensures { Decides result (Satisfies (space_in self.now) (whole (space_in self.now)) (order_at (space_in self.now) order) (space_in self.now).required) }
+    {
+        self.uses.gives_required(order)
+    }
+
+    /// Whether rows of plans on a set of tables in one order are in another, too; an order without a number is empty. It goes through
+    /// the keys.
+    pub fn satisfies(&self, tables: TableSet, order: usize, wanted: usize) -> bool
+        requires { set_of tables < 2 ^ (space_in self.now).table_count }
+        ensures { Decides result (Satisfies (space_in self.now) (set_of tables) (order_at (space_in self.now) order) (order_at (space_in self.now) wanted)) }
+    {
+        self.uses
+            .satisfies(tables, self.keys(order), self.keys(wanted))
+    }
+
+    /// The keys of an order; one without a number is empty.
+    fn keys(&self, order: usize) -> &[SortKey]
+        ensures { order_of result.now ≡ order_at (space_in self.now) order }
+    {
+        match self.orders.all().get(order) {
+            Some(keys) => keys,
+            None => &[],
+        }
+    }
+
+    /// How many rows a set of tables is taken to give.
+    pub fn cardinality(&self, tables: TableSet) -> u64
+        requires { set_of tables < 2 ^ (space_in self.now).table_count }
+        ensures exact { result ≡ (space_in self.now).cardinality (set_of tables) }
+        ensures below { result ≤ limit }
+    {
+        self.figures.cardinality(tables)
+    }
+
+    /// How many rows a table is taken to give, with what is known of it alone.
+    fn table_rows(&self, table: usize) -> u64
+        requires { table < (space_in self.now).table_count }
+        ensures exact { result ≡ (space_in self.now).cardinality (only table) }
+        ensures below { result ≤ limit }
+    {
+        self.figures.cardinality(TableSet::only(table))
+    }
+
+    /// What a sort of the rows of a set of tables costs.
+    pub fn sort_cost(&self, tables: TableSet) -> u64
+        requires { set_of tables < 2 ^ (space_in self.now).table_count }
+        ensures exact { result ≡ (space_in self.now).sort_cost (set_of tables) }
+        ensures below { result ≤ limit }
+    {
+        self.figures.sort_cost(tables)
+    }
+
+    /// What a plan comes to, or none where it is no plan of the block, on whichever of its tables. It looks at all paths or merges of
+    /// a table for each step of the plan.
+    pub fn measured(&self, plan: &Plan) -> Option<Measured>
+        ensures { Measures (space_in self.now) (plan_of plan.now) result }
+    {
+        measure(self, plan)
+    }
+
+    /// Whether any plan is in the space: a plan of the block on all its tables.
+    pub fn in_space(&self, plan: &Plan) -> bool
+        ensures { Decides result (InSpace (space_in self.now) (plan_of plan.now)) }
+    {
+        match measure(self, plan) {
+            Some(found) => found.tables.place() == self.whole().place(),
+            None => false,
+        }
+    }
+
+    /// What a plan of the space costs, at most 10^18.
+    pub fn cost(&self, plan: &Plan) -> u64
+        requires { InSpace (space_in self.now) (plan_of plan.now) }
+        ensures exact { result ≡ cost_of (space_in self.now) (plan_of plan.now) }
+        ensures below { result ≤ limit }
+    {
+        match measure(self, plan) {
+            Some(found) => found.cost,
+            None => unreachable!(),
+        }
+    }
+}
+
+/// The links of a block's tables, where products come last.
+fn table_links(
+    alloc: Global,
+    estimate: &Estimate,
+    version: Version,
+) -> Result<Option<TableLinks>, AllocError>
+    ensures { IfOk result (λ links. LinksSay (space_of (version_of version) estimate.now.database (block_of estimate.now.block)) links) }
+{
+    if version.has_free_products() {
+        return Ok(None);
+    }
+    let links = TableLinks::new(alloc, estimate.conjuncts(), estimate.table_count())?;
+    Ok(Some(links))
+}
