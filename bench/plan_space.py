@@ -1,34 +1,37 @@
 #!/usr/bin/env python3
 """Times the steps of a plan space, best of three, by the program plan_times: a path or a merge with its cost, over each set of 12
 tables and each other table, where each two of the tables but two pairs are joined (a block has at most 64 conjuncts) and each has an
-index; and what making the space of 12 and of 14 tables takes, in time and in memory.
+index; and what making the space of 12 and of 14 tables takes, in time, and in memory beyond that of the same program with two tables.
 
 Beside it stands plan_space.rs, the same walks over plain vectors, which rustc -O compiles here. The two have to print the same count
 and the same sum of costs. Processor seconds are counted.
 """
 import os
 import pathlib
+import re
 import subprocess
 import sys
 import tempfile
+import time
 
 HERE = pathlib.Path(__file__).resolve().parent
 PROGRAM = HERE.parent / "crates/plan_times/out/plan_times"
 TIMES = 3
 # How often all sets are gone through, so that there are ten million steps and more.
 ROUNDS = {"paths": 40, "merges": 20}
-SPACES = {12: 20, 14: 5}
+SPACES = {12: 100, 14: 40}
+ENDLESS = 4_000_000_000
 
 
 def run(program, *words):
-    """What a program prints, its processor seconds and the most memory that it held, in MiB."""
+    """What a program prints, and its processor seconds."""
     with tempfile.TemporaryFile() as out:
         child = subprocess.Popen([program, *map(str, words)], stdout=out)
         _, status, usage = os.wait4(child.pid, 0)
         if status != 0:
             sys.exit(f"{program}: status {status}")
         out.seek(0)
-        return out.read().decode(), usage.ru_utime + usage.ru_stime, usage.ru_maxrss / 1024
+        return out.read().decode(), usage.ru_utime + usage.ru_stime
 
 
 def seconds(program, *words):
@@ -52,12 +55,21 @@ def print_steps(peer):
         print(f"{kind}: {ours:.1f} {theirs:.1f} {ours / theirs:.2f}, of {told.split()[0]} steps")
 
 
+def memory(tables):
+    """The most memory that the program has held when it has made spaces for a second, in MiB."""
+    with subprocess.Popen([PROGRAM, "spaces", str(tables), str(ENDLESS)], stdout=subprocess.DEVNULL) as child:
+        time.sleep(1)
+        status = pathlib.Path(f"/proc/{child.pid}/status").read_text()
+        child.kill()
+    return int(re.search(r"VmHWM:\s+(\d+) kB", status)[1]) / 1024
+
+
 def print_spaces():
     print("tables  a space/ms  memory/MiB")
+    least = memory(2)
     for tables, rounds in SPACES.items():
         taken = (seconds(PROGRAM, "spaces", tables, rounds) - seconds(PROGRAM, "spaces", tables, 0)) / rounds
-        held = run(PROGRAM, "spaces", tables, 1)[2] - run(PROGRAM, "spaces", tables, 0)[2]
-        print(f"{tables}: {taken * 1e3:.1f} {held:.1f}")
+        print(f"{tables}: {taken * 1e3:.1f} {memory(tables) - least:.1f}")
 
 
 def main():
