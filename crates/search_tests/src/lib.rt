@@ -1,5 +1,7 @@
-//! Tests of the search for least plans and of the checker of certificates, on worked figures.
+//! Tests of the search for least plans, of the checker of certificates and of their texts, on worked figures.
 #![tactic(auto)]
 
 #[cfg(test)]
 mod searches;
+#[cfg(test)]
+mod texts;

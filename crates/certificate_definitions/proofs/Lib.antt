@@ -1,0 +1,7 @@
+pub mod Decisions
+pub mod Texts
+pub mod Reading
+pub mod Faults
+pub mod Files
+pub mod Verdicts
+pub mod Examples

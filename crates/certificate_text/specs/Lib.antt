@@ -1,0 +1,3 @@
+pub use Rattle.certificate_definitions.specs
+pub mod Blocks
+pub mod Lines

@@ -1,0 +1,60 @@
+//! What the text of a certificate refers to.
+
+ghost use Rattle.std.specs.Prelude.{◌≡◌, ◌+◌};
+ghost use Rattle.certificate_definitions.specs.CertifiedBlock.{indexes_of};
+ghost use Rattle.certificate_definitions.specs.Spelling as spec;
+ghost use Rattle.plan_orders.specs.Versions.{version_of};
+ghost use Rattle.certificate_text.specs.Blocks.{block_in, columns_at};
+
+use plan_orders::Version;
+use plans::SortKey;
+
+/// What the text of a certificate refers to, which is of a block of a query.
+#[derive(Clone, Copy)]
+pub struct CertifiedBlock<'a> {
+    /// The version of the plan space that the text speaks of.
+    pub version: Version,
+    /// The number of the block in its query.
+    pub number: u64,
+    /// For each table of the block its indexes, for each of them the numbers of its columns.
+    pub indexes: &'a [Vec<Vec<usize>>],
+    /// How many conjuncts the block has.
+    pub conjunct_count: usize,
+    /// The numbered orders of the block.
+    pub orders: &'a [Vec<SortKey>],
+}
+
+impl CertifiedBlock<'_> {
+    /// The columns of an index of a table, or none where it isn't there.
+    fn columns(&self, table: usize, index: usize) -> &[usize]
+        ensures { result.now ≡ columns_at self.now table index }
+    {
+        match self.indexes.get(table) {
+            Some(indexes) => match indexes.get(index) {
+                Some(columns) => columns,
+                None => &[],
+            },
+            None => &[],
+        }
+    }
+
+    /// How an index is written: by its number from 1, in the first version by its column from 1.
+    pub(crate) fn index_written(&self, table: usize, index: usize) -> u128
+        ensures { result ≡ spec.index_written (version_of self.now.version) (indexes_of (block_in self.now) table) index }
+    {
+        match self.version {
+            Version::One => match self.columns(table, index).first() {
+                Some(column) => from_one(*column),
+                None => 1,
+            },
+            Version::Two | Version::Three => from_one(index),
+        }
+    }
+}
+
+/// A number that counts from 0, counted from 1.
+pub(crate) fn from_one(number: usize) -> u128
+    ensures { result ≡ number + 1 }
+{
+    number as u128 + 1
+}
