@@ -55,19 +55,19 @@ pub block_refused : (db : Database) (outer : Scopes) (old new : Blocks) (query :
     → BlockFaulty db (record { outer = outer; block = query }) (query_refusal q) → BlockAnswer db outer old new query result
 block_refused db outer old new query result q is h = block_err db outer old new query result (f.Refused q) is (block_faulty db outer old query (query_refusal q) h)
 
-faulty_sources : (db : Database) (outer : Scopes) (query : Block) (r : Refusal) → SourcesFaulty db (map source_of query.sources.items) r → BlockFaulty db (record { outer = outer; block = block_of query }) r
+faulty_sources : (db : Database) (outer : Scopes) (query : Block) (r : Refusal) → SourcesFaulty db (map source_of query.sources.tables.items) r → BlockFaulty db (record { outer = outer; block = block_of query }) r
 faulty_sources db outer query _ (source.name_twice x) = rw (of_block query) (fault.name_twice x)
 faulty_sources db outer query _ (source.no_table x) = rw (of_block query) (fault.no_table x)
 faulty_sources db outer query _ (source.many_tables x) = rw (of_block query) (fault.many_tables x)
 
 pub sources_refused : (db : Database) (outer : Scopes) (old new : Blocks) (query : Block) (result : Result (Option ValueType) BindFault) (fault : SourceFault) → IsErr result × IsErrAnd result (λ e. bind_refusal e ≡ source_refusal fault)
-    → IfSome (source_refusal fault) (SourcesFaulty db (map source_of query.sources.items)) → BlockAnswer db outer old new (block_of query) result
+    → IfSome (source_refusal fault) (SourcesFaulty db (map source_of query.sources.tables.items)) → BlockAnswer db outer old new (block_of query) result
 sources_refused db outer old new query (Ok only) fault h k = absurd cc
 sources_refused db outer old new query (Err e) fault h k =
     subst (λ o. IfSome o (RefusesBlock db outer old (block_of query))) (sym h.1)
     (if_some (source_refusal fault) _ _ (λ r s. block_faulty db outer old (block_of query) r (faulty_sources db outer query r s)) k)
 
-pub groups_refused : (db : Database) (outer scopes : Scopes) (old : Blocks) (query : Block) → scopes ≡ scope_of db (map source_of query.sources.items) ∷ outer → IsTrue (are_there scopes) → (r : Refusal)
+pub groups_refused : (db : Database) (outer scopes : Scopes) (old : Blocks) (query : Block) → scopes ≡ scope_of db (map source_of query.sources.tables.items) ∷ outer → IsTrue (are_there scopes) → (r : Refusal)
     → (r ≡ UnknownColumn) × ((db : Database) → SomeNotOwn db scopes (map column_of query.groups.items)) → RefusesBlock db outer old (block_of query) r
 groups_refused db outer scopes old query s there r (same, n) =
     subst (RefusesBlock db outer old (block_of query)) (sym same)

@@ -44,19 +44,19 @@ module _ (db : Database) (outer : Scopes) (distinct : Bool) (list : SelectList) 
 
 module _ (db : Database) (outer scopes : Scopes) (query : Block) (grouped : Bool) (columns : List BlockColumn) where
   abbrev pub Ready : Type 0
-  Ready = IsReady db outer query.distinct (list_of query.list) (map source_of query.sources.items) (condition_of query.condition) (map column_of query.groups.items) (condition_of query.having) grouped columns
+  Ready = IsReady db outer query.distinct (list_of query.list) (map source_of query.sources.tables.items) (condition_of query.condition) (map column_of query.groups.items) (condition_of query.having) grouped columns
 
   abbrev pub Inside : Type 0
-  Inside = scopes ≡ scope_of db (map source_of query.sources.items) ∷ outer
+  Inside = scopes ≡ scope_of db (map source_of query.sources.tables.items) ∷ outer
 
-  pub ready : Inside → IsTrue (are_there scopes) → IsTrue (are_there (scope_of db (map source_of query.sources.items) ∷ [])) → AreDistinct (map (λ (t : NamedTable). t.name) (scope_of db (map source_of query.sources.items)))
-      → length query.sources.items ≤ most_from_tables → IsWithinLimits grouped (block_of query) → (grouped ≡ true → IsGrouped (block_of query)) × (IsGrouped (block_of query) → grouped ≡ true)
+  pub ready : Inside → IsTrue (are_there scopes) → IsTrue (are_there (scope_of db (map source_of query.sources.tables.items) ∷ [])) → AreDistinct (map (λ (t : NamedTable). t.name) (scope_of db (map source_of query.sources.tables.items)))
+      → length query.sources.tables.items ≤ most_from_tables → IsWithinLimits grouped (block_of query) → (grouped ≡ true → IsGrouped (block_of query)) × (IsGrouped (block_of query) → grouped ≡ true)
       → ((db : Database) → SomeNotOwn db scopes (map column_of query.groups.items) → ⊥) → columns ≡ own_columns scopes (map column_of query.groups.items) → Ready
   ready s all there names tables limits g own are = record {
     all_there = subst (λ x. IsTrue (are_there x)) s all;
     there = there;
     names = names;
-    tables = let same = as_many source_of query.sources.items in rw same tables;
+    tables = let same = as_many source_of query.sources.tables.items in rw same tables;
     limits = subst (IsWithinLimits grouped) (of_block query) limits;
     is_grouped = subst (λ b. (grouped ≡ true → IsGrouped b) × (IsGrouped b → grouped ≡ true)) (of_block query) g;
     own = subst (λ x. SomeNotOwn db x (map column_of query.groups.items) → ⊥) s (own db);
@@ -66,25 +66,25 @@ module _ (db : Database) (outer scopes : Scopes) (query : Block) (grouped : Bool
   pub refused_in : Ready → Inside → (old first : Blocks) → length first ≡ length old + 1 → (r : Refusal) → RefusesClauses db scopes (shown_in grouped columns) (length first) (block_of query) r → RefusesBlock db outer old (block_of query) r
   refused_in h s old first count r f =
       subst (λ b. RefusesBlock db outer old b r) (sym (of_block query))
-      (clauses_refused db outer query.distinct (list_of query.list) (map source_of query.sources.items) (condition_of query.condition) (map column_of query.groups.items) (condition_of query.having) grouped columns h old r
-      (subst (λ b. RefusesClauses db (scope_of db (map source_of query.sources.items) ∷ outer) (shown_in grouped columns) (length old + 1) b r) (of_block query)
-      (subst (λ n. RefusesClauses db (scope_of db (map source_of query.sources.items) ∷ outer) (shown_in grouped columns) n (block_of query) r) count
+      (clauses_refused db outer query.distinct (list_of query.list) (map source_of query.sources.tables.items) (condition_of query.condition) (map column_of query.groups.items) (condition_of query.having) grouped columns h old r
+      (subst (λ b. RefusesClauses db (scope_of db (map source_of query.sources.tables.items) ∷ outer) (shown_in grouped columns) (length old + 1) b r) (of_block query)
+      (subst (λ n. RefusesClauses db (scope_of db (map source_of query.sources.tables.items) ∷ outer) (shown_in grouped columns) n (block_of query) r) count
       (subst (λ x. RefusesClauses db x (shown_in grouped columns) (length first) (block_of query) r) s f))))
 
   module _ (h : Ready) (s : Inside) (old new : Blocks) (empty : b.Block) (bound : BoundClauses) (k : BindsClauses db scopes (shown_in grouped columns) (old ++ empty ∷ []) new (block_of query) bound) where
-    clauses_in : BindsClauses db (scope_of db (map source_of query.sources.items) ∷ outer) (shown_in grouped columns) (old ++ empty ∷ []) new
-        (Specification query.distinct (list_of query.list) (map source_of query.sources.items) (condition_of query.condition) (map column_of query.groups.items) (condition_of query.having)) bound
-    clauses_in = subst (λ b. BindsClauses db (scope_of db (map source_of query.sources.items) ∷ outer) (shown_in grouped columns) (old ++ empty ∷ []) new b bound) (of_block query)
+    clauses_in : BindsClauses db (scope_of db (map source_of query.sources.tables.items) ∷ outer) (shown_in grouped columns) (old ++ empty ∷ []) new
+        (Specification query.distinct (list_of query.list) (map source_of query.sources.tables.items) (condition_of query.condition) (map column_of query.groups.items) (condition_of query.having)) bound
+    clauses_in = subst (λ b. BindsClauses db (scope_of db (map source_of query.sources.tables.items) ∷ outer) (shown_in grouped columns) (old ++ empty ∷ []) new b bound) (of_block query)
         (subst (λ x. BindsClauses db x (shown_in grouped columns) (old ++ empty ∷ []) new (block_of query) bound) s k)
 
     pub number_within : length old < length new
-    number_within = within_new db outer query.distinct (list_of query.list) (map source_of query.sources.items) (condition_of query.condition) (map column_of query.groups.items) (condition_of query.having) grouped columns h old new empty bound clauses_in
+    number_within = within_new db outer query.distinct (list_of query.list) (map source_of query.sources.tables.items) (condition_of query.condition) (map column_of query.groups.items) (condition_of query.having) grouped columns h old new empty bound clauses_in
 
     pub binds_in : (number : ℕ) (tables : List ℕ) → number ≡ length old → tables ≡ map (λ (t : NamedTable). t.number) (own_scope scopes)
         → BindsBlock db outer old
         (slice_set new number (record { tables = tables; distinct = query.distinct; items = bound.items; condition = bound.condition; groups = columns; having = bound.having; functions = bound.functions; order = [] })) (block_of query) bound.only
     binds_in number tables n t =
-        let whole = binds_block db outer query.distinct (list_of query.list) (map source_of query.sources.items) (condition_of query.condition) (map column_of query.groups.items) (condition_of query.having) grouped columns h old new empty bound clauses_in in
+        let whole = binds_block db outer query.distinct (list_of query.list) (map source_of query.sources.tables.items) (condition_of query.condition) (map column_of query.groups.items) (condition_of query.having) grouped columns h old new empty bound clauses_in in
         let own = t ∙ ap (λ x. map (λ (t : NamedTable). t.number) (own_scope x)) s in
         subst (λ b. BindsBlock db outer old (slice_set new number (record { tables = tables; distinct = query.distinct; items = bound.items; condition = bound.condition; groups = columns; having = bound.having; functions = bound.functions; order = [] })) b bound.only) (sym (of_block query))
         (rw (n, own) whole)

@@ -42,7 +42,7 @@ pub(crate) fn block<'d, 'q: 'd>(
     if number >= MAX_BLOCKS {
         return Err(BindFault::Refused(QueryFault::ManyBlocks(query)));
     }
-    let scopes = outer.inside(alloc, database, &query.sources)?;
+    let scopes = outer.inside(alloc, database, &query.sources.tables)?;
     let grouped = is_grouped(query);
     judge_limits(query, grouped)?;
     let groups = group_columns(alloc, &scopes, &query.groups)?;

@@ -2,8 +2,8 @@
 use Rattle.std.proofs.Common.{◌≡◌, ℕ, ◌+◌, map, refl, ap, ap₂}
 use Rattle.definitions.specs.Plans.Path.{Path, SegmentScan, IndexScan, MatchingScan}
 use Rattle.definitions.specs.Plans.Plan.{Plan, Access, Loop, Merge, Sort}
-use Rattle.certificate_definitions.specs.CertifiedBlock as c
-use Rattle.certificate_definitions.specs.Spelling.{index_written, path_written, plan_written}
+use Rattle.definitions.specs.Certificates.CertifiedBlock as c
+use Rattle.definitions.specs.Certificates.Spelling.{index_written, path_written, plan_written}
 use Rattle.certificate_text.specs.Blocks.{IsOf, block_in}
 use Rattle.certificate_text.specs.declared.certified.CertifiedBlock.{CertifiedBlock}
 

@@ -4,10 +4,10 @@ use Rattle.std.specs.Prelude.{codes, decimal}
 use Rattle.definitions.specs.Printing.{line}
 use Rattle.definitions.specs.Plans.Plan.{Plan}
 use Rattle.definitions.specs.Plans.Certificate.{Certificate}
-use Rattle.certificate_definitions.specs.CertifiedBlock as c
-use Rattle.certificate_definitions.specs.Text.{number_of_version}
-use Rattle.certificate_definitions.specs.Text.{plan_text, state_line, end_line}
-use Rattle.certificate_definitions.specs.Spelling.{plan_written, spelling}
+use Rattle.definitions.specs.Certificates.CertifiedBlock as c
+use Rattle.definitions.specs.Certificates.Text.{number_of_version}
+use Rattle.definitions.specs.Certificates.Text.{plan_text, state_line, end_line}
+use Rattle.definitions.specs.Certificates.Spelling.{plan_written, spelling}
 use Rattle.certificate_text.specs.Blocks.{IsOf, block_in}
 use Rattle.plan_orders.specs.Versions.{version_of}
 use Rattle.certificate_text.specs.Lines.{lines_of}

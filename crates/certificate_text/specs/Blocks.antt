@@ -3,14 +3,17 @@ use Rattle.std.specs.Prelude.{ℕ, ◌≡◌, false, None, List, [], length, map
 use Rattle.std.specs.Global.{Vec}
 use Rattle.definitions.specs.Plans.Conjunct.{Conjunct}
 use Rattle.definitions.specs.Plans.Space.{Space}
-use Rattle.certificate_definitions.specs.CertifiedBlock as c
+use Rattle.definitions.specs.Certificates.CertifiedBlock as c
 use Rattle.plans.specs.Plans.{orders_in}
 use Rattle.plan_orders.specs.Versions.{version_of}
 use Rattle.certificate_text.specs.declared.certified.CertifiedBlock.{CertifiedBlock}
 
--- the columns of a table's indexes
+-- the columns of indexes
+abbrev pub columns_of : List (Vec ℕ) → List (List ℕ)
+columns_of = map (λ (columns : Vec ℕ). columns.items)
+
 abbrev pub columns_in : Vec (Vec ℕ) → List (List ℕ)
-columns_in indexes = map (λ (columns : Vec ℕ). columns.items) indexes.items
+columns_in indexes = columns_of indexes.items
 
 abbrev pub indexes_in : CertifiedBlock → List (List (List ℕ))
 indexes_in s = map columns_in s.indexes.now

@@ -1,3 +1,4 @@
-pub use Rattle.certificate_definitions.specs
+pub use Rattle.definitions.specs.Certificates
 pub mod Blocks
 pub mod Lines
+pub mod Reads

@@ -3,7 +3,7 @@ use Rattle.std.specs.Prelude.{ℕ, List, ◌++◌, codes, decimal, flat_map}
 use Rattle.definitions.specs.Printing.{line}
 use Rattle.definitions.specs.Plans.Plan.{Plan}
 use Rattle.definitions.specs.Plans.Certificate.{Certificate}
-use Rattle.certificate_definitions.specs.Text.{plan_text, state_line, end_line}
+use Rattle.definitions.specs.Certificates.Text.{plan_text, state_line, end_line}
 
 abbrev pub lines_of : Plan → Certificate → List ℕ
 lines_of plan certificate =

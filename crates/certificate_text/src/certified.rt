@@ -1,10 +1,10 @@
 //! What the text of a certificate refers to.
 
-ghost use Rattle.std.specs.Prelude.{◌≡◌, ◌+◌};
-ghost use Rattle.certificate_definitions.specs.CertifiedBlock.{indexes_of};
-ghost use Rattle.certificate_definitions.specs.Spelling as spec;
+ghost use Rattle.std.specs.Prelude.{◌≡◌, ◌+◌, ◌-◌};
+ghost use Rattle.definitions.specs.Certificates.CertifiedBlock.{indexes_of};
+ghost use Rattle.definitions.specs.Certificates.Spelling as spec;
 ghost use Rattle.plan_orders.specs.Versions.{version_of};
-ghost use Rattle.certificate_text.specs.Blocks.{block_in, columns_at};
+ghost use Rattle.certificate_text.specs.Blocks.{block_in, columns_at, columns_of};
 
 use plan_orders::Version;
 use plans::SortKey;
@@ -25,15 +25,22 @@ pub struct CertifiedBlock<'a> {
 }
 
 impl CertifiedBlock<'_> {
+    /// The indexes of a table, or none where it isn't there.
+    pub(crate) fn indexes_of(&self, table: usize) -> &[Vec<usize>]
+        ensures { columns_of result.now ≡ indexes_of (block_in self.now) table }
+    {
+        match self.indexes.get(table) {
+            Some(indexes) => indexes.as_slice(),
+            None => &[],
+        }
+    }
+
     /// The columns of an index of a table, or none where it isn't there.
     fn columns(&self, table: usize, index: usize) -> &[usize]
         ensures { result.now ≡ columns_at self.now table index }
     {
-        match self.indexes.get(table) {
-            Some(indexes) => match indexes.get(index) {
-                Some(columns) => columns,
-                None => &[],
-            },
+        match self.indexes_of(table).get(index) {
+            Some(columns) => columns.as_slice(),
             None => &[],
         }
     }
@@ -57,4 +64,11 @@ pub(crate) fn from_one(number: usize) -> u128
     ensures { result ≡ number + 1 }
 {
     number as u128 + 1
+}
+
+/// A number that counts from 1, counted from 0.
+pub(crate) fn from_zero(number: u64) -> usize
+    ensures { result ≡ number - 1 }
+{
+    number.saturating_sub(1) as usize
 }

@@ -2,9 +2,9 @@
 
 ghost use Rattle.std.specs.Prelude.{◌≡◌, ◌+◌, ◌++◌, map, codes, decimal, flat_map, IfOk, OnOk};
 ghost use Rattle.definitions.specs.Printing.{line};
-ghost use Rattle.certificate_definitions.specs.CertifiedBlock as c;
-ghost use Rattle.certificate_definitions.specs.Text as spec;
-ghost use Rattle.certificate_definitions.specs.Spelling.{path_written, plan_written, spelling};
+ghost use Rattle.definitions.specs.Certificates.CertifiedBlock as c;
+ghost use Rattle.definitions.specs.Certificates.Text as spec;
+ghost use Rattle.definitions.specs.Certificates.Spelling.{path_written, plan_written, spelling};
 ghost use Rattle.plans.specs.Plans.{path_of, plan_of, inner_of};
 ghost use Rattle.plan_orders.specs.Versions.{version_of};
 ghost use Rattle.certificate.specs.Certificates.{state_of, certificate_of};

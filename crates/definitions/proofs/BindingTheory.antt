@@ -5,7 +5,9 @@ mod ExprTypes
 mod FormedValues
 mod FormedConditions
 mod FormedParts
+mod ConjunctCounts
 mod FormedBlocks
+mod InnerBlocks
 pub mod AcceptedQueries
 pub mod WorkedBindings
 mod WorkedForms

@@ -19,4 +19,5 @@ pub mod PlanTheory
 pub mod QueryTheory
 pub mod BindingTheory
 pub mod EstimateTheory
+pub mod CertificateTheory
 pub mod WrittenParts

@@ -69,6 +69,7 @@ faults_change_nothing answers old new s text (step.made db a b n t e) = absurd c
 faults_change_nothing answers old new s text (step.no_file a b l c d e n t f) = rw n refl
 faults_change_nothing answers old new s text (step.load a b c l t r db e f g h lo n) = rw n (loaded_fault _ _ _ _ _ _ lo)
 faults_change_nothing answers old new s text (step.query q blocks told a b c d n t e) = rw n refl
+faults_change_nothing answers old new s text (step.explain q blocks a b c d n e) = rw n refl
 
 same_query : (q q' : Select) → Query q ≡ Query q' → q ≡ q'
 same_query q q' e = cc
@@ -87,6 +88,7 @@ select_prints_answer L answers old new q text (step.made db a (made.table_set n 
 select_prints_answer L answers old new q text (step.made db a (made.index_set n c v x m y k e f g h i j) l t w) = absurd cc
 select_prints_answer L answers old new q text (step.no_file a b l c d e n t f) = absurd cc
 select_prints_answer L answers old new q text (step.load a b c l t r db e f g h lo n) = absurd cc
+select_prints_answer L answers old new q text (step.explain q' blocks s a bound are n e) = absurd cc
 select_prints_answer L answers old new q text (step.query q' blocks (Exception raise) s a bound allowed n t e) = absurd cc
 select_prints_answer L answers old new q text (step.query q' blocks (Rows rows) s a bound allowed n t e) =
     let (bag, meant, permuted, sorted) = rows_meant (answer old.database blocks) (order_of blocks) rows allowed in

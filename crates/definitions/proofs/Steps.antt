@@ -424,3 +424,4 @@ step_keeps_database L answers old new s text ended h (step.made db a m n t e) = 
 step_keeps_database L answers old new s text ended h (step.no_file a b l c d e n t f) = rw n h
 step_keeps_database L answers old new s text ended h (step.load name file bytes l t records db e named g k lo n) = rw n (loaded_database old.database db name t records text ended h named lo)
 step_keeps_database L answers old new s text ended h (step.query q blocks told e a b allowed n w x) = rw n h
+step_keeps_database L answers old new s text ended h (step.explain q blocks e a b are n w) = rw n h

@@ -1,13 +1,13 @@
 -- What is written through and through is written in each of its parts, and in those of the blocks inside it.
-use Rattle.std.proofs.Common.{◌≡◌, refl, ℕ, ◌<◌, ◌≤◌, ◌^◌, Bool, List, [], ◌∷◌, ◌++◌, map}
-use Rattle.std.specs.Prelude.{⊤, flat_map, IsTrue, length}
+use Rattle.std.proofs.Common.{◌<◌, List, [], ◌∷◌, ◌++◌, map}
+use Rattle.std.specs.Prelude.{⊤, flat_map, length}
 use Rattle.std.specs.List.{AllByRecursion}
 use Rattle.definitions.specs.Statement.{Expr, Column, Numeral, String, Signed, Line, Not, Compare, CompareAll, IsNull, Between, Like, InList, InQuery, Exists, Scalar, CountRows, Function, Operands, NoOperand, Operand, Members, NoMember, NullMember, Member, Items, NoItem, AddItem, Item, listed, SelectList, Asterisk, Listed, Condition, Absent, Present, Block, Specification, Select}
 use Rattle.definitions.specs.Table.{Database}
 use Rattle.definitions.specs.Binding.Scopes.{Scopes, scope_of}
 use Rattle.definitions.specs.Binding.Parts.{PlacedBlock, inner_parts, operand_parts, member_parts, parts, item_values, condition_values, blocks_in, operand_blocks, member_blocks, item_blocks, list_blocks, condition_blocks, block_blocks}
 use Rattle.definitions.specs.Binding.Faults.{argument_parts, all_parts, where_parts, shown_parts}
-use Rattle.definitions.specs.Binding.Formed.{IsWrittenNumeral, IsWrittenString, IsWritten, AreWritten}
+use Rattle.definitions.specs.Binding.Formed.{IsWrittenNumeral, IsWrittenString, IsWritten, NamesTables, AreWritten}
 
 abbrev mutual
   pub WrittenExpr : Expr → Type 0
@@ -50,7 +50,7 @@ abbrev mutual
   WrittenCondition (Present e) = WrittenExpr e
 
   pub WrittenBlock : Block → Type 0
-  WrittenBlock (Specification distinct list sources where' groups having) = WrittenList list × WrittenCondition where' × WrittenCondition having
+  WrittenBlock (Specification distinct list sources where' groups having) = WrittenList list × WrittenCondition where' × WrittenCondition having × (0 < length sources)
 
 all_both : {X : Type 0} (P : X → Type 0) (xs ys : List X) → AllByRecursion P xs → AllByRecursion P ys → AllByRecursion P (xs ++ ys)
 all_both P [] ys h k = k
@@ -124,15 +124,15 @@ values_of_condition Absent w = tt
 values_of_condition (Present e) w = (w, tt)
 
 abbrev IsWrittenBlock : PlacedBlock → Type 0
-IsWrittenBlock p = AllByRecursion IsWritten (all_parts p.block)
+IsWrittenBlock p = AllByRecursion IsWritten (all_parts p.block) × NamesTables p.block
 
-block_itself : (block : Block) → WrittenBlock block → AllByRecursion IsWritten (all_parts block)
+block_itself : (block : Block) → WrittenBlock block → AllByRecursion IsWritten (all_parts block) × NamesTables block
 block_itself (Specification distinct list sources where' groups having) w =
     let block : Block = Specification distinct list sources where' groups having in
     let in_where = parts_of_all (condition_values where') (values_of_condition where' w.1) in
     let in_shown = parts_of_all (item_values list ++ condition_values having) (all_both WrittenExpr (item_values list) (condition_values having) (values_of_list list w.0) (values_of_condition having w.2)) in
     let both = all_both WrittenExpr (where_parts block) (shown_parts block) in_where in_shown in
-    all_of WrittenExpr IsWritten literal (all_parts block) (all_both WrittenExpr (where_parts block ++ shown_parts block) (flat_map argument_parts (where_parts block ++ shown_parts block)) both (arguments_of_all (where_parts block ++ shown_parts block) both))
+    (all_of WrittenExpr IsWritten literal (all_parts block) (all_both WrittenExpr (where_parts block ++ shown_parts block) (flat_map argument_parts (where_parts block ++ shown_parts block)) both (arguments_of_all (where_parts block ++ shown_parts block) both)), w.3)
 
 module _ (db : Database) where
   mutual

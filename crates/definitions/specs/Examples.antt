@@ -1,3 +1,4 @@
 -- Worked examples of the definitions. No claim rests on them.
 pub mod Plans
 pub mod Estimates
+pub mod Certificates

@@ -35,7 +35,7 @@ pub data Faulty (db : Database) : Statement → Refusal → Type 0 where
   no_table : (name : Name) (file : List ℕ) → table_named db name ≡ None → Faulty db (Load name file) NotFound
   query : (q : Select) (r : Refusal) → binding.Faulty db q r → Faulty db (Query q) r
   not_yet : (q : Select) → binding.IsAccepted db q → ¬ (CanAnswer (bound_form db q)) → Faulty db (Query q) OverQueryLimit
-  explained : (q : Select) → Faulty db (Explain q) OverQueryLimit
+  explained : (q : Select) (r : Refusal) → binding.Faulty db q r → Faulty db (Explain q) r
 
 -- a statement without a fault
 abbrev pub IsAccepted : Database → Statement → Type 0

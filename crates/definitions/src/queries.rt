@@ -4,7 +4,7 @@ ghost use Rattle.definitions.specs.Queries.Laws.{WhereKeepsWhatIsTrue, KeptHasPa
 ghost use Rattle.definitions.specs.Queries.Laws.{GroupingSaysNothing, OrderSaysNothing, WhatCannotRaiseDoesNot, ConditionsThatCannotRaiseDoNot};
 ghost use Rattle.definitions.specs.Queries.Laws.{GroupsAreAll, GroupsAreClasses, BlocksMeanByThoseBehind, BlocksBehindMeanTheSame, EqualRankInATypeIsEquality, ValuesHaveTheirTypes};
 ghost use Rattle.definitions.specs.Queries.Telling.{SubqueriesStandInAnyOrder};
-ghost use Rattle.definitions.specs.Binding.Formed.{AcceptedQueriesAreFormed};
+ghost use Rattle.definitions.specs.Binding.Formed.{AcceptedQueriesAreFormed, EachBlockIsFormed, AcceptedQueriesHaveFewBlocks};
 
 /// WHERE keeps the combinations on which its condition is true, whatever is early in it and what is late.
 pub fn where_keeps_what_is_true()
@@ -68,5 +68,7 @@ pub fn values_have_their_types()
 
 /// What is bound of a query without a fault is well formed: whatever its blocks name by number is there, of the type that is told.
 pub fn accepted_queries_are_formed()
-    ensures { AcceptedQueriesAreFormed }
+    ensures formed { AcceptedQueriesAreFormed }
+    ensures each { EachBlockIsFormed }
+    ensures few { AcceptedQueriesHaveFewBlocks }
 {}

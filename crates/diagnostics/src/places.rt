@@ -16,7 +16,7 @@ pub(crate) fn offset_of(cause: &Cause) -> usize {
             None => unexpected.behind,
         },
         Cause::TooDeep { offset } => *offset,
-        Cause::Explain(query) | Cause::NotYet(query) => query.block.start,
+        Cause::NotYet(query) => query.block.start,
         Cause::Create {
             name,
             columns,

@@ -114,7 +114,6 @@ impl Report<'_> {
             Cause::Lexical(fault) => write_lexical(f, self.script, *fault),
             Cause::Unexpected(unexpected) => write_unexpected(f, self.script, unexpected),
             Cause::TooDeep { .. } => write_too_deep(f),
-            Cause::Explain(_) => f.write_str("EXPLAIN can't be run yet"),
             Cause::Create {
                 name,
                 columns,

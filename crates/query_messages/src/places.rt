@@ -44,7 +44,7 @@ fn start_of_list(block: &Block) -> usize {
 
 /// Where the first table of FROM stands.
 fn start_of_from(block: &Block) -> usize {
-    match block.sources.first() {
+    match block.sources.tables.first() {
         Some(source) => source.table.start,
         None => block.start,
     }

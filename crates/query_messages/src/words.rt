@@ -73,7 +73,7 @@ fn write_no_column<W: fmt::Write>(
 
 /// The table of a query over one.
 fn only_table(query: &Select) -> Option<&Name> {
-    match query.block.sources.as_slice() {
+    match query.block.sources.tables.as_slice() {
         [source] => Some(&source.table),
         _ => None,
     }

@@ -46,9 +46,9 @@ decides x distinct list sources where' e = (
 pub scan_decides : (query : Block) (x : Bool) → query.groups.items ≡ [] → query.having ≡ None → x ≡ list_any is_function (flat_map parts (item_values (list_of query.list)))
     → (x ≡ true → IsGrouped (block_of query)) × (IsGrouped (block_of query) → x ≡ true)
 scan_decides query x g h e =
-    let whole = of_block query ∙ ap (λ gs. Specification query.distinct (list_of query.list) (map source_of query.sources.items) (condition_of query.condition) (map column_of gs) (condition_of query.having)) g
-    ∙ ap (λ o. Specification query.distinct (list_of query.list) (map source_of query.sources.items) (condition_of query.condition) [] (condition_of o)) h in
-    rw whole (decides x query.distinct (list_of query.list) (map source_of query.sources.items) (condition_of query.condition) e)
+    let whole = of_block query ∙ ap (λ gs. Specification query.distinct (list_of query.list) (map source_of query.sources.tables.items) (condition_of query.condition) (map column_of gs) (condition_of query.having)) g
+    ∙ ap (λ o. Specification query.distinct (list_of query.list) (map source_of query.sources.tables.items) (condition_of query.condition) [] (condition_of o)) h in
+    rw whole (decides x query.distinct (list_of query.list) (map source_of query.sources.tables.items) (condition_of query.condition) e)
 
 pub no_groups : {X : Type 0} (xs : List X) (n : ℕ) → n == 0 ≡ true → n ≡ length xs → xs ≡ []
 no_groups [] n h e = refl

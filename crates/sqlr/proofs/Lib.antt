@@ -3,4 +3,5 @@ pub mod Taking
 pub mod Changing
 pub mod Running
 pub mod Selecting
+pub mod Explained
 pub mod Written

@@ -21,6 +21,8 @@ use Rattle.sqlr.specs.declared.outcome.Printed.{Printed}
 use Rattle.sqlr.specs.declared.outcome.StepFault.{StepFault}
 use Rattle.sqlr.specs.Selecting as selecting
 use Rattle.sqlr.specs.Selecting.{Answers}
+use Rattle.sqlr.specs.Explaining as explaining
+use Rattle.sqlr.specs.Explaining.{Explains}
 use Rattle.sqlr.specs.Sessions.{Takes, TakesBytes}
 
 -- ---- the table of a name
@@ -115,3 +117,10 @@ pub query_taken : {L : Type 0} (answers : Answering L) (s : State L) (q : tree.S
 query_taken answers s q (Ok p) (selecting.refused r f t d) = (step.Faulted, step.refused r f refl t refl, d)
 query_taken answers s q (Ok p) (selecting.told blocks told a b allowed t d) = (step.told_ended told, step.query q blocks told refl a b allowed refl t refl, d)
 query_taken answers s q (Err f) h = tt
+
+-- ---- EXPLAIN
+
+pub explained_taken : {L : Type 0} (answers : Answering L) (s : State L) (q : tree.Select) (result : Result Printed StepFault) → IfOk result (Explains s.database q) → IfOk result (Takes answers s (tree.Explain q) s)
+explained_taken answers s q (Ok p) (explaining.refused r f t d) = (step.Faulted, step.refused r f refl t refl, d)
+explained_taken answers s q (Ok p) (explaining.told blocks a b are d) = (step.Well, step.explain q blocks refl a b are refl refl, d)
+explained_taken answers s q (Err f) h = tt

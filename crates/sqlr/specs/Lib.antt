@@ -4,4 +4,5 @@ pub mod Meaning
 pub mod Outcomes
 pub mod Scripts
 pub mod Selecting
+pub mod Explaining
 pub mod Sessions

@@ -27,8 +27,6 @@ pub enum Cause<'a> {
     TooDeep {
         offset: usize,
     },
-    /// EXPLAIN can't be run so far.
-    Explain(&'a Select),
     /// A table is not made.
     Create {
         name: &'a Name,

@@ -4,6 +4,7 @@
 mod cause;
 mod changes;
 mod ended;
+mod explaining;
 mod library;
 mod not_yet;
 mod outcome;

@@ -13,6 +13,7 @@ ghost use Rattle.sqlr.specs.Sessions.{BreaksIn, BreaksLine, BreaksOff, IsBlamed,
 use crate::cause::{Cause, FileLoad, Refused};
 use crate::changes::{create_index, create_table, set_index, set_table};
 use crate::ended::{Ended, RunFault};
+use crate::explaining::explain;
 use crate::library::{FetchFault, Fetched, Library};
 use crate::outcome::{Printed, StepFault, done, refused, refused_record};
 use crate::script::{ScriptFault, parse_script};
@@ -121,7 +122,7 @@ impl<L: Library> Session<L> {
                 Err(StepFault::Memory) => return Err(RunFault::Memory { offset }),
                 Err(StepFault::Library) => return Err(RunFault::Library { offset }),
             };
-            explain(sink, &printed.refused, &self.database);
+            tell_cause(sink, &printed.refused, &self.database);
             match sink.put(&printed.text) {
                 Ok(()) => {}
                 Err(_) => return Err(RunFault::Sink),
@@ -158,9 +159,7 @@ impl<L: Library> Session<L> {
                 figures,
             } => set_index(alloc, &mut self.database, table, columns, figures),
             Statement::Query(query) => select(alloc, &self.database, query),
-            Statement::Explain(query) => {
-                refused(alloc, Refusal::OverQueryLimit, Cause::Explain(query))
-            }
+            Statement::Explain(query) => explain(alloc, &self.database, query),
         }
     }
 
@@ -217,7 +216,7 @@ impl<L: Library> Session<L> {
 }
 
 /// Tells a sink why a statement is refused, if it is.
-fn explain<S: Sink>(sink: &mut S, refused: &Option<Refused>, database: &Database)
+fn tell_cause<S: Sink>(sink: &mut S, refused: &Option<Refused>, database: &Database)
     ensures taken { S.taken sink.new ≡ S.taken sink.old }
     ensures counted { S.failures sink.new ≡ S.failures sink.old }
 {
@@ -234,7 +233,12 @@ fn place_of(statement: &Statement) -> usize {
         | Statement::SetTable { table, .. }
         | Statement::SetIndex { table, .. } => table.start,
         Statement::Load { file, .. } => file.start,
-        Statement::Query(query) | Statement::Explain(query) => match query.block.sources.first() {
+        Statement::Query(query) | Statement::Explain(query) => match query
+            .block
+            .sources
+            .tables
+            .first()
+        {
             Some(source) => source.table.start,
             None => query.block.start,
         },

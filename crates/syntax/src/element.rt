@@ -1,6 +1,6 @@
 //! Lists of what has no levels: names, columns, sources, keys.
 
-ghost use Rattle.std.specs.Prelude.{◌≡◌, map};
+ghost use Rattle.std.specs.Prelude.{◌≡◌, ◌<◌, map, length, IfOk};
 ghost use Rattle.definitions.specs.Grammar.{ListOf};
 ghost use Rattle.cursor.specs.Reading.{ParsesFlat, viewed};
 
@@ -29,7 +29,8 @@ pub trait Element: Drop {
 
 /// `element { "," element }`.
 pub fn comma_list<T: Element>(cursor: &mut Cursor) -> Result<Vec<T>, Stop>
-    ensures { ParsesFlat (ListOf T.rule) cursor.old cursor.new (viewed (λ (xs : _). map T.tree_of xs.items) result) }
+    ensures reads { ParsesFlat (ListOf T.rule) cursor.old cursor.new (viewed (λ (xs : _). map T.tree_of xs.items) result) }
+    ensures some { IfOk result (λ xs. 0 < length xs.items) }
 {
     let mut elements = Vec::new(cursor.alloc);
     let first = T::read(cursor)?;

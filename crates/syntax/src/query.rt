@@ -13,7 +13,9 @@ use crate::element::{Element, comma_list};
 use crate::expr;
 use cursor::{Cursor, LineKind, Stop, TokenClass};
 use lexer::{Symbol, Word};
-use trees::{Block, ColumnReference, Expr, Item, Key, KeyName, Name, Select, SelectList, Source};
+use trees::{
+    Block, ColumnReference, Expr, Item, Key, KeyName, Name, Select, SelectList, Source, Sources,
+};
 
 /// A query block (ISO/IEC 9075:1992, 7.9).
 #[cycle(expressions)]
@@ -25,7 +27,7 @@ pub fn block(cursor: &mut Cursor, levels: u8) -> Result<Block, Stop>
     let distinct = distinct(cursor);
     let list = select_list(cursor, levels)?;
     cursor.expect_word(Word::From)?;
-    let sources = comma_list::<Source>(cursor)?;
+    let tables = comma_list::<Source>(cursor)?;
     let condition = condition_behind(cursor, Word::Where, levels)?;
     let groups = groups(cursor)?;
     let having = condition_behind(cursor, Word::Having, levels)?;
@@ -33,7 +35,7 @@ pub fn block(cursor: &mut Cursor, levels: u8) -> Result<Block, Stop>
         start,
         distinct,
         list,
-        sources,
+        sources: Sources { tables },
         condition,
         groups,
         having,

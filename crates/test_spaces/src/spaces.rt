@@ -10,7 +10,7 @@ use estimate::Estimate;
 use plan_space::{Space, Version};
 use std::alloc::Global;
 
-/// The plan space of a block over its database; `None` where the block has no table.
+/// The plan space of a block over its database; `None` where memory runs out.
 pub fn space<'a>(
     alloc: Global,
     database: &'a Database,
@@ -23,8 +23,5 @@ pub fn space<'a>(
     let Ok(estimate) = Estimate::new(alloc, database, block) else {
         return None;
     };
-    if estimate.table_count() == 0 {
-        return None;
-    }
     Space::new(alloc, estimate, version).ok()
 }

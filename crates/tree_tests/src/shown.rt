@@ -128,7 +128,7 @@ impl Writer {
             SelectList::Asterisk { start } => self.put_at("*", *start),
             SelectList::Items(items) => self.items(items),
         }
-        self.sources(&block.sources);
+        self.sources(&block.sources.tables);
         if let Some(condition) = &block.condition {
             self.put(" WHERE ");
             self.expr(condition);

@@ -88,13 +88,13 @@ of_items xs = ap list_of (sym (v.rolls-Items xs)) ∙ folds.fold-roll-SelectList
 
 of_parts : (start : ℕ) (distinct : Bool) (list sources : _) (condition : Option Expr) (groups : _) (having : Option Expr)
     → block_layer (folds.map-Block _ _ _ _ _ _ _ _ _ _ expr_of list_of block_of item_of operand_of (record { start = start; distinct = distinct; list = list; sources = sources; condition = condition; groups = groups; having = having }))
-    ≡ spec.Specification distinct (list_of list) (map source_of sources.items) (condition_of condition) (map column_of groups.items) (condition_of having)
+    ≡ spec.Specification distinct (list_of list) (map source_of sources.tables.items) (condition_of condition) (map column_of groups.items) (condition_of having)
 of_parts start distinct list sources None groups None = refl
 of_parts start distinct list sources None groups (Some h) = refl
 of_parts start distinct list sources (Some c) groups None = refl
 of_parts start distinct list sources (Some c) groups (Some h) = refl
 
-pub of_block : (b : Block) → block_of b ≡ spec.Specification b.distinct (list_of b.list) (map source_of b.sources.items) (condition_of b.condition) (map column_of b.groups.items) (condition_of b.having)
+pub of_block : (b : Block) → block_of b ≡ spec.Specification b.distinct (list_of b.list) (map source_of b.sources.tables.items) (condition_of b.condition) (map column_of b.groups.items) (condition_of b.having)
 of_block b =
     folds.fold_out-Block spec.Expr spec.SelectList spec.Block spec.Item OperandTree expr_layer list_layer block_layer item_layer operand_layer b
     ∙ ap (λ z. block_layer (folds.map-Block _ _ _ _ _ _ _ _ _ _ expr_of list_of block_of item_of operand_of z)) (v.outs-struct-Block b)

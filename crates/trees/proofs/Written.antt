@@ -1,10 +1,11 @@
 -- The literals of these trees are as they can be written, through and through.
-use Rattle.std.proofs.Common.{ℕ, Bool, subst, List, [], ◌∷◌, map, Option, Some, None}
+use Rattle.std.proofs.Common.{ℕ, ◌<◌, Bool, subst, List, [], ◌∷◌, map, length, Option, Some, None, arith}
+use Rattle.std.proofs.lemmas.List.{length-map}
 use Rattle.std.specs.Prelude.{⊤}
 use Rattle.definitions.specs.Statement as spec
 use Rattle.definitions.specs.Grammar.{operands, members, items}
 use Rattle.definitions.proofs.WrittenParts.{WrittenExpr, WrittenOperands, WrittenMembers, WrittenItems, WrittenList, WrittenBlock}
-use Rattle.trees.specs.Trees.{OperandTree, expr_of, list_of, block_of, item_of, operand_of, expr_layer, list_layer, block_layer, item_layer, operand_layer}
+use Rattle.trees.specs.Trees.{OperandTree, source_of, expr_of, list_of, block_of, item_of, operand_of, expr_layer, list_layer, block_layer, item_layer, operand_layer}
 use Rattle.trees.specs.declared.expr.Expr.{Expr}
 use Rattle.trees.specs.declared.expr.Expr.TheOpen as o
 use Rattle.trees.specs.declared.expr.Expr.TheOpen.{Expr-F, SelectList-F, Item-F, Operand-F, Block-F}
@@ -13,6 +14,7 @@ use Rattle.trees.specs.declared.expr.SelectList.{SelectList}
 use Rattle.trees.specs.declared.expr.Block.{Block}
 use Rattle.trees.specs.declared.expr.Item.{Item}
 use Rattle.trees.specs.declared.expr.Operand.{Operand}
+use Rattle.trees.specs.declared.expr.Sources.{Sources}
 
 abbrev PE : Expr → Type 0
 PE e = WrittenExpr (expr_of e)
@@ -109,12 +111,16 @@ block_parts y = folds.map-Block SE SL SB SI SO Expr SelectList Block Item Operan
 abbrev block_meaning : Block-F Expr SelectList Block Item Operand → spec.Block
 block_meaning x = block_layer (folds.map-Block Expr SelectList Block Item Operand spec.Expr spec.SelectList spec.Block spec.Item OperandTree expr_of list_of block_of item_of operand_of x)
 
-clauses : (start : ℕ) (distinct : Bool) (list : SL) (sources : _) (condition : Option SE) (groups : _) (having : Option SE)
+-- as many tables as there are trees of them
+some_tables : (sources : Sources) → 0 < length (map source_of sources.tables.items)
+some_tables sources = let named = sources.some in omega (arith, named, length-map sources.tables.items source_of)
+
+clauses : (start : ℕ) (distinct : Bool) (list : SL) (sources : Sources) (condition : Option SE) (groups : _) (having : Option SE)
     → WrittenBlock (block_meaning (block_parts (record { start = start; distinct = distinct; list = list; sources = sources; condition = condition; groups = groups; having = having })))
-clauses start distinct list sources None groups None = (list.1, tt, tt)
-clauses start distinct list sources None groups (Some h) = (list.1, tt, h.1)
-clauses start distinct list sources (Some c) groups None = (list.1, c.1, tt)
-clauses start distinct list sources (Some c) groups (Some h) = (list.1, c.1, h.1)
+clauses start distinct list sources None groups None = (list.1, tt, tt, some_tables sources)
+clauses start distinct list sources None groups (Some h) = (list.1, tt, h.1, some_tables sources)
+clauses start distinct list sources (Some c) groups None = (list.1, c.1, tt, some_tables sources)
+clauses start distinct list sources (Some c) groups (Some h) = (list.1, c.1, h.1, some_tables sources)
 
 block_step : (y : Block-F SE SL SB SI SO) → WrittenBlock (block_meaning (block_parts y))
 block_step y = clauses y.start y.distinct y.list y.sources y.condition y.groups y.having

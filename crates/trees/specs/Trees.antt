@@ -106,7 +106,7 @@ list_layer (e.Asterisk p) = spec.Asterisk
 list_layer (e.Items xs) = spec.Listed (items xs.items)
 
 abbrev pub block_layer : Block-F spec.Expr spec.SelectList spec.Block spec.Item OperandTree → spec.Block
-block_layer b = spec.Specification b.distinct b.list (map source_of b.sources.items) (condition_layer b.condition) (map column_of b.groups.items) (condition_layer b.having)
+block_layer b = spec.Specification b.distinct b.list (map source_of b.sources.tables.items) (condition_layer b.condition) (map column_of b.groups.items) (condition_layer b.having)
 
 abbrev pub item_layer : Item-F spec.Expr spec.SelectList spec.Block spec.Item OperandTree → spec.Item
 item_layer i = record { value = i.value; alias = option_map name_of i.alias }

@@ -1,5 +1,7 @@
 //! Expressions and query blocks.
 
+ghost use Rattle.std.specs.Prelude.{◌<◌, length};
+
 use crate::leaf::{
     ColumnReference, LineOperator, Name, Numeral, Quantifier, SetFunction, StringLiteral,
 };
@@ -126,6 +128,13 @@ pub struct Source {
     pub correlation: Option<Name>,
 }
 
+/// The tables of FROM, one at least (ISO/IEC 9075:1992, 7.4).
+#[derive(Drop)]
+pub struct Sources {
+    pub tables: Vec<Source>,
+    pub ghost some: { 0 < length tables.items },
+}
+
 /// A query block; `start` is that of its word SELECT (ISO/IEC 9075:1992, 7.9).
 #[cycle(tree)]
 #[derive(Drop)]
@@ -133,7 +142,7 @@ pub struct Block {
     pub start: usize,
     pub distinct: bool,
     pub list: SelectList,
-    pub sources: Vec<Source>,
+    pub sources: Sources,
     pub condition: Option<Expr>,
     pub groups: Vec<ColumnReference>,
     pub having: Option<Expr>,

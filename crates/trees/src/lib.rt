@@ -6,7 +6,7 @@ mod expr;
 mod leaf;
 mod statement;
 
-pub use expr::{Block, Expr, Item, Operand, SelectList, Source};
+pub use expr::{Block, Expr, Item, Operand, SelectList, Source, Sources};
 pub use leaf::{
     ColumnReference, Count, LineOperator, Name, Numeral, Quantifier, SetFunction, StringLiteral,
 };

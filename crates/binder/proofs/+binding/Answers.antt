@@ -57,7 +57,7 @@ block::block-returns-in_err-groups t c =
 pub block::block-bound_clauses-requires : goal.block::block-bound_clauses-requires
 block::block-bound_clauses-requires t c =
     let inside = rw c.deref.ensures.value at c.in_ok-scopes.ensures.ok in
-    let sight = sight_inside c.args.database.now c.args.outer.now c.in_ok-scopes.scopes (map source_of c.args.query.now.sources.items) c.requires.sight inside in
+    let sight = sight_inside c.args.database.now c.args.outer.now c.in_ok-scopes.scopes (map source_of c.args.query.now.sources.tables.items) c.requires.sight inside in
     let shown : IsTrue (takes_functions (place_of c.shown_place-place.result)) = rw c.shown_place-place.ensures refl in
     let count : length c.push.new.self.items ≡ length c.args.blocks.now.items + 1 = ap length c.in_ok-push.ensures.items ∙ length_of_both c.args.blocks.now.items (c.empty.result ∷ []) in
     let few : length c.push.new.self.items ≤ most_blocks = omega (arith, count, c.if-number-ge-MAX_BLOCKS.false, c.len-number.ensures, c.args.blocks.now.ok.0) in

@@ -18,6 +18,7 @@ use Rattle.definitions.proofs.BindingTheory.SoundBlocks.{IsSoundPart, IsGood, Is
 use Rattle.definitions.proofs.BindingTheory.FormedValues.{AreAround, Setting, IsAt, FunctionsAt, functions_both}
 use Rattle.definitions.proofs.BindingTheory.FormedConditions.{IsReady}
 use Rattle.definitions.proofs.BindingTheory.FormedParts.{HasNoBlocks, list_without, condition_without, list_after, list_functions, condition_functions, list_bound, IsTestOption, option_test, option_formed, groups_bound, functions_bound, keys_bound}
+use Rattle.definitions.proofs.BindingTheory.ConjunctCounts.{few_conjuncts}
 
 -- a block among the blocks of a query, of a number, with the bound blocks around it and their FROMs. All these blocks are without fault, and
 -- bound; the keys are there
@@ -86,19 +87,19 @@ module _ (p : Place) where
 
   -- ---- the blocks inside it
 
-  abbrev in_list : List PlacedBlock
+  abbrev pub in_list : List PlacedBlock
   in_list = list_blocks p.db scopes_of p.list
 
-  abbrev in_where : List PlacedBlock
+  abbrev pub in_where : List PlacedBlock
   in_where = condition_blocks p.db scopes_of p.restriction
 
-  abbrev in_having : List PlacedBlock
+  abbrev pub in_having : List PlacedBlock
   in_having = condition_blocks p.db scopes_of p.having
 
-  none_in_list : in_list ≡ []
+  pub none_in_list : in_list ≡ []
   none_in_list = nothing_in_front in_list in_having sound.no_blocks
 
-  none_in_having : in_having ≡ []
+  pub none_in_having : in_having ≡ []
   none_in_having = nothing_behind in_list in_having sound.no_blocks
 
   where_good : AllByRecursion (IsGood p.db) in_where
@@ -192,10 +193,12 @@ module _ (p : Place) where
 
   pub block_is_formed : IsFormedBlock p.db p.blocks p.around p.number setting.block
   block_is_formed = record {
+    some = rw (as_many_tables p.db p.sources) goods.0.some;
     tables = numbers_within p.db p.sources sound.own;
     count = rw (as_many_tables p.db p.sources) sound.few;
     items = list_bound setting first p.list p.sources p.froms refl list_ready sound.values;
     condition = option_formed setting (bound_option p.db scopes_of second p.restriction) where_tested;
+    conjuncts = few_conjuncts p.db scopes_of p.restriction second sound.few_conjuncts;
     groups = groups_bound setting p.groups sound.groups;
     having = option_formed setting (bound_option p.db scopes_of third p.having) having_tested;
     functions = functions_bound setting (flat_map functions_in shown) sound.there function_parts function_blocks;

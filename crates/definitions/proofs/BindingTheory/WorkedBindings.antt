@@ -310,10 +310,12 @@ correlated_binds = refl
 
 outer_is_formed : g.IsFormedBlock t_and_u two_blocks [] 0 outer_block
 outer_is_formed = record {
+  some = lit< tt;
   tables = (lit< tt, tt);
   count = lit≤ tt;
   items = (((0, t_table, x_column, refl, refl, refl, refl), refl), tt);
   condition = (tt, refl, (lit< tt, tt));
+  conjuncts = lit≤ tt;
   groups = tt;
   having = tt;
   functions = tt;
@@ -322,10 +324,12 @@ outer_is_formed = record {
 
 inner_is_formed : g.IsFormedBlock t_and_u two_blocks (outer_block ∷ []) 1 inner_block
 inner_is_formed = record {
+  some = lit< tt;
   tables = (lit< tt, tt);
   count = lit≤ tt;
   items = (((1, u_table, v_column, refl, refl, refl, refl), refl), tt);
   condition = ((((1, u_table, v_column, refl, refl, refl, refl), refl), (((outer_block, refl, (0, t_table, x_column, refl, refl, refl, refl)), refl), tt)), refl, tt);
+  conjuncts = lit≤ tt;
   groups = tt;
   having = tt;
   functions = tt;

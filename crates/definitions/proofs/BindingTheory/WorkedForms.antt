@@ -49,7 +49,7 @@ t_and_u_is_database = record {
 
 -- SELECT X FROM T WHERE X = 1
 faultless_is_written : AreWritten t_and_u faultless
-faultless_is_written = ((tt, (tt, ((lit< tt, lit≤ tt), (tt, tt)))), tt)
+faultless_is_written = (((tt, (tt, ((lit< tt, lit≤ tt), (tt, tt)))), lit< tt), tt)
 
 pub faultless_is_formed : AreFormed t_and_u (bound_form t_and_u faultless) [] 0
 faultless_is_formed = accepted_queries_are_formed t_and_u faultless t_and_u_is_database faultless_is_written faultless_is_accepted

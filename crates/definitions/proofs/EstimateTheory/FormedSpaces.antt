@@ -78,9 +78,9 @@ module _ (db : Database) (blocks around : Blocks) (n : ℕ) (block : Block) wher
   of_tests false true grouping order g o = o
   of_tests false false grouping order g o = tt
 
-  pub formed_has_plans : IsFormedBlock db blocks around n block → 0 < length block.tables → HasPlans block
-  formed_has_plans formed some = record {
-    some = some;
+  pub formed_has_plans : IsFormedBlock db blocks around n block → HasPlans block
+  formed_has_plans formed = record {
+    some = formed.some;
     required = All-from_recursion IsOwn (required_of block) (of_tests (is_grouped block) (list_all (λ key. is_some (sort_key block.items key)) block.order) (flat_map ascending block.groups)
         (filter_map (sort_key block.items) block.order) (grouped block.groups formed.groups) (ordered block.order formed.items));
   }

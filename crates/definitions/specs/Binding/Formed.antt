@@ -2,7 +2,7 @@
 use Rattle.std.specs.Prelude.{ℕ, zero, suc, ◌^◌, ◌<◌, ◌≤◌, ◌≡◌, ⊤, List, [], ◌∷◌, Option, Some, None, length, slice_get, is_some, IsTrue, Contains}
 use Rattle.std.specs.List.{AllByRecursion}
 use Rattle.definitions.specs.Characters.{is_printable}
-use Rattle.definitions.specs.Limits.{most_from_tables, most_digits, most_string_characters}
+use Rattle.definitions.specs.Limits.{most_from_tables, most_conjuncts, most_blocks, most_digits, most_string_characters}
 use Rattle.definitions.specs.Value.{SqlType}
 use Rattle.definitions.specs.ValueType.{ValueType, NumberType}
 use Rattle.definitions.specs.Table as table
@@ -12,10 +12,10 @@ use Rattle.definitions.specs.Arithmetic.{quotient_scale}
 use Rattle.definitions.specs.Plans.Order.{BlockColumn}
 use Rattle.definitions.specs.Statement.{SetFunction, Count, Sum, Avg}
 use Rattle.definitions.specs.Queries.BoundBlock.{ValueExpr, Column, Parameter, Numeral, String, Signed, Chain, SetValue, Subquery, Operands, NoOperand, Operand, Condition, BoundFunction, CountRows, OfValues, Item, Key, Block, Blocks}
-use Rattle.definitions.specs.Queries.Conjuncts.{values_of, blocks_of}
+use Rattle.definitions.specs.Queries.Conjuncts.{values_of, blocks_of, conjuncts}
 use Rattle.definitions.specs.Queries.BoundTypes.{value_type, is_sound}
 use Rattle.definitions.specs.Statement as t
-use Rattle.definitions.specs.Statement.{Expr, Select}
+use Rattle.definitions.specs.Statement.{Expr, Select, block_sources}
 use Rattle.definitions.specs.Binding.Parts as parts
 use Rattle.definitions.specs.Binding.Faults.{all_parts, IsAccepted}
 use Rattle.definitions.specs.Binding.BoundForm.{bound_form}
@@ -82,10 +82,12 @@ module _ (db : Database) (blocks around : Blocks) (n : ℕ) (b : Block) where
   IsFormedFunction (OfValues kind distinct argument) = IsTypedValue argument
 
   pub record IsFormedBlock : Type 0 where
+    pub some : 0 < length b.tables
     pub tables : AllByRecursion (λ t. t < length db) b.tables
     pub count : length b.tables ≤ most_from_tables
     pub items : AllByRecursion (λ (i : Item). IsTypedValue i.value) b.items
     pub condition : IfCondition b.condition
+    pub conjuncts : length (conjuncts b) ≤ most_conjuncts
     pub groups : AllByRecursion (λ c. (type : SqlType) × HasColumn db b c type) b.groups
     pub having : IfCondition b.having
     pub functions : AllByRecursion IsFormedFunction b.functions
@@ -100,7 +102,9 @@ pub data AreFormed (db : Database) (blocks : Blocks) : Blocks → ℕ → Type 0
   formed : (around : Blocks) (n : ℕ) (b : Block) → slice_get blocks n ≡ Some b → IsFormedBlock db blocks around n b
       → ((k : ℕ) → Contains (blocks_of_option b.condition) k → AreFormed db blocks (b ∷ around) k) → AreFormed db blocks around n
 
--- literals as they can be written (ISO/IEC 9075:1992, 5.3): a numeral's units have no more digits than it says, and the characters of a string are printable
+-- ---- queries as they can be written
+
+-- literals (ISO/IEC 9075:1992, 5.3): a numeral's units have no more digits than it says, and the characters of a string are printable
 abbrev pub IsWrittenNumeral : (units digits : ℕ) → Type 0
 IsWrittenNumeral units digits = (units < 10 ^ digits) × (digits ≤ most_digits)
 
@@ -112,9 +116,25 @@ IsWritten (t.Numeral units digits scale) = IsWrittenNumeral units digits
 IsWritten (t.String codes) = IsWrittenString codes
 IsWritten _ = ⊤
 
+-- and a FROM that names a table or more (7.4)
+abbrev pub NamesTables : t.Block → Type 0
+NamesTables block = 0 < length (block_sources block)
+
 abbrev pub AreWritten : Database → Select → Type 0
-AreWritten db q = AllByRecursion (λ (p : parts.PlacedBlock). AllByRecursion IsWritten (all_parts p.block)) (parts.blocks_of db q.block)
+AreWritten db q = AllByRecursion (λ (p : parts.PlacedBlock). AllByRecursion IsWritten (all_parts p.block) × NamesTables p.block) (parts.blocks_of db q.block)
 
 -- a query that is written so and has no fault has a bound form whose blocks are formed
 abbrev pub AcceptedQueriesAreFormed : Type 0
 AcceptedQueriesAreFormed = (db : Database) (q : Select) → IsDatabase db → AreWritten db q → IsAccepted db q → AreFormed db (bound_form db q) [] 0
+
+-- a block is formed where it stands
+abbrev pub IsFormedSomewhere : Database → Block → Type 0
+IsFormedSomewhere db b = (blocks around : Blocks) × (n : ℕ) × IsFormedBlock db blocks around n b
+
+-- each of them is
+abbrev pub EachBlockIsFormed : Type 0
+EachBlockIsFormed = (db : Database) (q : Select) → IsDatabase db → AreWritten db q → IsAccepted db q → AllByRecursion (IsFormedSomewhere db) (bound_form db q)
+
+-- and there are few of them
+abbrev pub AcceptedQueriesHaveFewBlocks : Type 0
+AcceptedQueriesHaveFewBlocks = (db : Database) (q : Select) → IsAccepted db q → length (bound_form db q) ≤ most_blocks

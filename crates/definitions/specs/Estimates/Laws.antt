@@ -38,10 +38,10 @@ pub record HasPlans (block : Block) : Type 0 where
 abbrev pub SpaceIsComplete : Type 0
 SpaceIsComplete = (version : Version) (db : Database) (block : Block) → HasPlans block → IsComplete (space_of version db block)
 
--- and each well-formed block with a table is one, whatever the blocks around it
+-- and each well-formed block is one, whatever the blocks around it
 abbrev pub FormedBlocksHavePlans : Type 0
 FormedBlocksHavePlans = (db : Database) (blocks around : Blocks) (n : ℕ) (block : Block)
-    → IsFormedBlock db blocks around n block → 0 < length block.tables → HasPlans block
+    → IsFormedBlock db blocks around n block → HasPlans block
 
 -- a path's order has a number, which stands for that order
 abbrev pub PathOrderIsNumbered : Type 0

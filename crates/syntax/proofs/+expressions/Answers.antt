@@ -437,25 +437,25 @@ pub query::block-returns-in_err-expect_word-2 : goal.query::block-returns-in_err
 unfolding g.BlockOf
 query::block-returns-in_err-expect_word-2 i c = answers _ _ (search rules) (past_on c.in_ok-expect_word.ensures (flat_on distinct_alike c.distinct-distinct.ensures (then_on (λ m. select_list_alike (within_alike c.args.levels m)) c.in_ok-list.ensures (past_fails c.in_err-expect_word-2.ensures))))
 
-pub query::block-returns-in_err-sources : goal.query::block-returns-in_err-sources
+pub query::block-returns-in_err-tables : goal.query::block-returns-in_err-tables
 unfolding g.BlockOf
-query::block-returns-in_err-sources i c = answers _ _ (search rules) (past_on c.in_ok-expect_word.ensures (flat_on distinct_alike c.distinct-distinct.ensures (then_on (λ m. select_list_alike (within_alike c.args.levels m)) c.in_ok-list.ensures (past_on c.in_ok-expect_word-2.ensures (then_fails (c.in_err-sources.ensures _ _))))))
+query::block-returns-in_err-tables i c = answers _ _ (search rules) (past_on c.in_ok-expect_word.ensures (flat_on distinct_alike c.distinct-distinct.ensures (then_on (λ m. select_list_alike (within_alike c.args.levels m)) c.in_ok-list.ensures (past_on c.in_ok-expect_word-2.ensures (then_fails (c.in_err-tables.ensures.reads _ _))))))
 
 pub query::block-returns-in_err-condition : goal.query::block-returns-in_err-condition
 unfolding g.BlockOf
-query::block-returns-in_err-condition i c = answers _ _ (search rules) (past_on c.in_ok-expect_word.ensures (flat_on distinct_alike c.distinct-distinct.ensures (then_on (λ m. select_list_alike (within_alike c.args.levels m)) c.in_ok-list.ensures (past_on c.in_ok-expect_word-2.ensures (flat_on (list_alike source_alike) c.in_ok-sources.ensures (then_fails c.in_err-condition.ensures))))))
+query::block-returns-in_err-condition i c = answers _ _ (search rules) (past_on c.in_ok-expect_word.ensures (flat_on distinct_alike c.distinct-distinct.ensures (then_on (λ m. select_list_alike (within_alike c.args.levels m)) c.in_ok-list.ensures (past_on c.in_ok-expect_word-2.ensures (flat_on (list_alike source_alike) c.in_ok-tables.ensures.reads (then_fails c.in_err-condition.ensures))))))
 
 pub query::block-returns-in_err-groups : goal.query::block-returns-in_err-groups
 unfolding g.BlockOf
-query::block-returns-in_err-groups i c = answers _ _ (search rules) (past_on c.in_ok-expect_word.ensures (flat_on distinct_alike c.distinct-distinct.ensures (then_on (λ m. select_list_alike (within_alike c.args.levels m)) c.in_ok-list.ensures (past_on c.in_ok-expect_word-2.ensures (flat_on (list_alike source_alike) c.in_ok-sources.ensures (then_on (λ m. condition_alike (within_alike c.args.levels m) _) c.in_ok-condition.ensures (then_fails (c.in_err-groups.ensures _ _))))))))
+query::block-returns-in_err-groups i c = answers _ _ (search rules) (past_on c.in_ok-expect_word.ensures (flat_on distinct_alike c.distinct-distinct.ensures (then_on (λ m. select_list_alike (within_alike c.args.levels m)) c.in_ok-list.ensures (past_on c.in_ok-expect_word-2.ensures (flat_on (list_alike source_alike) c.in_ok-tables.ensures.reads (then_on (λ m. condition_alike (within_alike c.args.levels m) _) c.in_ok-condition.ensures (then_fails (c.in_err-groups.ensures _ _))))))))
 
 pub query::block-returns-in_err-having : goal.query::block-returns-in_err-having
 unfolding g.BlockOf
-query::block-returns-in_err-having i c = answers _ _ (search rules) (past_on c.in_ok-expect_word.ensures (flat_on distinct_alike c.distinct-distinct.ensures (then_on (λ m. select_list_alike (within_alike c.args.levels m)) c.in_ok-list.ensures (past_on c.in_ok-expect_word-2.ensures (flat_on (list_alike source_alike) c.in_ok-sources.ensures (then_on (λ m. condition_alike (within_alike c.args.levels m) _) c.in_ok-condition.ensures (flat_on groups_alike c.in_ok-groups.ensures (then_fails c.in_err-having.ensures))))))))
+query::block-returns-in_err-having i c = answers _ _ (search rules) (past_on c.in_ok-expect_word.ensures (flat_on distinct_alike c.distinct-distinct.ensures (then_on (λ m. select_list_alike (within_alike c.args.levels m)) c.in_ok-list.ensures (past_on c.in_ok-expect_word-2.ensures (flat_on (list_alike source_alike) c.in_ok-tables.ensures.reads (then_on (λ m. condition_alike (within_alike c.args.levels m) _) c.in_ok-condition.ensures (flat_on groups_alike c.in_ok-groups.ensures (then_fails c.in_err-having.ensures))))))))
 
 pub query::block-returns : goal.query::block-returns
 unfolding g.BlockOf
-query::block-returns i c = past_on c.in_ok-expect_word.ensures (flat_on distinct_alike c.distinct-distinct.ensures (then_on (λ m. select_list_alike (within_alike c.args.levels m)) c.in_ok-list.ensures (past_on c.in_ok-expect_word-2.ensures (flat_on (list_alike source_alike) c.in_ok-sources.ensures (then_on (λ m. condition_alike (within_alike c.args.levels m) _) c.in_ok-condition.ensures (flat_on groups_alike c.in_ok-groups.ensures (then_on (λ m. condition_alike (within_alike c.args.levels m) _) c.in_ok-having.ensures (gives_as (of_block _)))))))))
+query::block-returns i c = past_on c.in_ok-expect_word.ensures (flat_on distinct_alike c.distinct-distinct.ensures (then_on (λ m. select_list_alike (within_alike c.args.levels m)) c.in_ok-list.ensures (past_on c.in_ok-expect_word-2.ensures (flat_on (list_alike source_alike) c.in_ok-tables.ensures.reads (then_on (λ m. condition_alike (within_alike c.args.levels m) _) c.in_ok-condition.ensures (flat_on groups_alike c.in_ok-groups.ensures (then_on (λ m. condition_alike (within_alike c.args.levels m) _) c.in_ok-having.ensures (gives_as (of_block _)))))))))
 
 pub query::select_list-returns-then-eat_symbol : goal.query::select_list-returns-then-eat_symbol
 unfolding g.SelectListOf

@@ -1,5 +1,5 @@
 use Rattle.std.proofs.Common.{◌≡◌, ◌+◌, ◌++◌, ℕ, map, drop}
-use Rattle.certificate_definitions.specs.Text.{conjuncts_text}
+use Rattle.definitions.specs.Certificates.Text.{conjuncts_text}
 use Rattle.certificate_text.proofs.writing.write_conjuncts.Given as goal
 
 abbrev pub invariant-conjuncts : goal.invariant-conjuncts

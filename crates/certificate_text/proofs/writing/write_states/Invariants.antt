@@ -1,5 +1,5 @@
 use Rattle.std.proofs.Common.{◌≡◌, ◌++◌, map, take, flat_map}
-use Rattle.certificate_definitions.specs.Text.{state_line}
+use Rattle.definitions.specs.Certificates.Text.{state_line}
 use Rattle.certificate.specs.Certificates.{state_of}
 use Rattle.certificate_text.proofs.writing.write_states.Given as goal
 

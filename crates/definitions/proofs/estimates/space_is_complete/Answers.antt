@@ -6,4 +6,4 @@ pub returns-clause-complete : goal.returns-clause-complete
 returns-clause-complete c version db block is = complete version db block is
 
 pub returns-clause-formed : goal.returns-clause-formed
-returns-clause-formed c db blocks around n block is some = formed_has_plans db blocks around n block is some
+returns-clause-formed c = formed_has_plans

@@ -15,4 +15,4 @@ returns-in_err-expect_word c l k = answers _ _ (search rules) (if_on c.if-not-ea
 
 pub returns : goal.returns
 unfolding g.OrderAt
-returns c l k = if_on c.if-not-eat_word.ensures (past_on c.in_ok-expect_word.ensures (c.comma_list.ensures l k))
+returns c l k = if_on c.if-not-eat_word.ensures (past_on c.in_ok-expect_word.ensures (c.comma_list.ensures.reads l k))

@@ -14,12 +14,12 @@ returns-in_err-expect_symbol c l k = answers _ _ (search rules) (flat_on name_al
 
 pub returns-in_err-columns : goal.returns-in_err-columns
 unfolding g.TableAt
-returns-in_err-columns c l k = answers _ _ (search rules) (flat_on name_alike c.in_ok-name.ensures (then_fails (past_on c.in_ok-expect_symbol.ensures (then_fails (c.in_err-columns.ensures l k)))))
+returns-in_err-columns c l k = answers _ _ (search rules) (flat_on name_alike c.in_ok-name.ensures (then_fails (past_on c.in_ok-expect_symbol.ensures (then_fails (c.in_err-columns.ensures.reads l k)))))
 
 pub returns-in_err-expect_symbol-2 : goal.returns-in_err-expect_symbol-2
 unfolding g.TableAt
-returns-in_err-expect_symbol-2 c l k = answers _ _ (search rules) (flat_on name_alike c.in_ok-name.ensures (then_fails (past_on c.in_ok-expect_symbol.ensures (flat_on (list_alike column_alike) c.in_ok-columns.ensures (past_fails c.in_err-expect_symbol-2.ensures)))))
+returns-in_err-expect_symbol-2 c l k = answers _ _ (search rules) (flat_on name_alike c.in_ok-name.ensures (then_fails (past_on c.in_ok-expect_symbol.ensures (flat_on (list_alike column_alike) c.in_ok-columns.ensures.reads (past_fails c.in_err-expect_symbol-2.ensures)))))
 
 pub returns : goal.returns
 unfolding g.TableAt
-returns c l k = flat_on name_alike c.in_ok-name.ensures (then_on {k = 0} (λ m. enclosed_alike (list_alike column_alike)) (past_on c.in_ok-expect_symbol.ensures (flat_on (list_alike column_alike) c.in_ok-columns.ensures (past_on c.in_ok-expect_symbol-2.ensures gives))) (gives))
+returns c l k = flat_on name_alike c.in_ok-name.ensures (then_on {k = 0} (λ m. enclosed_alike (list_alike column_alike)) (past_on c.in_ok-expect_symbol.ensures (flat_on (list_alike column_alike) c.in_ok-columns.ensures.reads (past_on c.in_ok-expect_symbol-2.ensures gives))) (gives))

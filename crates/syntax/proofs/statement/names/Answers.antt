@@ -10,12 +10,12 @@ returns-in_err-expect_symbol c l k = answers _ _ (search rules) (past_fails c.in
 
 pub returns-in_err-names : goal.returns-in_err-names
 unfolding g.NamesAt
-returns-in_err-names c l k = answers _ _ (search rules) (past_on c.in_ok-expect_symbol.ensures (then_fails (c.in_err-names.ensures l k)))
+returns-in_err-names c l k = answers _ _ (search rules) (past_on c.in_ok-expect_symbol.ensures (then_fails (c.in_err-names.ensures.reads l k)))
 
 pub returns-in_err-expect_symbol-2 : goal.returns-in_err-expect_symbol-2
 unfolding g.NamesAt
-returns-in_err-expect_symbol-2 c l k = answers _ _ (search rules) (past_on c.in_ok-expect_symbol.ensures (flat_on (list_alike name_alike) c.in_ok-names.ensures (past_fails c.in_err-expect_symbol-2.ensures)))
+returns-in_err-expect_symbol-2 c l k = answers _ _ (search rules) (past_on c.in_ok-expect_symbol.ensures (flat_on (list_alike name_alike) c.in_ok-names.ensures.reads (past_fails c.in_err-expect_symbol-2.ensures)))
 
 pub returns : goal.returns
 unfolding g.NamesAt
-returns c l k = past_on c.in_ok-expect_symbol.ensures (flat_on (list_alike name_alike) c.in_ok-names.ensures (past_on c.in_ok-expect_symbol-2.ensures gives))
+returns c l k = past_on c.in_ok-expect_symbol.ensures (flat_on (list_alike name_alike) c.in_ok-names.ensures.reads (past_on c.in_ok-expect_symbol-2.ensures gives))

@@ -1,7 +1,6 @@
-use Rattle.std.proofs.Common.{refl, sym}
-use Rattle.definitions.specs.Faults as faults
+use Rattle.std.proofs.Common.{sym}
 use Rattle.sqlr.proofs.Changing.{database_changed}
-use Rattle.sqlr.proofs.Taking.{query_taken, refusal_told}
+use Rattle.sqlr.proofs.Taking.{query_taken, explained_taken}
 use Rattle.sqlr.proofs.session.Session.step.Goals as goal
 
 pub returns-in-CreateTable-clause-takes : goal.returns-in-CreateTable-clause-takes
@@ -24,5 +23,4 @@ pub returns-in-Query-clause-takes : goal.returns-in-Query-clause-takes
 returns-in-Query-clause-takes g c = rw (sym c.self.view_is, c.in-Query.is) (query_taken _ (record { library = c.self.inside.library; database = c.self.inside.database }) _ c.select.result c.select.ensures.answers)
 
 pub returns-in-Explain-clause-takes : goal.returns-in-Explain-clause-takes
-returns-in-Explain-clause-takes g c =
-    rw (sym c.self.view_is, c.in-Explain.is) (refusal_told _ (record { library = c.self.inside.library; database = c.self.inside.database }) _ _ _ _ (faults.explained _) refl c.refused.ensures.text c.refused.ensures.ended)
+returns-in-Explain-clause-takes g c = rw (sym c.self.view_is, c.in-Explain.is) (explained_taken _ (record { library = c.self.inside.library; database = c.self.inside.database }) _ c.explain.result c.explain.ensures.explains)

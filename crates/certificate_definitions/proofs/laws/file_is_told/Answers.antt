@@ -1,8 +1,0 @@
-use Rattle.certificate_definitions.proofs.Verdicts.{file_told_once, well_is_least}
-use Rattle.certificate_definitions.proofs.laws.file_is_told.Goals as goal
-
-pub returns-clause-once : goal.returns-clause-once
-returns-clause-once c = file_told_once
-
-pub returns-clause-least : goal.returns-clause-least
-returns-clause-least c = well_is_least

@@ -1,8 +1,0 @@
-use Rattle.certificate_definitions.proofs.Examples.{files_cut, versions}
-use Rattle.certificate_definitions.proofs.laws.worked_files.Goals as goal
-
-pub returns-clause-cut : goal.returns-clause-cut
-returns-clause-cut c = files_cut
-
-pub returns-clause-versions : goal.returns-clause-versions
-returns-clause-versions c = versions

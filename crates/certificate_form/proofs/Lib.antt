@@ -1,0 +1,6 @@
+mod Sequences
+mod Digits
+mod Lists
+mod Paths
+mod Plans
+mod Lines

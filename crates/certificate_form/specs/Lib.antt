@@ -1,0 +1,4 @@
+pub use Rattle.definitions.specs.Certificates.Text
+pub mod Said
+pub mod Words
+pub mod Reading

@@ -1,0 +1,4 @@
+mod Few
+mod PathsThere
+mod PlansSpelled
+mod Explained

@@ -1,0 +1,1 @@
+pub use Rattle.definitions.specs.Certificates.Explaining

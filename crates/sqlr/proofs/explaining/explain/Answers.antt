@@ -1,0 +1,29 @@
+use Rattle.std.proofs.Common.{ℕ, sym, subst, map}
+use Rattle.std.specs.Global.{Vec}
+use Rattle.definitions.specs.Table.{Database}
+use Rattle.definitions.specs.Certificates.Explaining.{certified_from, AreExplained}
+use Rattle.definitions.specs.Estimates.Version.{current_version}
+use Rattle.bound.specs.Bound.{block_of}
+use Rattle.trees.specs.Trees.{select_of}
+use Rattle.sqlr.specs.Explaining.{told}
+use Rattle.sqlr.proofs.Explained.{fault_told, accepted, blocks_formed, blocks_few}
+use Rattle.sqlr.proofs.Written.{written}
+use Rattle.sqlr.proofs.explaining.explain.Goals as goal
+
+pub returns-in-Err-Refused-clause-explains : goal.returns-in-Err-Refused-clause-explains
+returns-in-Err-Refused-clause-explains c =
+    fault_told _ _ _ _ (rw c.refusal.ensures (rw c.in-Err-Refused.field-0-is at c.in-Err-Refused.ensures.refused)) c.refused.ensures.text c.refused.ensures.ended
+
+pub explain_text-requires-clause-formed : goal.explain_text-requires-clause-formed
+explain_text-requires-clause-formed c =
+    rw c.deref.ensures.value (blocks_formed c.args.database.now (select_of c.args.query.now) (map block_of c.in-Ok.blocks.items) c.tables-tables.ensures.valid (written c.args.database.now c.args.query.now) c.in-Ok.ensures.bound)
+
+pub explain_text-requires-clause-few : goal.explain_text-requires-clause-few
+explain_text-requires-clause-few c = rw c.deref.ensures.value (blocks_few c.args.database.now (select_of c.args.query.now) c.in-Ok.blocks.items c.in-Ok.ensures.bound)
+
+pub returns-clause-explains : goal.returns-clause-explains
+returns-clause-explains c =
+    let db : Database = c.args.database.now in
+    let blocks = map block_of c.in-Ok.blocks.items in
+    told blocks (accepted db (select_of c.args.query.now) blocks c.in-Ok.ensures.bound) c.in-Ok.ensures.bound
+    (subst (λ (text : Vec ℕ). AreExplained current_version (certified_from db 0 blocks) text.items) (sym c.done.ensures.text) (rw c.deref.ensures.value at c.in_ok-text.ensures)) c.done.ensures.ended

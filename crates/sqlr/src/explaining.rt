@@ -1,0 +1,37 @@
+//! EXPLAIN.
+
+ghost use Rattle.std.specs.Prelude.{◌≡◌, IfOk, IfErr};
+ghost use Rattle.trees.specs.Trees.{select_of};
+ghost use Rattle.sqlr.specs.declared.outcome.StepFault.TheVariants as fault;
+ghost use Rattle.sqlr.specs.Explaining.{Explains};
+
+use crate::cause::{Cause, QueryCause};
+use crate::outcome::{Printed, StepFault, done, refused};
+use binder::{BindFault, bind};
+use catalog::Database;
+use explain::explain_text;
+use std::alloc::Global;
+use syntax::Select;
+
+/// Tells the least plans of a query's blocks, or refuses the query.
+pub(crate) fn explain<'q>(
+    alloc: Global,
+    database: &Database,
+    query: &'q Select,
+) -> Result<Printed<'q>, StepFault>
+    ensures explains { IfOk result (Explains database.now (select_of query.now)) }
+    ensures memory { IfErr result (λ f. f ≡ fault.Memory) }
+{
+    // A look at the tables tells what holds of a database.
+    let _tables = database.tables();
+    let blocks = match bind(alloc, database, query) {
+        Ok(blocks) => blocks,
+        Err(BindFault::Refused(fault)) => {
+            let cause = QueryCause { query, fault };
+            return refused(alloc, fault.refusal(), Cause::Query(cause));
+        }
+        Err(BindFault::Memory) => return Err(StepFault::Memory),
+    };
+    let text = explain_text(alloc, database, &blocks)?;
+    Ok(done(text))
+}
