@@ -27,8 +27,9 @@ HELP = b"""An engine for Entry SQL over tables in memory
 Usage: sqlr <COMMAND>
 
 Commands:
-  run   Runs a script and prints its answers to standard output
-  help  Print this message or the help of the given subcommand(s)
+  run    Runs a script and prints its answers to standard output
+  check  Checks certificates of a script's last query, and prints what they show
+  help   Print this message or the help of the given subcommand(s)
 
 Options:
   -h, --help     Print help
@@ -37,6 +38,7 @@ Options:
 Examples:
   sqlr run first.sql
   sqlr run - < first.sql
+  sqlr check first.sql first.certificates
 """
 
 PARTS = b"""OK
@@ -132,6 +134,20 @@ def cases(folder, full, closed):
     yield Case("script on standard input", ["run", "-"], 1, b"OK\nerror E14 42000\n", MESSAGE, typed=TYPED)
     screen = b"OK\n" + MESSAGE + b"error E14 42000\n"
     yield Case("message before its line", ["run", "-"], 1, screen, typed=TYPED, errors=subprocess.STDOUT)
+    join, certificates = "examples/join.sql", "examples/join.certificates"
+    lower = folder / "lower.certificates"
+    lower.write_bytes((ROOT / certificates).read_bytes().replace(b"3080", b"3079"))
+    told = f"{lower}:8:7: block 1: from table 2 in order 2 for 3079 a merge by conjunct 1 with SORTED SEG 1 leads to ".encode()
+    yield Case("certificate", ["check", join, certificates], 0, b"block 1 pass\n")
+    yield Case("certificate on a script from standard input", ["check", "-", certificates], 0, b"block 1 pass\n", typed=(ROOT / join).read_bytes())
+    yield Case("refused certificate", ["check", join, str(lower)], 3, b"block 1 refused K2\n", told)
+    yield Case("nothing to check", ["check", "-", certificates], 1, b"nothing to check\n")
+    yield Case("no certificates", ["check", join], 2, complaint=b"error: the following required arguments were not provided:\n  <CERTIFICATES>\n")
+    absent = b"sqlr: examples/missing.certificates: No such file or directory\n"
+    yield Case("missing certificates", ["check", join, "examples/missing.certificates"], 2, complaint=absent)
+    no_script = b"sqlr: examples/missing.sql: No such file or directory\n"
+    yield Case("missing script and certificates", ["check", missing, "examples/missing.certificates"], 2, complaint=no_script)
+    yield Case("full output for a check", ["check", join, certificates], 2, complaint=b"sqlr: standard output: No space left on device\n", output=full)
     yield Case("help", ["--help"], 0, HELP)
     yield Case("version", ["--version"], 0, b"sqlr 0.1.0\n")
     yield Case("no words", [], 2, complaint=b"error: 'sqlr' requires a subcommand but one was not provided\n")

@@ -8,5 +8,5 @@ mod sorts;
 mod target;
 mod verdict;
 
-pub use rules::check;
+pub use rules::{check, check_outside};
 pub use verdict::{Place, Rule, Verdict};

@@ -1,7 +1,11 @@
 //! The check of a certificate.
 
+ghost use Rattle.std.specs.Bool.{Decides};
 ghost use Rattle.definitions.specs.Plans.Certificate.{IsCertificate};
 ghost use Rattle.definitions.specs.Plans.Checking.{IsVerdict};
+ghost use Rattle.definitions.specs.Plans.Plan as plan;
+ghost use Rattle.definitions.specs.Plans.PlanSpace.{InSpace};
+ghost use Rattle.definitions.specs.Plans.Validity.{IsMet};
 ghost use Rattle.plans.specs.Plans.{plan_of};
 ghost use Rattle.certificate.specs.Certificates.{certificate_of};
 ghost use Rattle.cert_check.specs.Verdicts.{verdict_of};
@@ -22,6 +26,23 @@ use table_sets::TableSet;
 pub fn check(space: &Space<'_>, plan: &Plan, certificate: &Certificate) -> Verdict
     requires { IsCertificate (space_in space.now) (certificate_of certificate.now) }
     ensures { IsVerdict (space_in space.now) (certificate_of certificate.now) (plan_of plan.now) (verdict_of result) }
+{
+    let tables = TableSet::first(space.table_count());
+    check_rules(space, certificate, is_met(space, plan, certificate, tables))
+}
+
+/// What `check` answers of any plan outside the space (own).
+pub fn check_outside(space: &Space<'_>, certificate: &Certificate) -> Verdict
+    requires { IsCertificate (space_in space.now) (certificate_of certificate.now) }
+    ensures { (plan : plan.Plan) → (InSpace (space_in space.now) plan → ⊥) → IsVerdict (space_in space.now) (certificate_of certificate.now) plan (verdict_of result) }
+{
+    check_rules(space, certificate, false)
+}
+
+/// The first rule that fails, where a plan is known to meet the target or not.
+fn check_rules(space: &Space<'_>, certificate: &Certificate, met: bool) -> Verdict
+    requires { IsCertificate (space_in space.now) (certificate_of certificate.now) }
+    ensures { (plan : plan.Plan) → Decides met (IsMet (space_in space.now) (certificate_of certificate.now) plan) → IsVerdict (space_in space.now) (certificate_of certificate.now) plan (verdict_of result) }
 {
     if let Some(place) = access_failing(space, certificate) {
         return Verdict::Refused {
@@ -49,7 +70,7 @@ pub fn check(space: &Space<'_>, plan: &Plan, certificate: &Certificate) -> Verdi
             place,
         };
     }
-    if !is_met(space, plan, certificate, tables) {
+    if !met {
         let place = Place { tables, order: 0 };
         return Verdict::Refused {
             rule: Rule::Target,

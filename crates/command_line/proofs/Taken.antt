@@ -1,4 +1,4 @@
--- Words that the definition of the line takes give a script: each row that a walk over words makes has a value.
+-- Words that the definition of the line takes ask for something: each row that a walk over words makes has a value.
 use Rattle.std.proofs.Common.{ℕ, ◌<◌, ◌≡◌, ◌∙◌, ◌⊎◌, refl, sym, subst, inl, inr, zero, suc, Bool, true, false, not, ◌&&◌, ◌||◌, List, [], ◌∷◌, ◌++◌, length, get_or, Option, Some, None, arith}
 use Rattle.std.proofs.lemmas.Bool.{cases_Bool}
 use Rattle.std.proofs.lemmas.List.{length-append}
@@ -14,7 +14,7 @@ use Rattle.clap.specs.Takes as t
 use Rattle.clap.specs.Simple as s
 use Rattle.clap.specs.Simple.{App, Shape, built}
 use Rattle.std.specs.Prelude.{IsSome, codes}
-use Rattle.command_line.specs.CommandLine.{line, script_in, script_of}
+use Rattle.command_line.specs.CommandLine.{line, asked_in, asked_of, run_of, check_of}
 use Rattle.clap.specs.Walk.{Row, Rule, Text, Held, Walk, Outcome, Waiting, Names}
 
 -- ---- rows with a value
@@ -293,7 +293,7 @@ walk_stop sh names walk (word ∷ words) d e k =
     let p = both (t.turn_passes sh names walk word) _ e in
     walk_stop sh names (w.walked sh.rules names walk word) words d p.1 (walked_stop sh names walk word walk.stopped refl d p.0 k)
 
--- ---- the script
+-- ---- what is asked
 
 true_is_not_false : true ≡ false → ⊥
 true_is_not_false e = cc
@@ -313,8 +313,11 @@ given_first id (r ∷ rs) h e =
 abbrev run_shape : Shape
 run_shape = get_or (built line).subs 0 line.top
 
+abbrev check_shape : Shape
+check_shape = get_or (built line).subs 1 line.top
+
 abbrev help_shape : Shape
-help_shape = get_or (built line).subs 1 line.top
+help_shape = get_or (built line).subs 2 line.top
 
 -- what a level that passes has passed
 level_walks : (sh : Shape) (names : Names) (h : Held) (words : List Text) (has : Bool) → t.level_passes sh names h words has ≡ true → t.walk_passes sh names (w.walk_from h) words ≡ true
@@ -337,11 +340,31 @@ valid_required sh rows has e =
     let b = (both (not sh.subcommand_required || has) _ a).1 in
     (both (list_all (λ (a : Rule). a.is_free) sh.rules) _ b).1
 
-leaf_gives : (words : List Text) → t.level_passes run_shape [] w.nothing_held words false ≡ true → is_some (w.first_of (codes "SCRIPT") (w.rows_after run_shape.rules [] words)) ≡ true
-leaf_gives words e =
+run_some : (script : Option Text) → is_some script ≡ true → is_some (run_of script) ≡ true
+run_some None e = e
+run_some (Some script) e = refl
+
+check_some : (script certificates : Option Text) → is_some script ≡ true → is_some certificates ≡ true → is_some (check_of script certificates) ≡ true
+check_some None certificates e k = e
+check_some (Some script) None e k = k
+check_some (Some script) (Some certificates) e k = refl
+
+run_asks : (words : List Text) → t.level_passes run_shape [] w.nothing_held words false ≡ true → is_some (run_of (w.first_of (codes "SCRIPT") (w.rows_after run_shape.rules [] words))) ≡ true
+run_asks words e =
     let rows = w.rows_after run_shape.rules [] words in
     let required = valid_required run_shape rows false (level_valid run_shape [] w.nothing_held words false e) in
-    given_first (codes "SCRIPT") rows (rows_full run_shape.rules [] words (inl refl, (inr (refl, λ r. refl), tt))) (both (t.is_given (codes "SCRIPT") rows) _ required).0
+    let full = rows_full run_shape.rules [] words (inl refl, (inr (refl, λ r. refl), tt)) in
+    run_some _ (given_first (codes "SCRIPT") rows full (both (t.is_given (codes "SCRIPT") rows) _ required).0)
+
+check_asks : (words : List Text) → t.level_passes check_shape [] w.nothing_held words false ≡ true
+    → is_some (check_of (w.first_of (codes "SCRIPT") (w.rows_after check_shape.rules [] words)) (w.first_of (codes "CERTIFICATES") (w.rows_after check_shape.rules [] words))) ≡ true
+check_asks words e =
+    let rows = w.rows_after check_shape.rules [] words in
+    let required = valid_required check_shape rows false (level_valid check_shape [] w.nothing_held words false e) in
+    let full = rows_full check_shape.rules [] words (inl refl, (inl refl, (inr (refl, λ r. refl), tt))) in
+    let script = both (t.is_given (codes "SCRIPT") rows) _ required in
+    let certificates = both (t.is_given (codes "CERTIFICATES") rows) _ script.1 in
+    check_some _ _ (given_first (codes "SCRIPT") rows full script.0) (given_first (codes "CERTIFICATES") rows full certificates.0)
 
 no_help_name : (name : Text) → bytes_eq name (codes "help") ≡ false → w.answers_to name (s.label_of help_shape) ≡ true → ⊥
 no_help_name name n e =
@@ -355,23 +378,27 @@ no_help_name name n e =
           true_is_not_false (sym no')
     ]
 
-entered_gives : (stop : Option (Text × List Text)) → IsNoHelp stop → t.entered_passes (built line) stop ≡ true → is_some (s.entered (built line) stop) ≡ true → is_some (script_in (s.entered (built line) stop)) ≡ true
-entered_gives None n e k = absurd (true_is_not_false (sym k))
-entered_gives (Some p) n e k =
+entered_asks : (stop : Option (Text × List Text)) → IsNoHelp stop → t.entered_passes (built line) stop ≡ true → is_some (s.entered (built line) stop) ≡ true → is_some (asked_in (s.entered (built line) stop)) ≡ true
+entered_asks None n e k = absurd (true_is_not_false (sym k))
+entered_asks (Some p) n e k =
     elim (cases_Bool (w.answers_to p.0 (s.label_of run_shape))) [
-      | inl r ↦ rw r (leaf_gives p.1 (rw r at e))
+      | inl r ↦ rw r (run_asks p.1 (rw r at e))
       | inr r ↦
-          elim (cases_Bool (w.answers_to p.0 (s.label_of help_shape))) [
-            | inl h ↦ absurd (no_help_name p.0 n h)
-            | inr h ↦
-                let none : false ≡ true = rw (r, h) at k in
-                absurd (true_is_not_false (sym none))
+          elim (cases_Bool (w.answers_to p.0 (s.label_of check_shape))) [
+            | inl c ↦ rw (r, c) (check_asks p.1 (rw (r, c) at e))
+            | inr c ↦
+                elim (cases_Bool (w.answers_to p.0 (s.label_of help_shape))) [
+                  | inl h ↦ absurd (no_help_name p.0 n h)
+                  | inr h ↦
+                      let none : false ≡ true = rw (r, c, h) at k in
+                      absurd (true_is_not_false (sym none))
+                ]
           ]
     ]
 
--- words that are taken give a script
-pub taken_gives : (words : List Text) → t.takes line words ≡ true → IsSome (script_of words)
-taken_gives words e =
+-- words that are taken ask for something
+pub taken_asks : (words : List Text) → t.takes line words ≡ true → IsSome (asked_of words)
+taken_asks words e =
     let top = (built line).top in
     let names = s.names_of (built line) in
     let rest = s.argument_words line words in
@@ -380,4 +407,4 @@ taken_gives words e =
     let taken = (both (s.is_simple line) _ e).1 in
     let level = (both (t.entered_passes (built line) stop) _ taken).1 in
     let required = valid_has top (w.finished top.rules (w.walk top.rules names w.nothing_held rest).held) has (level_valid top names w.nothing_held rest has level) in
-    entered_gives stop (walk_stop top names (w.walk_from w.nothing_held) rest refl (level_walks top names w.nothing_held rest has level) tt) (both (t.entered_passes (built line) stop) _ taken).0 required
+    entered_asks stop (walk_stop top names (w.walk_from w.nothing_held) rest refl (level_walks top names w.nothing_held rest has level) tt) (both (t.entered_passes (built line) stop) _ taken).0 required

@@ -10,21 +10,22 @@ use Rattle.clap.specs.declared.builder.action.ArgAction.TheVariants.{Set}
 abbrev pub word_rule : Text → Rule
 word_rule name = record (new_rule name) { required = true; action = Some Set }
 
+-- a subcommand whose first word is a script
+abbrev pub on_script : Text → App
+on_script name = with_rule (new_app name) (word_rule (codes "SCRIPT"))
+
 abbrev pub run : App
-run = with_rule (new_app (codes "run")) (word_rule (codes "SCRIPT"))
+run = on_script (codes "run")
 
--- `sqlr run SCRIPT`, and `sqlr --version`
+abbrev pub check : App
+check = with_rule (on_script (codes "check")) (word_rule (codes "CERTIFICATES"))
+
+abbrev pub program : App
+program = record (new_app (codes "sqlr")) { top = record (new_app (codes "sqlr")).top { has_version = true; subcommand_required = true } }
+
+-- `sqlr run SCRIPT`, `sqlr check SCRIPT CERTIFICATES`, and `sqlr --version`
 abbrev pub line : App
-line = with_subcommand (record (new_app (codes "sqlr")) { top = record (new_app (codes "sqlr")).top { has_version = true; subcommand_required = true } }) run.top
-
--- the script of a subcommand with the rows of its matches
-abbrev pub script_in : Option (Text × List Row) → Option Text
-script_in None = None
-script_in (Some (name, rows)) = if bytes_eq name (codes "run") then first_of (codes "SCRIPT") rows else None
-
--- the script that the definition of the line gives words, the first of which is the program's name
-abbrev pub script_of : List Text → Option Text
-script_of words = script_in (subcommand_of line words)
+line = with_subcommand (with_subcommand program run.top) check.top
 
 -- where a script stands
 pub data Source : Type 0 where
@@ -35,6 +36,26 @@ pub data Source : Type 0 where
 abbrev pub source_named : Text → Source
 source_named word = if bytes_eq word (codes "-") then standard_input else file word
 
--- where the script stands that the definition of the line gives words
-abbrev pub source_of : List Text → Option Source
-source_of words = option_map source_named (script_of words)
+-- what is asked: a script to be run, or the certificates in the file of a name to be checked against
+-- a script's last query
+pub data Asked : Type 0 where
+  runs : Source → Asked
+  checks : Source → Text → Asked
+
+abbrev pub run_of : Option Text → Option Asked
+run_of = option_map (λ script. runs (source_named script))
+
+abbrev pub check_of : Option Text → Option Text → Option Asked
+check_of (Some script) (Some certificates) = Some (checks (source_named script) certificates)
+check_of _ _ = None
+
+-- what a subcommand with the rows of its matches asks
+abbrev pub asked_in : Option (Text × List Row) → Option Asked
+asked_in None = None
+asked_in (Some (name, rows)) =
+    if bytes_eq name (codes "run") then run_of (first_of (codes "SCRIPT") rows)
+    else (if bytes_eq name (codes "check") then check_of (first_of (codes "SCRIPT") rows) (first_of (codes "CERTIFICATES") rows) else None)
+
+-- what the definition of the line says that words ask, the first of which is the program's name
+abbrev pub asked_of : List Text → Option Asked
+asked_of words = asked_in (subcommand_of line words)

@@ -1,6 +1,6 @@
 -- What a request stands for.
 use Rattle.std.specs.Prelude.{string_bytes}
-use Rattle.command_line.specs.CommandLine.{Source, file, standard_input}
+use Rattle.command_line.specs.CommandLine.{Source, file, standard_input, Asked, runs, checks}
 use Rattle.command_line.specs.declared.requests.Request.{Request}
 use Rattle.command_line.specs.declared.requests.Request.TheVariants as r
 use Rattle.command_line.specs.declared.requests.Script.{Script}
@@ -10,6 +10,6 @@ abbrev pub script_source : Script → Source
 script_source (s.File name) = file (string_bytes name)
 script_source s.StandardInput = standard_input
 
--- where the script stands that is to be run
-abbrev pub source : Request → Source
-source (r.Run script) = script_source script
+abbrev pub asked : Request → Asked
+asked (r.Run script) = runs (script_source script)
+asked (r.Check script certificates) = checks (script_source script) (string_bytes certificates)

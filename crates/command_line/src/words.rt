@@ -1,13 +1,13 @@
 //! From the words of a command line to what they ask for.
 
-ghost use Rattle.std.specs.Prelude.{◌≡◌, Some, true, false, map, option_map, IfOk, IfErr, IsErr};
+ghost use Rattle.std.specs.Prelude.{◌≡◌, Some, true, false, codes, map, option_map, IfOk, IfErr, IsErr};
 ghost use Rattle.clap.specs.Simple.{subcommand_rows_of};
-ghost use Rattle.clap.specs.Words.{app_of, rule_of, kind_of, takes};
+ghost use Rattle.clap.specs.Words.{FailsBy, app_of, fault_of, first_value, found_of, rule_of, kind_of, takes};
 ghost use Rattle.clap.specs.declared.error.kind.ErrorKind.TheVariants as kind;
 ghost use Rattle.command_line.specs.CommandLine as spec;
-ghost use Rattle.command_line.specs.Request.{script_source, source};
+ghost use Rattle.command_line.specs.Request.{asked, script_source};
 ghost use Rattle.clap.specs.declared.builder.Command.TheViews.{out-Command};
-ghost use Rattle.command_line.specs.CommandLine.{line, run, script_in, word_rule};
+ghost use Rattle.command_line.specs.CommandLine.{line, run, check, word_rule};
 
 use crate::requests::{LineFault, Request, Script};
 use clap::error::ErrorKind;
@@ -17,13 +17,16 @@ use std::alloc::{AllocError, Global};
 const VERSION: &str = "0.1.0";
 
 /// What stands at the end of help.
-const EXAMPLES: &str = "Examples:\n  sqlr run first.sql\n  sqlr run - < first.sql";
+const EXAMPLES: &str =
+    "Examples:\n  sqlr run first.sql\n  sqlr run - < first.sql\n  sqlr check first.sql first.certificates";
 
 /// What the words of a command line ask for, the first of which is the program's name, as `clap`
 /// gives them to the command; or `clap`'s fault, which asked-for help and the version are too (own).
 pub fn request(alloc: Global, words: &[&str]) -> Result<Request, LineFault>
-    ensures asked { IfOk result (λ r. spec.source_of (map (λ w. w.now) words.now) ≡ Some (source r)) }
+    ensures asked { IfOk result (λ r. spec.asked_of (map (λ w. w.now) words.now) ≡ Some (asked r)) }
+    ensures taken { IfOk result (λ _. takes line (map (λ w. w.now) words.now) ≡ true) }
     ensures refused { IfErr result (λ f. takes line (map (λ w. w.now) words.now) ≡ true → kind_of f ≡ kind.OutOfMemory) }
+    ensures kinds { FailsBy (fault_of line (map (λ w. w.now) words.now)) result }
 {
     let mut command = match command(alloc) {
         Ok(command) => command,
@@ -33,23 +36,53 @@ pub fn request(alloc: Global, words: &[&str]) -> Result<Request, LineFault>
         Ok(matches) => matches,
         Err(fault) => return Err(with_hint(alloc, &mut command, words, fault)),
     };
-    let Some(word) = script_of(&matches) else {
-        return no_script(&mut command);
-    };
-    match script_named(alloc, word) {
-        Ok(script) => Ok(Request::Run(script)),
+    match request_in(alloc, &matches) {
+        Ok(Some(request)) => Ok(request),
+        Ok(None) => nothing_asked(&mut command),
         Err(_) => Err(LineFault::from(AllocError)),
     }
 }
 
-/// The script that the subcommand `run` is given.
-fn script_of<'a>(matches: &ArgMatches<'a>) -> Option<&'a str>
-    ensures { option_map (λ s. s.now) result ≡ script_in (subcommand_rows_of matches.now) }
+/// What the subcommand that was met asks for.
+fn request_in(alloc: Global, matches: &ArgMatches<'_>) -> Result<Option<Request>, AllocError>
+    ensures { IfOk result (λ r. option_map asked r ≡ spec.asked_in (subcommand_rows_of matches.now)) }
 {
-    match matches.subcommand() {
-        Some((name, run)) if name == "run" => run.get_str("SCRIPT"),
-        _ => None,
+    let Some((name, given)) = matches.subcommand() else {
+        return Ok(None);
+    };
+    if name == "run" {
+        return run_request(alloc, given);
     }
+    if name == "check" {
+        return check_request(alloc, given);
+    }
+    Ok(None)
+}
+
+fn run_request(alloc: Global, run: &ArgMatches<'_>) -> Result<Option<Request>, AllocError>
+    ensures { IfOk result (λ r. option_map asked r ≡ spec.run_of (first_value (found_of run.now) (codes "SCRIPT"))) }
+{
+    let Some(script) = run.get_str("SCRIPT") else {
+        return Ok(None);
+    };
+    Ok(Some(Request::Run(script_named(alloc, script)?)))
+}
+
+fn check_request(alloc: Global, check: &ArgMatches<'_>) -> Result<Option<Request>, AllocError>
+    ensures { IfOk result (λ r. option_map asked r ≡ spec.check_of (first_value (found_of check.now) (codes "SCRIPT")) (first_value (found_of check.now) (codes "CERTIFICATES"))) }
+{
+    let Some(script) = check.get_str("SCRIPT") else {
+        return Ok(None);
+    };
+    let Some(certificates) = check.get_str("CERTIFICATES") else {
+        return Ok(None);
+    };
+    let script = script_named(alloc, script)?;
+    let certificates = String::from_str(alloc, certificates)?;
+    Ok(Some(Request::Check {
+        script,
+        certificates,
+    }))
 }
 
 /// The script that a word names: `-` is standard input.
@@ -64,7 +97,7 @@ fn script_named(alloc: Global, word: &str) -> Result<Script, AllocError>
 
 /// The fault, or one that tells how a script is run where the first word looks like one.
 fn with_hint(alloc: Global, command: &mut Command, words: &[&str], fault: LineFault) -> LineFault
-    ensures { kind_of fault ≡ kind.OutOfMemory → kind_of result ≡ kind.OutOfMemory }
+    ensures { kind_of result ≡ kind_of fault }
 {
     let Some(word) = words.get(1) else {
         return fault;
@@ -79,15 +112,17 @@ fn with_hint(alloc: Global, command: &mut Command, words: &[&str], fault: LineFa
 }
 
 /// The fault of a script's name in the place of a subcommand.
-fn lone_script(alloc: Global, command: &mut Command, name: &str) -> Result<LineFault, AllocError> {
+fn lone_script(alloc: Global, command: &mut Command, name: &str) -> Result<LineFault, AllocError>
+    ensures { IfOk result (λ f. kind_of f ≡ kind.InvalidSubcommand) }
+{
     let message = format!(in alloc;
         "unrecognized subcommand '{name}'\n\n  tip: to run this script, use 'sqlr run {name}'"
     )?;
     command.error(ErrorKind::InvalidSubcommand, &message)
 }
 
-/// The fault of words that give no script.
-fn no_script(command: &mut Command) -> Result<Request, LineFault>
+/// The fault of words that ask for nothing.
+fn nothing_asked(command: &mut Command) -> Result<Request, LineFault>
     ensures { IsErr result }
 {
     match command.error(ErrorKind::MissingSubcommand, "a subcommand is required") {
@@ -96,25 +131,45 @@ fn no_script(command: &mut Command) -> Result<Request, LineFault>
     }
 }
 
-/// `sqlr run SCRIPT`.
+/// `sqlr run SCRIPT` and `sqlr check SCRIPT CERTIFICATES`.
 fn command<'a>(alloc: Global) -> Result<Command<'a>, AllocError>
     ensures { IfOk result (λ c. app_of c ≡ line) }
 {
     let run = run_command(alloc)?;
+    let check = check_command(alloc)?;
     Command::new(alloc, "sqlr")
         .about("An engine for Entry SQL over tables in memory")
         .after_help(EXAMPLES)
         .version(VERSION)
         .subcommand_required(true)
-        .subcommand(run)
+        .subcommand(run)?
+        .subcommand(check)
 }
 
 fn run_command<'a>(alloc: Global) -> Result<Command<'a>, AllocError>
     ensures app { IfOk result (λ c. app_of c ≡ run) }
     ensures local { IfOk result (λ c. (out-Command c).has_globals ≡ false) }
 {
-    Command::new(alloc, "run")
-        .about("Runs a script and prints its answers to standard output")
+    let about = "Runs a script and prints its answers to standard output";
+    on_script(alloc, "run", about)
+}
+
+fn check_command<'a>(alloc: Global) -> Result<Command<'a>, AllocError>
+    ensures app { IfOk result (λ c. app_of c ≡ check) }
+    ensures local { IfOk result (λ c. (out-Command c).has_globals ≡ false) }
+{
+    let about = "Checks certificates of a script's last query, and prints what they show";
+    let command = on_script(alloc, "check", about)?;
+    command.arg(word(alloc, "CERTIFICATES").help("A file of certificates"))
+}
+
+/// The subcommand of this name, whose first word is a script.
+fn on_script<'a>(alloc: Global, name: &'a str, about: &'a str) -> Result<Command<'a>, AllocError>
+    ensures app { IfOk result (λ c. app_of c ≡ spec.on_script name.entry.now) }
+    ensures local { IfOk result (λ c. (out-Command c).has_globals ≡ false) }
+{
+    Command::new(alloc, name)
+        .about(about)
         .after_help(EXAMPLES)
         .arg(word(alloc, "SCRIPT").help("A file of SQL statements, or - for standard input"))
 }

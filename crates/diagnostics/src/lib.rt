@@ -14,5 +14,6 @@ mod report;
 mod text;
 mod wanted;
 
+pub use certificate_messages::FileReport;
 pub use excerpts::{Lines, Place};
 pub use report::{Report, Reporter};

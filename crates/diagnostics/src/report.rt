@@ -1,5 +1,10 @@
 //! Messages as they are shown.
 
+ghost use Rattle.std.specs.Prelude.{map};
+ghost use Rattle.std.specs.List.{AllByRecursion};
+ghost use Rattle.definitions.specs.Binding.Formed.{IsFormedSomewhere};
+ghost use Rattle.bound.specs.Bound.{block_of};
+
 use crate::create::write_create;
 use crate::figures::{write_figures, write_table_figures};
 use crate::index::write_index;
@@ -13,9 +18,10 @@ use catalog::{
     Database, FiguresFault, IndexFault, ListFault, MAX_ROWS, RefusedRecord, RepeatedRecord,
     TableFiguresFault,
 };
+use certificate_messages::FileReport;
 use excerpts::{Lines, Place, write_excerpt};
 use near_names::write_near_table;
-use sqlr::{Cause, ColumnList, FileLoad, Refused};
+use sqlr::{Cause, CheckedFile, ColumnList, FileLoad, Refused};
 use std::alloc::Global;
 use std::fmt::{self, Display, Formatter};
 use syntax::Name;
@@ -62,6 +68,25 @@ impl<'a> Reporter<'a> {
             refused,
             database,
         }
+    }
+
+    /// The messages on a file of certificates of a name, over the database of their query.
+    pub fn report_certificates<'r>(
+        &self,
+        name: &'r str,
+        checked: &'r CheckedFile<'r>,
+        database: &'r Database,
+    ) -> FileReport<'r>
+        requires { AllByRecursion (IsFormedSomewhere database.now) (map block_of checked.now.blocks.items) }
+    {
+        FileReport::new(
+            self.alloc,
+            name,
+            checked.file,
+            database,
+            &checked.blocks,
+            &checked.told,
+        )
     }
 }
 

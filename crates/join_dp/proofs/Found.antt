@@ -121,6 +121,24 @@ none_pushed [] none (suc k) = refl
 none_pushed (x ∷ row) none zero = none 0
 none_pushed (x ∷ row) none (suc k) = none_pushed row (λ k. none (suc k)) k
 
+-- ---- a row that is cleared, order after order
+
+cleared : (row : List (Option Candidate)) (k : ℕ) → ((j : ℕ) → j < k → found_at row j ≡ None) → (j : ℕ) → j < k + 1 → found_at (set row k None) j ≡ None
+cleared [] k none j lt = refl
+cleared (x ∷ row) zero none zero lt = refl
+cleared (x ∷ row) zero none (suc j) lt = absurd (omega (arith, lt))
+cleared (x ∷ row) (suc k) none zero lt = none zero (omega arith)
+cleared (x ∷ row) (suc k) none (suc j) lt = cleared row k (λ i less. none (suc i) (omega (arith, less))) j (omega (arith, lt))
+
+pub clears_next : {X : Type 0} (f : X → Candidate) (xs : List (Option X)) (k : ℕ) → ((j : ℕ) → j < k → found_at (map (option_map f) xs) j ≡ None) → (j : ℕ) → j < k + 1 → found_at (map (option_map f) (set xs k None)) j ≡ None
+clears_next f xs k none j lt = rw (map-set (option_map f) xs k None) (cleared (map (option_map f) xs) k none j lt)
+
+pub all_cleared : (row : List (Option Candidate)) (n : ℕ) → length row ≤ n → ((j : ℕ) → j < n → found_at row j ≡ None) → (j : ℕ) → found_at row j ≡ None
+all_cleared [] n le none j = refl
+all_cleared (x ∷ row) zero le none j = absurd (omega (arith, le))
+all_cleared (x ∷ row) (suc n) le none zero = none zero (omega arith)
+all_cleared (x ∷ row) (suc n) le none (suc j) = all_cleared row n (omega (arith, le)) (λ i less. none (suc i) (omega (arith, less))) j
+
 -- ---- what the code writes
 
 module _ {X : Type 0} (f : X → Candidate) (xs : List (Option X)) (steps k : ℕ) where

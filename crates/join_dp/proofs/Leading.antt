@@ -1,5 +1,5 @@
 -- Accesses and joins of a table, one after another.
-use Rattle.std.proofs.Common.{◌≡◌, ◌∙◌, ℕ, ◌*◌, ◌<◌, ◌≤◌, List, ◌∷◌, Option, None, length, arith, refl, sym, ap, subst}
+use Rattle.std.proofs.Common.{◌≡◌, ◌∙◌, ℕ, ◌*◌, ◌<◌, ◌≤◌, List, ◌∷◌, Option, None, length, arith, refl, sym, ap}
 use Rattle.std.specs.List.{AllByRecursion}
 use Rattle.definitions.specs.Plans.TableSet.{only, with_table}
 use Rattle.definitions.specs.Plans.Path.{Path}
@@ -86,37 +86,8 @@ module _ (space : Space) (table : ℕ) where
 module _ (space : Space) (states : List Solved) (s table : ℕ) where
   -- ---- loops
 
-  abbrev pub LoopSeen : List (Option Candidate) → Item → Type 0
-  LoopSeen row item = LowByJoin space states s table (Loop item.path) row
-
-  abbrev pub LowByLoops : List (Option Candidate) → Type 0
-  LowByLoops row = (path : Path) → IsJoin space s table (Loop path) → LowByJoin space states s table (Loop path) row
-
   pub join_low_later : (join : Join) (later row : List (Option Candidate)) → Below later row → LowByJoin space states s table join row → LowByJoin space states s table join later
   join_low_later join later row below low place within on folded goes folds = let l = below.lower folded in let h = low place within on folded goes folds in omega (arith, l, h)
-
-  pub record Looped (old row : List (Option Candidate)) (items : List Item) : Type 0 where
-    pub made : AreUnsorted space states (with_table s table) row
-    pub below : Below row old
-    pub leads : LeadsLow (IsPathItem space s table) LoopSeen LowByLoops row items
-
-  pub loops_begin : (row : List (Option Candidate)) (items : List Item) → AreUnsorted space states (with_table s table) row → AreItems space s table items → Looped row row items
-  loops_begin row items made are = record {
-    made = made;
-    below = below_same row;
-    leads = (each_path space s table items are, λ later below all path is. of_item later path (found_item space s table items (LoopSeen later) are all path is.0 is.1));
-  }
-    where
-      of_item : (later : List (Option Candidate)) (path : Path) → (item : Item) × LoopSeen later item × (item.path ≡ path) → LowByJoin space states s table (Loop path) later
-      of_item later path (item, seen, is) = subst (λ p. LowByJoin space states s table (Loop p) later) is seen
-
-  pub loops_go : (old row row' : List (Option Candidate)) (items rest : List Item) (item : Item) → items ≡ item ∷ rest → Looped old row items
-      → AreUnsorted space states (with_table s table) row' → Below row' row → LoopSeen row' item → Looped old row' rest
-  loops_go old row row' items rest item is so_far made below low = record {
-    made = made;
-    below = below_trans row' row old below so_far.below;
-    leads = goes_low (IsPathItem space s table) LoopSeen LowByLoops row row' items rest item is so_far.leads below (λ later b. join_low_later (Loop item.path) later row' b low);
-  }
 
   pub loop_added : (item : Item) (cardinality n added : ℕ) → MayFollow space s table → IsPathItem space s table item → n ≡ cardinality → cardinality ≡ space.cardinality s → (cost : ℕ) → cost ≡ item.cost → added ≡ saturated (n * cost) → IsAdded space s table (Loop item.path) added
   loop_added item cardinality n added follows right a b cost d e = record {

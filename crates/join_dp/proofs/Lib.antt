@@ -3,6 +3,7 @@ pub mod Least
 pub mod LessSets
 pub mod Offering
 pub mod Leading
+pub mod LeastPaths
 pub mod Sorting
 pub mod Lasting
 pub mod Entries

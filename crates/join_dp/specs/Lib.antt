@@ -1,6 +1,7 @@
 pub mod Steps
 pub mod Rows
 pub mod Joining
+pub mod CheapestPath
 pub mod Solving
 pub mod Indexing
 pub mod Views

@@ -92,6 +92,10 @@ module _ (space : Space) (states : List Solved) where
   abbrev pub LowByJoin : TableSet → ℕ → Join → List (Option Candidate) → Type 0
   LowByJoin tables table join found = (place : ℕ) → place < length states → (at states place).tables ≡ tables → LowByJoinOn tables table join place found
 
+  -- a join with the table that adds so much or more to the costs of plans doesn't
+  abbrev pub LowByDearer : TableSet → ℕ → ℕ → List (Option Candidate) → Type 0
+  LowByDearer tables table cost found = (join : Join) → cost ≤ join_cost space tables join → LowByJoin tables table join found
+
   -- a step by which a table comes last
   pub record LowByLast (next : TableSet) (table : ℕ) (found : List (Option Candidate)) : Type 0 where
     pub accesses : only table ≡ next → LowByAccesses space table found

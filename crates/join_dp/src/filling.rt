@@ -13,15 +13,16 @@ ghost use Rattle.block_merges.specs.Merge.{Merge as MergeItem, AreMerges};
 ghost use Rattle.order_uses.specs.Sorts.{AreSorts};
 ghost use Rattle.join_dp.specs.Counting.{AreCounts, AreFew, most_last, most_to};
 ghost use Rattle.join_dp.specs.Indexing.{AreStarts};
-ghost use Rattle.join_dp.specs.Joining.{GoesWith, IsAdded, IsJoin};
+ghost use Rattle.join_dp.specs.Joining.{join_cost, GoesWith, IsAdded, IsJoin};
 ghost use Rattle.join_dp.specs.Rows.{found_at, Below, IsFloor, StandsIn};
 ghost use Rattle.join_dp.specs.Solving as solving;
-ghost use Rattle.join_dp.specs.Solving.{at, AllMade, AreMade, AreUnsorted, IsRowSolved, LowByAccesses, LowByJoin, LowByJoinOn, LowByLast, LowBySorts, SortsAreLow};
+ghost use Rattle.join_dp.specs.Solving.{at, AllMade, AreMade, AreUnsorted, IsRowSolved, LowByAccesses, LowByDearer, LowByJoin, LowByJoinOn, LowByLast, LowBySorts, SortsAreLow};
 ghost use Rattle.join_dp.specs.States.{states_in, starts_in};
 ghost use Rattle.join_dp.specs.Steps as steps;
 ghost use Rattle.join_dp.specs.Views.{candidate_of, join_of};
 ghost use Rattle.plan_space.specs.Planned.{space_in};
 
+use crate::cheapest_path::cheapest_path;
 use crate::row::Row;
 use crate::states::States;
 use crate::step::{AddedJoin, Candidate, Join, Step};
@@ -118,14 +119,15 @@ fn add_join<'a>(space: &'a Space<'_>, states: &States<'a>, added: AddedJoin<'a>,
     }
 }
 
-/// Looks at the loops over a table, on top of the plans of a set.
-fn add_loops<'a>(
+/// Looks at the loop over a table that costs least, on top of the plans of a set, and tells what it adds to their costs. The other loops
+/// go with the same plans and add no less.
+fn add_loop<'a>(
     space: &'a Space<'_>,
     states: &States<'a>,
     tables: TableSet,
     table: usize,
     row: &mut Row<'a>,
-)
+) -> u64
     requires few { (space_in space.now).table_count ≤ most_from_tables }
     requires set { set_of tables < 2 ^ (space_in space.now).table_count }
     requires states { AllMade (space_in space.now) (states_in states.now) }
@@ -136,27 +138,60 @@ fn add_loops<'a>(
     requires made { AreUnsorted (space_in space.now) (states_in states.now) (with_table (set_of tables) table) row.old.found }
     ensures made { AreUnsorted (space_in space.now) (states_in states.now) (with_table (set_of tables) table) row.new.found }
     ensures below { Below row.new.found row.old.found }
-    ensures low { (path : Path) → IsJoin (space_in space.now) (set_of tables) table (steps.Loop path) → LowByJoin (space_in space.now) (states_in states.now) (set_of tables) table (steps.Loop path) row.new.found }
+    ensures least { (path : Path) → IsJoin (space_in space.now) (set_of tables) table (steps.Loop path) → result ≤ join_cost (space_in space.now) (set_of tables) (steps.Loop path) }
+    ensures low { LowByDearer (space_in space.now) (states_in states.now) (set_of tables) table result row.new.found }
     ensures steps { row.new.steps ≤ row.old.steps + length (space_in space.now).orders * length ((space_in space.now).paths (set_of tables) table) }
 {
+    let Some(item) = cheapest_path(space, tables, table) else {
+        return u64::MAX;
+    };
     let cardinality = u128::from(space.cardinality(tables));
-    'paths: for item in space.paths(tables, table) {
-        let added = AddedJoin {
-            tables,
-            table,
-            join: Join::Loop { path: item.path },
-            cost: saturated(cardinality * u128::from(item.cost)),
-        };
-        add_join(space, states, added, row);
-    }
+    let cost = saturated(cardinality * u128::from(item.cost));
+    let added = AddedJoin {
+        tables,
+        table,
+        join: Join::Loop { path: item.path },
+        cost,
+    };
+    add_join(space, states, added, row);
+    cost
 }
 
-/// Looks at the merges with a table, on top of the plans of a set.
+/// Looks at a join on top of the plans of its set, if it adds less to their costs than one that goes with all of them.
+fn add_cheaper_join<'a>(
+    space: &'a Space<'_>,
+    states: &States<'a>,
+    added: AddedJoin<'a>,
+    known: u64,
+    row: &mut Row<'a>,
+)
+    requires few { (space_in space.now).table_count ≤ most_from_tables }
+    requires set { set_of added.tables < 2 ^ (space_in space.now).table_count }
+    requires states { AllMade (space_in space.now) (states_in states.now) }
+    requires starts { AreStarts (states_in states.now) (starts_in states.now) }
+    requires few_states { AreFew (length (space_in space.now).orders) (starts_in states.now) }
+    requires known { set_of added.tables + 1 < length (starts_in states.now) }
+    requires added { IsAdded (space_in space.now) (set_of added.tables) added.table (join_of added.join) added.cost }
+    requires made { AreUnsorted (space_in space.now) (states_in states.now) (with_table (set_of added.tables) added.table) row.old.found }
+    requires low { LowByDearer (space_in space.now) (states_in states.now) (set_of added.tables) added.table known row.old.found }
+    ensures made { AreUnsorted (space_in space.now) (states_in states.now) (with_table (set_of added.entry.tables) added.entry.table) row.new.found }
+    ensures below { Below row.new.found row.old.found }
+    ensures low { LowByJoin (space_in space.now) (states_in states.now) (set_of added.entry.tables) added.entry.table (join_of added.entry.join) row.new.found }
+    ensures steps { row.new.steps ≤ row.old.steps + length (space_in space.now).orders }
+{
+    if known <= added.cost {
+        return;
+    }
+    add_join(space, states, added, row);
+}
+
+/// Looks at the merges with a table, on top of the plans of a set, that add less to their costs than a join that goes with all of them.
 fn add_merges<'a>(
     space: &'a Space<'_>,
     states: &States<'a>,
     tables: TableSet,
     table: usize,
+    known: u64,
     row: &mut Row<'a>,
 )
     requires few { (space_in space.now).table_count ≤ most_from_tables }
@@ -167,6 +202,7 @@ fn add_merges<'a>(
     requires known { set_of tables + 1 < length (starts_in states.now) }
     requires follows { MayFollow (space_in space.now) (set_of tables) table }
     requires made { AreUnsorted (space_in space.now) (states_in states.now) (with_table (set_of tables) table) row.old.found }
+    requires low { LowByDearer (space_in space.now) (states_in states.now) (set_of tables) table known row.old.found }
     ensures made { AreUnsorted (space_in space.now) (states_in states.now) (with_table (set_of tables) table) row.new.found }
     ensures below { Below row.new.found row.old.found }
     ensures low { (number : ℕ) (inner : Inner) → IsJoin (space_in space.now) (set_of tables) table (steps.Merge number inner) → LowByJoin (space_in space.now) (states_in states.now) (set_of tables) table (steps.Merge number inner) row.new.found }
@@ -184,7 +220,7 @@ fn add_merges<'a>(
             join,
             cost: item.cost,
         };
-        add_join(space, states, added, row);
+        add_cheaper_join(space, states, added, known, row);
     }
 }
 
@@ -230,8 +266,8 @@ fn add_last<'a>(
     if !space.may_follow(before, table) {
         return;
     }
-    add_loops(space, states, before, table, row);
-    add_merges(space, states, before, table, row);
+    let known = add_loop(space, states, before, table, row);
+    add_merges(space, states, before, table, known, row);
 }
 
 /// Looks at all sorts of one plan of a set.

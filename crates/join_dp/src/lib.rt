@@ -2,6 +2,7 @@
 #![tactic(auto)]
 
 mod cheapest;
+mod cheapest_path;
 mod filling;
 mod plan;
 mod row;

@@ -44,6 +44,18 @@ impl<'a> Row<'a> {
         Ok(Row { found, steps: 0 })
     }
 
+    /// Forgets all plans.
+    pub fn clear(&mut self)
+        ensures size { length self.new.found ≡ length self.old.found }
+        ensures none { (order : ℕ) → found_at self.new.found order ≡ None }
+        ensures steps { self.new.steps ≡ 0 }
+    {
+        'orders: for order in 0..self.found.len() {
+            self.found[order] = None;
+        }
+        self.steps = 0;
+    }
+
     /// How many orders there are.
     pub fn len(&self) -> usize
         ensures { result ≡ length self.now.found }

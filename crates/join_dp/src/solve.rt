@@ -20,10 +20,11 @@ pub(crate) fn solve<'a>(alloc: Global, space: &'a Space<'_>) -> Result<States<'a
     ensures steps { (sorts : ℕ → ℕ) (joins : ℕ → ℕ → ℕ) → AreCounts (space_in space.now) sorts joins → IfOk result (λ s. s.steps ≤ most_steps (space_in space.now) sorts joins) }
 {
     let mut states = States::new(alloc)?;
+    let mut row = Row::new(alloc, space.order_count())?;
     let whole = TableSet::first(space.table_count());
     'sets: for place in 1..whole.place() + 1 {
         let tables = TableSet::at(place);
-        let mut row = Row::new(alloc, space.order_count())?;
+        row.clear();
         fill_row(space, &states, tables, &mut row);
         states.push_row(tables, &row)?;
     }

@@ -5,6 +5,6 @@ mod runs;
 mod shelf;
 mod tape;
 
-pub use runs::{Part, Ran, run};
+pub use runs::{Part, Ran, check, run};
 pub use shelf::{File, Shelf};
 pub use tape::Tape;

@@ -1,7 +1,7 @@
-//! A run of a script whose printed text is kept.
+//! Runs whose printed text is kept.
 
 ghost use Rattle.std.specs.Prelude.{◌≡◌, ◌<◌};
-ghost use Rattle.memory_devices.specs.Runs.{IsRun};
+ghost use Rattle.memory_devices.specs.Runs.{IsCheck, IsRun};
 
 use crate::tape::Tape;
 use diagnostics::Reporter;
@@ -51,6 +51,19 @@ pub fn run<B: Library>(alloc: Global, session: &mut Session<B>, tape: Vec<u8>, p
     on_tape::<Brand, B>(alloc, session, tape, part, Blank::new(1))
 }
 
+/// Checks certificates for the last query of a script in a session, likewise.
+pub fn check<B: Library>(
+    alloc: Global,
+    session: &mut Session<B>,
+    tape: Vec<u8>,
+    part: Part,
+    certificates: &[u8],
+) -> Ran
+    ensures { IsCheck B.answers session.old part.entry.script.now certificates.now session.new tape.items result }
+{
+    check_on_tape::<Brand, B>(alloc, session, tape, part, certificates, Blank::new(1))
+}
+
 fn on_tape<L: Ledger, B: Library>(
     alloc: Global,
     session: &mut Session<B>,
@@ -72,6 +85,40 @@ fn on_tape<L: Ledger, B: Library>(
         messages: String::new(alloc),
     };
     let end = session.run(part.script, &mut tape);
+    let Tape {
+        bytes,
+        messages,
+        ..
+    } = tape;
+    Ran {
+        end,
+        printed: bytes,
+        messages,
+    }
+}
+
+fn check_on_tape<L: Ledger, B: Library>(
+    alloc: Global,
+    session: &mut Session<B>,
+    tape: Vec<u8>,
+    part: Part,
+    certificates: &[u8],
+    puts: Blank,
+) -> Ran
+    requires name { puts.name ≡ L.name }
+    requires parts { puts.parts ≡ L.parts }
+    requires some { 0 < puts.parts }
+    ensures check { IsCheck B.answers session.old part.entry.script.now certificates.now session.new tape.items result }
+{
+    let (book, share) = puts.open::<L>();
+    let mut tape = Tape {
+        bytes: tape,
+        room: part.room,
+        failures: Failures::new(book, share),
+        reporter: Reporter::new(alloc, SCRIPT_NAME, part.script),
+        messages: String::new(alloc),
+    };
+    let end = session.check(part.script, certificates, &mut tape);
     let Tape {
         bytes,
         messages,

@@ -3,10 +3,13 @@
 use catalog::Database;
 use diagnostics::Reporter;
 use failures::Failures;
-use sqlr::{Refused, Sink, SinkFault};
+use sqlr::{CheckedFile, Refused, Sink, SinkFault};
 use std::alloc::AllocError;
 use std::fmt::Display;
 use std::sync::ledger::Ledger;
+
+/// The name that messages call a file of certificates by.
+const CERTIFICATES_NAME: &str = "script.certificates";
 
 /// Takes bytes as long as it has room, and tells them.
 #[derive(Drop)]
@@ -43,6 +46,13 @@ impl<L: Ledger> Sink for Tape<'_, L> {
 
     fn explain(&mut self, refused: &Refused, database: &Database) {
         let report = self.reporter.report(refused, database);
+        let _ = push(&mut self.messages, report);
+    }
+
+    fn explain_certificates(&mut self, checked: &CheckedFile, database: &Database) {
+        let report = self
+            .reporter
+            .report_certificates(CERTIFICATES_NAME, checked, database);
         let _ = push(&mut self.messages, report);
     }
 }

@@ -2,6 +2,8 @@ pub mod Scripts
 pub mod Taking
 pub mod Changing
 pub mod Running
+pub mod Preparing
+pub mod CheckingRuns
 pub mod Selecting
 pub mod Explained
 pub mod Written

@@ -40,7 +40,7 @@ steps_more answers (x ∷ ss) old mid new s text own a b (next, first, rest, c, 
 
 -- ---- sinks
 
-took_nothing : (taken : Option (List ℕ)) → Took taken [] taken
+pub took_nothing : (taken : Option (List ℕ)) → Took taken [] taken
 took_nothing None = tt
 took_nothing (Some before) = ap (λ x. Some x) (sym (append-nil before))
 
@@ -51,12 +51,12 @@ took_more (Some before) b c text own h k =
     took ∙ ap (λ x. Some x) (append_assoc before text own)
 
 -- a text that was taken, and a beginning of the next
-took_up_to : (a b c : Option (List ℕ)) (text own : List ℕ) → Took a text b → TookBeginning b own c → TookUpTo a text own c
+pub took_up_to : (a b c : Option (List ℕ)) (text own : List ℕ) → Took a text b → TookBeginning b own c → TookUpTo a text own c
 took_up_to None b c text own h k = tt
 took_up_to (Some before) b c text own h k = subst (λ x. TookBeginning x own c) h k
 
 -- nothing of the next
-took_all : (a b : Option (List ℕ)) (text : List ℕ) → Took a text b → TookUpTo a text [] b
+pub took_all : (a b : Option (List ℕ)) (text : List ℕ) → Took a text b → TookUpTo a text [] b
 took_all None b text h = tt
 took_all (Some before) b text h = (0, omega arith, h ∙ ap (λ x. Some x) (sym (append-nil (before ++ text))))
 
@@ -68,12 +68,12 @@ RanTo answers old xs i new taken taken' ended = RunsAll answers old (statements_
 pub nothing_ran : {L : Type 0} (answers : Answering L) (old : State L) (xs : List tree.Statement) (taken : Option (List ℕ)) → RanTo answers old xs 0 old taken taken e.Well
 nothing_ran answers old xs taken = ([], step.Well, (refl, refl, refl), refl, took_nothing taken)
 
-front : (xs : List tree.Statement) (i : ℕ) (x : tree.Statement) → i < length xs → x ≡ get_or xs i x → statements_of (take (suc i) xs) ≡ statements_of (take i xs) ++ statement_of x ∷ []
+pub front : (xs : List tree.Statement) (i : ℕ) (x : tree.Statement) → i < length xs → x ≡ get_or xs i x → statements_of (take (suc i) xs) ≡ statements_of (take i xs) ++ statement_of x ∷ []
 front [] i x l h = absurd (omega (arith, l))
 front (y ∷ xs) zero x l h = ap (λ z. statement_of z ∷ []) (sym h)
 front (y ∷ xs) (suc i) x l h = ap (λ zs. statement_of y ∷ zs) (front xs i x (omega (arith, l)) h)
 
-split : (xs : List tree.Statement) (i : ℕ) (x : tree.Statement) → i < length xs → x ≡ get_or xs i x → statements_of xs ≡ statements_of (take i xs) ++ statement_of x ∷ statements_of (drop (suc i) xs)
+pub split : (xs : List tree.Statement) (i : ℕ) (x : tree.Statement) → i < length xs → x ≡ get_or xs i x → statements_of xs ≡ statements_of (take i xs) ++ statement_of x ∷ statements_of (drop (suc i) xs)
 split [] i x l h = absurd (omega (arith, l))
 split (y ∷ xs) zero x l h = ap (λ z. statement_of z ∷ statements_of xs) (sym h)
 split (y ∷ xs) (suc i) x l h = ap (λ zs. statement_of y ∷ zs) (split xs i x (omega (arith, l)) h)

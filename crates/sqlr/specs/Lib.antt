@@ -6,3 +6,4 @@ pub mod Scripts
 pub mod Selecting
 pub mod Explaining
 pub mod Sessions
+pub mod Checking

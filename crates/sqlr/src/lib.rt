@@ -3,6 +3,8 @@
 
 mod cause;
 mod changes;
+mod checked;
+mod checking;
 mod ended;
 mod explaining;
 mod library;
@@ -16,6 +18,8 @@ mod sink;
 pub use cause::{
     Cause, ColumnList, FiguresCause, FileLoad, QueryCause, Refused, TableFiguresCause,
 };
+pub use certificate_files::FileTold;
+pub use checked::CheckedFile;
 pub use command_line::{request, requests};
 pub use ended::{Ended, RunFault, status};
 pub use library::{FetchFault, Fetched, Library};

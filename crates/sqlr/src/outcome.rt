@@ -25,6 +25,7 @@ pub struct Printed<'a> {
 }
 
 /// Why a statement broke off.
+#[derive(Clone, Copy, Debug)]
 pub enum StepFault {
     Memory,
     Library,

@@ -29,9 +29,9 @@ use syntax::{Name, Statement, StringLiteral};
 /// A database, and the library that LOAD finds its files in.
 #[derive(Drop)]
 pub struct Session<L: Library> {
-    alloc: Global,
+    pub(crate) alloc: Global,
     library: L,
-    database: Database,
+    pub(crate) database: Database,
 }
 
 impl<L: Library> Model for Session<L> {
@@ -84,7 +84,7 @@ impl<L: Library> Session<L> {
     }
 
     /// Prints the line of a fault of the script's text, at a byte.
-    fn put_fault<S: Sink>(
+    pub(crate) fn put_fault<S: Sink>(
         &self,
         refusal: Refusal,
         offset: usize,
@@ -133,7 +133,7 @@ impl<L: Library> Session<L> {
     }
 
     /// Runs a statement. One that breaks off has changed nothing in the database.
-    fn step<'a>(&mut self, statement: &'a Statement) -> Result<Printed<'a>, StepFault>
+    pub(crate) fn step<'a>(&mut self, statement: &'a Statement) -> Result<Printed<'a>, StepFault>
         ensures takes { IfOk result (Takes L.answers self.old (statement_of statement.now) self.new) }
         ensures kept { OnErr result (self.new.database ≡ self.old.database) }
         ensures blamed { IfErr result (IsBlamed (L.failures self.old.library) (L.failures self.new.library)) }
@@ -216,7 +216,7 @@ impl<L: Library> Session<L> {
 }
 
 /// Tells a sink why a statement is refused, if it is.
-fn tell_cause<S: Sink>(sink: &mut S, refused: &Option<Refused>, database: &Database)
+pub(crate) fn tell_cause<S: Sink>(sink: &mut S, refused: &Option<Refused>, database: &Database)
     ensures taken { S.taken sink.new ≡ S.taken sink.old }
     ensures counted { S.failures sink.new ≡ S.failures sink.old }
 {
@@ -226,7 +226,7 @@ fn tell_cause<S: Sink>(sink: &mut S, refused: &Option<Refused>, database: &Datab
 }
 
 /// Where a statement names its table, or LOAD its file: the offset in the script.
-fn place_of(statement: &Statement) -> usize {
+pub(crate) fn place_of(statement: &Statement) -> usize {
     match statement {
         Statement::CreateTable { name: table, .. }
         | Statement::CreateIndex { table, .. }

@@ -18,10 +18,11 @@ pub struct CaseFile {
     pub bytes: Vec<u8>,
 }
 
-/// A script, and what is expected of it.
+/// A script, the certificates that are checked for its last query, if any are, and what is expected.
 #[derive(Debug, Drop)]
 pub struct Run {
     pub script: String,
+    pub certificates: Option<Vec<u8>>,
     pub output: Vec<u8>,
     pub messages: Vec<u8>,
     pub status: u8,
@@ -34,9 +35,9 @@ pub enum CaseFault {
     OpenLine,
     #[error("it begins with no comment: a line with '#' that says where what is expected comes from")]
     NoComment,
-    #[error("'{title}' is no heading: file NAME, script, output, messages or status N")]
+    #[error("'{title}' is no heading: file NAME, script, certificates, output, messages or status N")]
     UnknownHeading { title: String },
-    #[error("'{title}' is out of place: files come first, then each script with its output, its messages if there are any, and its status")]
+    #[error("'{title}' is out of place: files come first, then each script with its certificates if they are to be checked, its output, its messages if there are any, and its status")]
     OutOfPlace { title: String },
     #[error("file '{name}' is there twice")]
     FileTwice { name: String },
@@ -110,6 +111,7 @@ struct Draft {
 #[derive(Drop)]
 struct Begun {
     script: String,
+    certificates: Option<Vec<u8>>,
     output: Option<Vec<u8>>,
     messages: Option<Vec<u8>>,
 }
@@ -139,6 +141,7 @@ impl Draft {
                 };
                 self.begun = Some(Begun {
                     script,
+                    certificates: None,
                     output: None,
                     messages: None,
                 });
@@ -150,39 +153,57 @@ impl Draft {
 
     /// What is expected of the script that has begun.
     fn go_on(&mut self, alloc: Global, begun: Begun, section: Section) -> Result<(), CaseFault> {
+        let mut begun = begun;
+        match section.heading {
+            Heading::Certificates if begun.takes_certificates() => {
+                begun.certificates = Some(section.bytes);
+            }
+            Heading::Output if begun.output.is_none() => begun.output = Some(section.bytes),
+            Heading::Messages if begun.takes_messages() => begun.messages = Some(section.bytes),
+            Heading::Status(status) => return self.end(alloc, begun, section, status),
+            _ => return Err(CaseFault::out_of_place(alloc, section.title)),
+        }
+        self.begun = Some(begun);
+        Ok(())
+    }
+
+    /// The status of a script whose output is known.
+    fn end(
+        &mut self,
+        alloc: Global,
+        begun: Begun,
+        section: Section,
+        status: u8,
+    ) -> Result<(), CaseFault> {
         let Begun {
             script,
+            certificates,
             output,
             messages,
         } = begun;
-        match (section.heading, output, messages) {
-            (Heading::Output, None, messages) => {
-                self.begun = Some(Begun {
-                    script,
-                    output: Some(section.bytes),
-                    messages,
-                });
-            }
-            (Heading::Messages, Some(output), None) => {
-                self.begun = Some(Begun {
-                    script,
-                    output: Some(output),
-                    messages: Some(section.bytes),
-                });
-            }
-            (Heading::Status(_), Some(_), _) if !section.bytes.is_empty() => {
-                return Err(CaseFault::BehindStatus);
-            }
-            (Heading::Status(status), Some(output), messages) => {
-                self.case.runs.push(Run {
-                    script,
-                    output,
-                    messages: messages.unwrap_or(Vec::new(alloc)),
-                    status,
-                })?;
-            }
-            _ => return Err(CaseFault::out_of_place(alloc, section.title)),
+        let Some(output) = output else {
+            return Err(CaseFault::out_of_place(alloc, section.title));
+        };
+        if !section.bytes.is_empty() {
+            return Err(CaseFault::BehindStatus);
         }
+        self.case.runs.push(Run {
+            script,
+            certificates,
+            output,
+            messages: messages.unwrap_or(Vec::new(alloc)),
+            status,
+        })?;
         Ok(())
+    }
+}
+
+impl Begun {
+    fn takes_certificates(&self) -> bool {
+        self.certificates.is_none() && self.output.is_none()
+    }
+
+    fn takes_messages(&self) -> bool {
+        self.output.is_some() && self.messages.is_none()
     }
 }

@@ -1,7 +1,7 @@
 //! Where a run differs from what its case expects.
 
 use crate::case::{Case, Run};
-use memory_devices::{File, Part, Shelf, run};
+use memory_devices::{File, Part, Shelf, check, run};
 use sqlr::{Library, Session, status};
 use std::alloc::{AllocError, Global};
 use std::fmt::{self, Display, Formatter};
@@ -80,7 +80,11 @@ fn compare<L: Library>(
     found: &mut Vec<Difference>,
 ) -> Result<(), AllocError> {
     let part = Part::whole(&expected.script);
-    let ran = run(alloc, session, Vec::new(alloc), part);
+    let tape = Vec::new(alloc);
+    let ran = match &expected.certificates {
+        Some(bytes) => check(alloc, session, tape, part, bytes),
+        None => run(alloc, session, tape, part),
+    };
     let texts = [
         (
             What::Output,

@@ -10,14 +10,17 @@ pub enum Heading<'a> {
     /// What LOAD finds under a name.
     File(&'a str),
     Script,
+    /// The bytes that are checked for the script's last query.
+    Certificates,
     Output,
     Messages,
     Status(u8),
 }
 
 /// The headings of one line that says all.
-static FIXED: [(&str, Heading); 7] = [
+static FIXED: [(&str, Heading); 8] = [
     ("script", Heading::Script),
+    ("certificates", Heading::Certificates),
     ("output", Heading::Output),
     ("messages", Heading::Messages),
     ("status 0", Heading::Status(0)),

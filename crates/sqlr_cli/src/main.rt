@@ -37,7 +37,7 @@ fn main(rt: HostRuntime) -> io::Result<ExitCode> {
 }
 
 /// Does what the command line asks for, and gives the exit status: 0 well, 1 a statement refused,
-/// 2 broken off, with words on standard error.
+/// 2 broken off, 3 a certificate refused, with words on standard error.
 fn exit_status<'a, F: Ledger, P: Ledger, R: Runtime + AllocGlobal>(
     rt: &'a R,
     standard_error: &'a StandardError<'a, R>,
@@ -56,9 +56,7 @@ fn exit_status<'a, F: Ledger, P: Ledger, R: Runtime + AllocGlobal>(
     let (book, share) = puts.open::<P>();
     let put_failures = Failures::new(book, share);
     match asked(rt, standard_error) {
-        Ok(Request::Run(script)) => {
-            run_script(rt, standard_error, &script, fetch_failures, put_failures)
-        }
+        Ok(request) => do_request(rt, standard_error, &request, fetch_failures, put_failures),
         Err(status) => status,
     }
 }
@@ -97,18 +95,21 @@ fn command_line<R: Runtime + AllocGlobal>(rt: &R) -> io::Result<Vec<String>> {
     Ok(env::args(rt)?.collect(rt.alloc())?)
 }
 
-/// Runs a script, and gives the exit status.
-fn run_script<'a, F: Ledger, P: Ledger, R: Runtime + AllocGlobal>(
+/// Runs a script, or checks certificates for its last query, and gives the exit status.
+fn do_request<'a, F: Ledger, P: Ledger, R: Runtime + AllocGlobal>(
     rt: &'a R,
     standard_error: &'a StandardError<'a, R>,
-    script: &Script,
+    request: &Request,
     fetch_failures: Failures<F>,
     put_failures: Failures<P>,
 ) -> u8 {
-    let name = name_of(script);
-    let text = match read(rt, script) {
-        Ok(text) => text,
-        Err(reason) => return broken_off(standard_error, name, reason),
+    let Given {
+        script_name,
+        script,
+        certificates,
+    } = match Given::read(rt, standard_error, request) {
+        Ok(given) => given,
+        Err(status) => return status,
     };
     let folder = Folder {
         rt,
@@ -119,19 +120,76 @@ fn run_script<'a, F: Ledger, P: Ledger, R: Runtime + AllocGlobal>(
     let mut output = Output {
         writer: io::writer(rt),
         standard_error,
-        reporter: Reporter::new(rt.alloc(), name, &text),
+        reporter: Reporter::new(rt.alloc(), script_name, &script),
+        certificates_name: certificates_name(request),
         refused: 0,
         failures: put_failures,
         fault: None,
     };
     let mut session = Session::new(rt.alloc(), folder);
-    let run = session.run(&text, &mut output);
-    tell_left_out(standard_error, name, output.left_out());
+    let run = match &certificates {
+        Some(bytes) => session.check(&script, bytes, &mut output),
+        None => session.run(&script, &mut output),
+    };
+    tell_left_out(standard_error, script_name, output.left_out());
     if let Err(fault) = &run {
         let file = &session.library().fault;
-        tell_broken_off(standard_error, name, &text, *fault, file, output.fault);
+        tell_broken_off(
+            standard_error,
+            script_name,
+            &script,
+            *fault,
+            file,
+            output.fault,
+        );
     }
     status(&run)
+}
+
+/// What messages call a file of certificates, where there is one.
+fn certificates_name(request: &Request) -> &str {
+    match request {
+        Request::Run(_) => "",
+        Request::Check { certificates, .. } => certificates.as_str(),
+    }
+}
+
+/// What a request names, read.
+#[derive(Drop)]
+struct Given<'r> {
+    script_name: &'r str,
+    script: String,
+    /// The bytes of a file of certificates, if they are to be checked.
+    certificates: Option<Vec<u8>>,
+}
+
+impl<'r> Given<'r> {
+    /// Reads the script first, and then the certificates; or gives the status to end with where one of
+    /// them can't be read.
+    fn read<R: Runtime + AllocGlobal>(
+        rt: &R,
+        standard_error: &StandardError<R>,
+        request: &'r Request,
+    ) -> Result<Given<'r>, u8> {
+        let (Request::Run(script) | Request::Check { script, .. }) = request;
+        let script_name = name_of(script);
+        let script = match read(rt, script) {
+            Ok(text) => text,
+            Err(reason) => return Err(broken_off(standard_error, script_name, reason)),
+        };
+        let certificates = match request {
+            Request::Run(_) => None,
+            Request::Check { certificates, .. } => match fs::read(rt, certificates) {
+                Ok(bytes) => Some(bytes),
+                Err(reason) => return Err(broken_off(standard_error, certificates, reason)),
+            },
+        };
+        Ok(Given {
+            script_name,
+            script,
+            certificates,
+        })
+    }
 }
 
 /// What messages call a script: standard input is called as other programs of SQL call it.

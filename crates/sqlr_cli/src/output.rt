@@ -4,7 +4,7 @@ use crate::standard_error::StandardError;
 use catalog::Database;
 use diagnostics::Reporter;
 use failures::Failures;
-use sqlr::{Refused, Sink, SinkFault};
+use sqlr::{CheckedFile, Refused, Sink, SinkFault};
 use std::io::{self, Write};
 use std::rt::Runtime;
 use std::sync::ledger::Ledger;
@@ -19,6 +19,8 @@ pub struct Output<'a, 's, L: Ledger, R: Runtime + AllocGlobal, W: Write + Drop> 
     pub writer: W,
     pub standard_error: &'a StandardError<'a, R>,
     pub reporter: Reporter<'s>,
+    /// What messages call the file of certificates, if there is one.
+    pub certificates_name: &'s str,
     /// How many statements were refused.
     pub refused: u64,
     pub failures: Failures<L>,
@@ -51,6 +53,12 @@ impl<L: Ledger, R: Runtime + AllocGlobal, W: Write + Drop> Sink for Output<'_, '
             return;
         }
         let report = self.reporter.report(refused, database);
+        self.standard_error.print(report);
+    }
+
+    fn explain_certificates(&mut self, checked: &CheckedFile, database: &Database) {
+        let name = self.certificates_name;
+        let report = self.reporter.report_certificates(name, checked, database);
         self.standard_error.print(report);
     }
 }

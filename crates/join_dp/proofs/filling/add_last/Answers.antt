@@ -43,14 +43,14 @@ pub returns-then-not-may_follow-clause-low : goal.returns-then-not-may_follow-cl
 returns-then-not-may_follow-clause-low c =
     none_follows (space_in c.args.space.now) (states_in c.args.states.now) (set_of c.args.tables) c.args.table c.args.row.now.found (set_of c.without-before.result) c.without-before.ensures.lacks c.without-before.ensures.rest (not_empty (set_of c.without-before.result) c.if-is_empty.ensures) (fails _ c.if-not-may_follow.ensures)
 
-pub add_loops-requires-clause-set : goal.add_loops-requires-clause-set
-add_loops-requires-clause-set c = omega (arith, c.requires.set, before_less (space_in c.args.space.now) (states_in c.args.states.now) (set_of c.args.tables) c.args.table c.args.row.now.found (set_of c.without-before.result) c.without-before.ensures.lacks c.without-before.ensures.rest)
+pub add_loop-known-requires-clause-set : goal.add_loop-known-requires-clause-set
+add_loop-known-requires-clause-set c = omega (arith, c.requires.set, before_less (space_in c.args.space.now) (states_in c.args.states.now) (set_of c.args.tables) c.args.table c.args.row.now.found (set_of c.without-before.result) c.without-before.ensures.lacks c.without-before.ensures.rest)
 
-pub add_loops-requires-clause-known : goal.add_loops-requires-clause-known
-add_loops-requires-clause-known c = omega (arith, c.requires.known, before_less (space_in c.args.space.now) (states_in c.args.states.now) (set_of c.args.tables) c.args.table c.args.row.now.found (set_of c.without-before.result) c.without-before.ensures.lacks c.without-before.ensures.rest)
+pub add_loop-known-requires-clause-known : goal.add_loop-known-requires-clause-known
+add_loop-known-requires-clause-known c = omega (arith, c.requires.known, before_less (space_in c.args.space.now) (states_in c.args.states.now) (set_of c.args.tables) c.args.table c.args.row.now.found (set_of c.without-before.result) c.without-before.ensures.lacks c.without-before.ensures.rest)
 
-pub add_loops-requires-clause-made : goal.add_loops-requires-clause-made
-add_loops-requires-clause-made c = subst (λ s. AreUnsorted (space_in c.args.space.now) (states_in c.args.states.now) s c.args.row.now.found) (sym c.without-before.ensures.rest) c.requires.made
+pub add_loop-known-requires-clause-made : goal.add_loop-known-requires-clause-made
+add_loop-known-requires-clause-made c = subst (λ s. AreUnsorted (space_in c.args.space.now) (states_in c.args.states.now) s c.args.row.now.found) (sym c.without-before.ensures.rest) c.requires.made
 
 pub add_merges-requires-clause-set : goal.add_merges-requires-clause-set
 add_merges-requires-clause-set c = omega (arith, c.requires.set, before_less (space_in c.args.space.now) (states_in c.args.states.now) (set_of c.args.tables) c.args.table c.args.row.now.found (set_of c.without-before.result) c.without-before.ensures.lacks c.without-before.ensures.rest)
@@ -62,12 +62,12 @@ pub returns-clause-made : goal.returns-clause-made
 returns-clause-made c = subst (λ s. AreUnsorted (space_in c.args.space.now) (states_in c.args.states.now) s c.add_merges.new.row.found) c.without-before.ensures.rest c.add_merges.ensures.made
 
 pub returns-clause-below : goal.returns-clause-below
-returns-clause-below c = below_trans c.add_merges.new.row.found c.add_loops.new.row.found c.args.row.now.found c.add_merges.ensures.below c.add_loops.ensures.below
+returns-clause-below c = below_trans c.add_merges.new.row.found c.add_loop-known.new.row.found c.args.row.now.found c.add_merges.ensures.below c.add_loop-known.ensures.below
 
 pub returns-clause-low : goal.returns-clause-low
 returns-clause-low c =
     joins_last (space_in c.args.space.now) (states_in c.args.states.now) (set_of c.args.tables) c.args.table c.add_merges.new.row.found (set_of c.without-before.result) c.without-before.ensures.lacks c.without-before.ensures.rest (not_empty (set_of c.without-before.result) c.if-is_empty.ensures)
-    (λ path is. join_low_later (space_in c.args.space.now) (states_in c.args.states.now) (set_of c.without-before.result) c.args.table (Loop path) c.add_merges.new.row.found c.add_loops.new.row.found c.add_merges.ensures.below (c.add_loops.ensures.low path is))
+    (λ path is. join_low_later (space_in c.args.space.now) (states_in c.args.states.now) (set_of c.without-before.result) c.args.table (Loop path) c.add_merges.new.row.found c.add_loop-known.new.row.found c.add_merges.ensures.below (c.add_loop-known.ensures.low (Loop path) (c.add_loop-known.ensures.least path is)))
     c.add_merges.ensures.low
 
 pub returns-then-is_empty-clause-steps : goal.returns-then-is_empty-clause-steps
@@ -79,5 +79,5 @@ pub returns-clause-steps : goal.returns-clause-steps
 returns-clause-steps c = λ sorts joins counts.
     let is = last_joins (space_in c.args.space.now) sorts joins (set_of c.args.tables) c.args.table (set_of c.without-before.result) (sym c.if-not-has.ensures) c.without-before.ensures.lacks c.without-before.ensures.rest (not_empty (set_of c.without-before.result) c.if-is_empty.ensures) in
     let merges = c.add_merges.ensures.steps in
-    let le = joins_counted (space_in c.args.space.now) sorts joins counts (set_of c.without-before.result) c.args.table c.args.row.now.steps c.add_loops.new.row.steps c.add_merges.new.row.steps (length (space_in c.args.space.now).orders) merges.0 (holds _ c.if-not-may_follow.ensures) merges.1 c.add_loops.ensures.steps merges.2 in
+    let le = joins_counted (space_in c.args.space.now) sorts joins counts (set_of c.without-before.result) c.args.table c.args.row.now.steps c.add_loop-known.new.row.steps c.add_merges.new.row.steps (length (space_in c.args.space.now).orders) merges.0 (holds _ c.if-not-may_follow.ensures) merges.1 c.add_loop-known.ensures.steps merges.2 in
     omega (arith, is, le)

@@ -17,13 +17,14 @@ sets-preserved c =
     let states = subst (λ n. states_in c.push_row.new.self ≡ states_in c.sets.states ++ entries_from n 0 c.fill_row.new.row.found) c.at-tables.ensures c.in_ok-push_row.ensures.states in (
       goes_on (space_in c.args.space.now) (states_in c.sets.states) (states_in c.push_row.new.self) (starts_in c.sets.states) (starts_in c.push_row.new.self) c.sets.place c.fill_row.new.row.found
           (omega (arith, c.sets.auto.place)) (omega (arith, is, c.sets-test.true)) c.sets.invariant.0 solved states c.in_ok-push_row.ensures.starts,
-      c.in_ok-push_row.ensures.counted c.sets.invariant.1,
+      c.fill_row.ensures.solved.made.size,
+      c.in_ok-push_row.ensures.counted c.sets.invariant.2,
       λ sorts joins counts.
           let place : c.sets.place ≡ c.sets.place + 1 - 1 = omega arith in
-          let row = subst (λ n. c.fill_row.new.row.steps ≤ c.in_ok-row.row.steps + most_to (space_in c.args.space.now) sorts joins n) c.at-tables.ensures (c.fill_row.ensures.steps sorts joins counts) in
+          let row = subst (λ n. c.fill_row.new.row.steps ≤ c.clear.new.self.steps + most_to (space_in c.args.space.now) sorts joins n) c.at-tables.ensures (c.fill_row.ensures.steps sorts joins counts) in
           let more = up_more (space_in c.args.space.now) sorts joins c.sets.place (omega (arith, c.sets.auto.place)) in
           subst (λ n. c.push_row.new.self.steps ≤ most_up_to (space_in c.args.space.now) sorts joins n) place
-          (omega (arith, more, row, c.in_ok-row.ensures.steps, c.in_ok-push_row.ensures.steps, c.sets.invariant.2 sorts joins counts)),
+          (omega (arith, more, row, c.clear.ensures.steps, c.in_ok-push_row.ensures.steps, c.sets.invariant.3 sorts joins counts)),
     )
 
 pub returns-clause-solved : goal.returns-clause-solved
@@ -36,4 +37,4 @@ pub returns-clause-steps : goal.returns-clause-steps
 returns-clause-steps c = λ sorts joins counts.
     let is : c.place-place-end.result ≡ 2 ^ (space_in c.args.space.now).table_count - 1 = c.place-place-end.ensures.exact ∙ c.first-whole.ensures ∙ ap (λ n. 2 ^ n - 1) c.table_count.ensures.exact in
     let e : c.sets.place - 1 ≡ whole (space_in c.args.space.now) = omega (arith, is, c.sets-test.false, c.sets.auto.place-end, pow_pos (space_in c.args.space.now).table_count) in
-    subst (λ n. c.sets.states.steps ≤ most_up_to (space_in c.args.space.now) sorts joins n) e (c.sets.invariant.2 sorts joins counts)
+    subst (λ n. c.sets.states.steps ≤ most_up_to (space_in c.args.space.now) sorts joins n) e (c.sets.invariant.3 sorts joins counts)

@@ -1,0 +1,4 @@
+mod FirstLines
+mod LongMatches
+mod TextsTold
+mod Checked

@@ -1,0 +1,114 @@
+//! A file of certificates, checked.
+
+ghost use Rattle.std.specs.Prelude.{◌≡◌, ◌≤◌, IfOk, length, map};
+ghost use Rattle.std.specs.List.{AllByRecursion};
+ghost use Rattle.definitions.specs.Limits.{most_blocks};
+ghost use Rattle.definitions.specs.Invariant.{IsDatabase};
+ghost use Rattle.definitions.specs.Binding.Formed.{IsFormedSomewhere};
+ghost use Rattle.definitions.specs.Estimates.Version.{current_version};
+ghost use Rattle.definitions.specs.Certificates.Explaining.{certified_from};
+ghost use Rattle.definitions.specs.Certificates.File.{lines_of};
+ghost use Rattle.definitions.specs.Certificates.Verdicts.{AreTold, both_ended, ended_of, rest_ended};
+ghost use Rattle.bound.specs.Bound.{block_of};
+ghost use Rattle.certificate_files.specs.Telling.{told_of, check_ended_of};
+
+use crate::cutting::{text_end, version_in};
+use crate::lines::{write_block, write_rest};
+use crate::telling::{Told, block_told};
+use bound::Block;
+use catalog::Database;
+use plan_orders::Version;
+use std::alloc::{AllocError, Global};
+
+/// What is told of a file of certificates (own).
+#[derive(Drop)]
+pub struct FileTold {
+    /// What is printed of it.
+    pub text: Vec<u8>,
+    pub ended: FileEnded,
+    /// What is told of each block, in the order of their numbers.
+    pub blocks: Vec<BlockTold>,
+    /// Where in the file what is left behind the last text begins.
+    pub rest: Option<usize>,
+}
+
+/// Whether every certificate passed, and nothing is left behind the last (own).
+#[derive(Clone, Copy, Debug, PartialEq, Eq)]
+pub enum FileEnded {
+    Well,
+    Refused,
+}
+
+/// What is told of the text of a block (own).
+#[derive(Clone, Copy, Debug)]
+pub struct BlockTold {
+    /// The version of the plan space that the text speaks of.
+    pub version: Version,
+    /// Where in the file the text begins.
+    pub start: usize,
+    pub told: Told,
+}
+
+/// What is told of a file of certificates for the blocks of a query (own): each block, in the order of their numbers, is checked by the
+/// next text. It fails where memory runs out.
+pub fn check_file(
+    alloc: Global,
+    database: &Database,
+    blocks: &[Block],
+    file: &[u8],
+) -> Result<FileTold, AllocError>
+    requires valid { IsDatabase database.now }
+    requires formed { AllByRecursion (IsFormedSomewhere database.now) (map block_of blocks.now) }
+    requires few { length blocks.now ≤ most_blocks }
+    ensures { IfOk result (λ told. AreTold current_version (certified_from database.now 0 (map block_of blocks.now)) (lines_of file.now) told.text.items (check_ended_of told.ended)) }
+{
+    let mut text = Vec::new(alloc);
+    let mut all = Vec::new(alloc);
+    let mut ended = FileEnded::Well;
+    let mut start = 0;
+    let mut number = 0;
+    'texts: for block in blocks {
+        let left = &file[start..];
+        let end = text_end(left);
+        let version = version_in(left);
+        let told = block_told(alloc, database, block, number, version, &left[..end])?;
+        write_block(&mut text, number, version, told)?;
+        all.push(BlockTold {
+            version,
+            start,
+            told,
+        })?;
+        ended = with_block(ended, told);
+        start += end;
+        number += 1;
+    }
+    let left = &file[start..];
+    write_rest(&mut text, left)?;
+    Ok(FileTold {
+        text,
+        ended: with_rest(ended, left),
+        blocks: all,
+        rest: if left.is_empty() { None } else { Some(start) },
+    })
+}
+
+/// How a run ends, after one more block.
+fn with_block(ended: FileEnded, told: Told) -> FileEnded
+    ensures { check_ended_of result ≡ both_ended (check_ended_of ended) (ended_of (told_of told)) }
+{
+    match told {
+        Told::Passes => ended,
+        Told::Fails { .. } | Told::Faulty(_) => FileEnded::Refused,
+    }
+}
+
+/// How it ends, with what is left.
+fn with_rest(ended: FileEnded, left: &[u8]) -> FileEnded
+    ensures { check_ended_of result ≡ both_ended (check_ended_of ended) (rest_ended (lines_of left.now)) }
+{
+    if left.is_empty() {
+        ended
+    } else {
+        FileEnded::Refused
+    }
+}

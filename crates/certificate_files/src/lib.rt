@@ -1,0 +1,13 @@
+//! Files of certificates: one text for each block of a query, checked.
+#![tactic(auto)]
+
+mod checking;
+mod cutting;
+mod lines;
+mod telling;
+
+pub use cert_check::{Place, Rule};
+pub use certificate_text::{BadState, Expected, Missing, TextFault, Word};
+pub use checking::{BlockTold, FileEnded, FileTold, check_file};
+pub use plan_orders::Version;
+pub use telling::Told;

@@ -1,0 +1,36 @@
+//! The cheapest path of a table.
+
+ghost use Rattle.std.specs.Prelude.{◌≡◌, ◌<◌, option_map};
+ghost use Rattle.block_paths.specs.Items.{item_of};
+ghost use Rattle.table_sets.specs.Sets.{set_of};
+ghost use Rattle.join_dp.specs.CheapestPath.{cheaper_item, IsCheapestPath};
+ghost use Rattle.plan_space.specs.Planned.{space_in};
+
+use plan_space::{PathItem, Space};
+use table_sets::TableSet;
+
+/// The path of a table that costs least where the rows of a set of tables are known.
+pub(crate) fn cheapest_path<'a>(
+    space: &'a Space<'_>,
+    known: TableSet,
+    table: usize,
+) -> Option<PathItem<'a>>
+    requires { table < (space_in space.now).table_count }
+    ensures { IsCheapestPath (space_in space.now) (set_of known) table (option_map item_of result) }
+{
+    let mut best: Option<PathItem<'a>> = None;
+    'paths: for item in space.paths(known, table) {
+        best = Some(cheaper(best, item));
+    }
+    best
+}
+
+/// The path that costs less, of two.
+fn cheaper<'a>(best: Option<PathItem<'a>>, item: PathItem<'a>) -> PathItem<'a>
+    ensures { item_of result ≡ cheaper_item (option_map item_of best.entry) (item_of item.entry) }
+{
+    match best {
+        Some(best) if best.cost <= item.cost => best,
+        _ => item,
+    }
+}

@@ -1,0 +1,17 @@
+use Rattle.sqlr.proofs.CheckingRuns.{fault_put, fault_begun, nothing_read}
+use Rattle.sqlr.proofs.session.Session.check.Goals as goal
+
+pub returns-in-Ok-clause-checks : goal.returns-in-Ok-clause-checks
+returns-in-Ok-clause-checks g c = (rw c.deref.ensures.value at c.check_statements.ensures.checks) _ c.in-Ok.ensures.statements
+
+pub returns-in-Ok-clause-breaks : goal.returns-in-Ok-clause-breaks
+returns-in-Ok-clause-breaks g c = (rw c.deref.ensures.value at c.check_statements.ensures.breaks) _ c.in-Ok.ensures.statements
+
+pub returns-in-Err-Refused-clause-checks : goal.returns-in-Err-Refused-clause-checks
+returns-in-Err-Refused-clause-checks g c = fault_put _ _ _ _ _ _ _ _ (rw c.in-Err-Refused.field-0-is at c.in-Err-Refused.ensures.fault) (rw c.explain.ensures.taken at c.put_fault.ensures.prints)
+
+pub returns-in-Err-Refused-clause-breaks : goal.returns-in-Err-Refused-clause-breaks
+returns-in-Err-Refused-clause-breaks g c = fault_begun _ _ _ _ _ _ _ _ (rw c.in-Err-Refused.field-0-is at c.in-Err-Refused.ensures.fault) (rw c.explain.ensures.taken at c.put_fault.ensures.breaks)
+
+pub returns-in-Err-Memory-clause-breaks : goal.returns-in-Err-Memory-clause-breaks
+returns-in-Err-Memory-clause-breaks g c = nothing_read _ _ _ _ _ 0

@@ -1,0 +1,76 @@
+//! A query's certificates, checked.
+
+ghost use Rattle.std.specs.Prelude.{◌≡◌, IfOk, option_map};
+ghost use Rattle.definitions.specs.CheckingRun as run;
+ghost use Rattle.trees.specs.Trees.{select_of, statement_of};
+ghost use Rattle.sqlr.specs.Checking.{IsChecked, end_of_file};
+
+use crate::cause::{Cause, QueryCause};
+use crate::ended::Ended;
+use crate::outcome::{Printed, StepFault, refused};
+use binder::{BindFault, bind};
+use bound::Block;
+use catalog::Database;
+use certificate_files::{FileEnded, FileTold, check_file};
+use std::alloc::Global;
+use syntax::{Select, Statement};
+
+/// A file of certificates, and what was told of it (own).
+#[derive(Drop)]
+pub struct CheckedFile<'a> {
+    pub file: &'a [u8],
+    /// The blocks of the query, in the order of their numbers.
+    pub blocks: Vec<Block>,
+    pub told: FileTold,
+}
+
+/// What comes of a query's certificates.
+pub(crate) enum Checked<'a> {
+    /// The query is refused.
+    Refused(Printed<'a>),
+    Told(CheckedFile<'a>),
+}
+
+/// Checks a file of certificates against the blocks of a query, or refuses the query.
+pub(crate) fn check_query<'a>(
+    alloc: Global,
+    database: &Database,
+    query: &'a Select,
+    file: &'a [u8],
+) -> Result<Checked<'a>, StepFault>
+    ensures checked { IfOk result (IsChecked database.now (select_of query.entry.now) file.entry.now) }
+{
+    // A look at the tables tells what holds of a database.
+    let _tables = database.tables();
+    let blocks = match bind(alloc, database, query) {
+        Ok(blocks) => blocks,
+        Err(BindFault::Refused(fault)) => {
+            let cause = QueryCause { query, fault };
+            let printed = refused(alloc, fault.refusal(), Cause::Query(cause))?;
+            return Ok(Checked::Refused(printed));
+        }
+        Err(BindFault::Memory) => return Err(StepFault::Memory),
+    };
+    let told = check_file(alloc, database, &blocks, file)?;
+    Ok(Checked::Told(CheckedFile { file, blocks, told }))
+}
+
+/// The query of a SELECT or of an EXPLAIN, whose blocks can be checked (own).
+pub(crate) fn query_of(statement: &Statement) -> Option<&Select>
+    ensures { option_map (λ q. select_of q.now) result ≡ run.asked (statement_of statement.now) }
+{
+    match statement {
+        Statement::Query(query) | Statement::Explain(query) => Some(query),
+        _ => None,
+    }
+}
+
+/// How a run ends whose last query's certificates are checked.
+pub(crate) fn end_of(ended: FileEnded) -> Ended
+    ensures { result ≡ end_of_file ended }
+{
+    match ended {
+        FileEnded::Well => Ended::Well,
+        FileEnded::Refused => Ended::Refused,
+    }
+}

@@ -1,0 +1,177 @@
+//! Checking runs.
+
+ghost use Rattle.std.specs.Prelude.{ℕ, ◌≡◌, ◌≢◌, ◌≤◌, ◌<◌, List, IfOk, IfErr, OnOk, OnErr};
+ghost use Rattle.definitions.specs.Step.{AreStatements};
+ghost use Rattle.trees.specs.Trees.{statement_of, statements_of};
+ghost use Rattle.sqlr.specs.declared.ended.RunFault.TheVariants as fault;
+ghost use Rattle.sqlr.specs.Devices.{Took, TookBeginning};
+ghost use Rattle.sqlr.specs.Checking.{ArePrepared, BreaksChecking, BreaksLast, BreaksPreparing, Checks, ChecksLast, IsIfRefused, IsPrepared};
+ghost use Rattle.sqlr.specs.Sessions.{IsBlamed, IsLibraryBlamed, IsSinkBlamed};
+
+use crate::checked::{Checked, check_query, end_of, query_of};
+use crate::ended::{Ended, RunFault};
+use crate::library::Library;
+use crate::outcome::{Printed, StepFault};
+use crate::script::{ScriptFault, parse_script};
+use crate::session::{Session, place_of, tell_cause};
+use crate::sink::Sink;
+use catalog::Database;
+use syntax::Statement;
+
+/// The line of a script whose last statement has no query.
+const NOTHING: &[u8] = b"nothing to check\n";
+
+impl<L: Library> Session<L> {
+    /// Checks a file of certificates against the blocks of a script's last statement, a SELECT or an
+    /// EXPLAIN, and puts a line for each block into a sink, in one text (own). The statements before
+    /// are run, but for the queries, and print nothing; where one of them is refused, its line is all
+    /// that is printed. A run that breaks off leaves the database as some of the statements before
+    /// the last left it.
+    pub fn check<S: Sink>(
+        &mut self,
+        script: &str,
+        certificates: &[u8],
+        sink: &mut S,
+    ) -> Result<Ended, RunFault>
+        ensures checks { IfOk result (Checks L.answers self.old script.now certificates.now self.new (S.taken sink.old) (S.taken sink.new)) }
+        ensures breaks { IfErr result (BreaksChecking L.answers self.old script.now certificates.now self.new (S.taken sink.old) (S.taken sink.new)) }
+        ensures library { IfErr result (IsLibraryBlamed (L.failures self.old.library) (L.failures self.new.library)) }
+        ensures sink { IfErr result (IsSinkBlamed (S.failures sink.old) (S.failures sink.new)) }
+    {
+        match parse_script(self.alloc, script) {
+            Ok(statements) => self.check_statements(&statements, certificates, sink),
+            Err(ScriptFault::Refused { refused, offset }) => {
+                sink.explain(&refused, &self.database);
+                self.put_fault(refused.refusal, offset, sink)
+            }
+            Err(ScriptFault::Memory) => Err(RunFault::Memory { offset: 0 }),
+        }
+    }
+
+    fn check_statements<S: Sink>(
+        &mut self,
+        statements: &[Statement],
+        certificates: &[u8],
+        sink: &mut S,
+    ) -> Result<Ended, RunFault>
+        ensures checks { (script : List ℕ) → AreStatements script (statements_of statements.now) → IfOk result (Checks L.answers self.old script certificates.now self.new (S.taken sink.old) (S.taken sink.new)) }
+        ensures breaks { (script : List ℕ) → AreStatements script (statements_of statements.now) → IfErr result (BreaksChecking L.answers self.old script certificates.now self.new (S.taken sink.old) (S.taken sink.new)) }
+        ensures library { IfErr result (IsLibraryBlamed (L.failures self.old.library) (L.failures self.new.library)) }
+        ensures sink { IfErr result (IsSinkBlamed (S.failures sink.old) (S.failures sink.new)) }
+    {
+        let Some((last, before)) = statements.split_last() else {
+            return put_text(NOTHING, Ended::Faulted, sink);
+        };
+        match self.prepare(before) {
+            Ok(None) => self.check_last(last, certificates, sink),
+            Ok(Some(printed)) => put_refused(&printed, &self.database, sink),
+            Err(fault) => Err(fault),
+        }
+    }
+
+    /// The statements before the last: what the first of them prints that is refused, if one is.
+    fn prepare<'a>(&mut self, statements: &'a [Statement]) -> Result<Option<Printed<'a>>, RunFault>
+        ensures prepared { IfOk result (ArePrepared L.answers self.old (statements_of statements.entry.now) self.new) }
+        ensures breaks { OnErr result (BreaksPreparing L.answers self.old (statements_of statements.entry.now) self.new) }
+        ensures apart { IfErr result (λ f. f ≢ fault.Sink) }
+        ensures library { IfErr result (IsLibraryBlamed (L.failures self.old.library) (L.failures self.new.library)) }
+    {
+        'statements: for statement in statements {
+            let offset = place_of(statement);
+            match self.prepare_statement(statement) {
+                Ok(None) => {}
+                Ok(Some(printed)) => return Ok(Some(printed)),
+                Err(StepFault::Memory) => return Err(RunFault::Memory { offset }),
+                Err(StepFault::Library) => return Err(RunFault::Library { offset }),
+            }
+        }
+        Ok(None)
+    }
+
+    /// Runs a statement, unless it has a query, and gives what it prints if it is refused.
+    fn prepare_statement<'a>(
+        &mut self,
+        statement: &'a Statement,
+    ) -> Result<Option<Printed<'a>>, StepFault>
+        ensures prepared { IfOk result (IsPrepared L.answers self.old (statement_of statement.entry.now) self.new) }
+        ensures kept { OnErr result (self.new.database ≡ self.old.database) }
+        ensures blamed { IfErr result (IsBlamed (L.failures self.old.library) (L.failures self.new.library)) }
+        ensures counted { L.failures self.old.library ≤ L.failures self.new.library }
+    {
+        if query_of(statement).is_some() {
+            return Ok(None);
+        }
+        match self.step(statement) {
+            Ok(printed) => Ok(if_refused(printed)),
+            Err(fault) => Err(fault),
+        }
+    }
+
+    /// Checks the certificates for the last statement, where it has a query.
+    fn check_last<S: Sink>(
+        &self,
+        last: &Statement,
+        certificates: &[u8],
+        sink: &mut S,
+    ) -> Result<Ended, RunFault>
+        ensures checks { IfOk result (ChecksLast self.now.database (statement_of last.now) certificates.now (S.taken sink.old) (S.taken sink.new)) }
+        ensures breaks { IfErr result (BreaksLast self.now.database (statement_of last.now) certificates.now (S.taken sink.old) (S.taken sink.new)) }
+        ensures sink { IfErr result (IsSinkBlamed (S.failures sink.old) (S.failures sink.new)) }
+    {
+        // A look at the tables tells what holds of a database.
+        let _tables = self.database.tables();
+        let Some(query) = query_of(last) else {
+            return put_text(NOTHING, Ended::Faulted, sink);
+        };
+        match check_query(self.alloc, &self.database, query, certificates) {
+            Ok(Checked::Refused(printed)) => put_refused(&printed, &self.database, sink),
+            Ok(Checked::Told(checked)) => {
+                sink.explain_certificates(&checked, &self.database);
+                put_text(&checked.told.text, end_of(checked.told.ended), sink)
+            }
+            Err(_) => Err(RunFault::Memory {
+                offset: place_of(last),
+            }),
+        }
+    }
+}
+
+/// What a statement prints, if it is refused.
+fn if_refused<'a>(printed: Printed<'a>) -> Option<Printed<'a>>
+    ensures { IsIfRefused printed.entry result }
+{
+    match printed.ended {
+        Ended::Well => None,
+        _ => Some(printed),
+    }
+}
+
+/// Tells a sink why a statement is refused, and puts its line.
+fn put_refused<S: Sink>(
+    printed: &Printed<'_>,
+    database: &Database,
+    sink: &mut S,
+) -> Result<Ended, RunFault>
+    ensures ended { IfOk result (λ e. e ≡ printed.now.ended) }
+    ensures taken { OnOk result (Took (S.taken sink.old) printed.now.text.items (S.taken sink.new)) }
+    ensures fault { IfErr result (λ f. f ≡ fault.Sink) }
+    ensures begun { OnErr result (TookBeginning (S.taken sink.old) printed.now.text.items (S.taken sink.new)) }
+    ensures failed { OnErr result (S.failures sink.old < S.failures sink.new) }
+{
+    tell_cause(sink, &printed.refused, database);
+    put_text(&printed.text, printed.ended, sink)
+}
+
+/// Puts a text as a whole, and gives how the run ended.
+fn put_text<S: Sink>(text: &[u8], ended: Ended, sink: &mut S) -> Result<Ended, RunFault>
+    ensures ended { IfOk result (λ e. e ≡ ended) }
+    ensures taken { OnOk result (Took (S.taken sink.old) text.now (S.taken sink.new)) }
+    ensures fault { IfErr result (λ f. f ≡ fault.Sink) }
+    ensures begun { OnErr result (TookBeginning (S.taken sink.old) text.now (S.taken sink.new)) }
+    ensures failed { OnErr result (S.failures sink.old < S.failures sink.new) }
+{
+    match sink.put(text) {
+        Ok(()) => Ok(ended),
+        Err(_) => Err(RunFault::Sink),
+    }
+}
