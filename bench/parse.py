@@ -2,9 +2,10 @@
 """Times how long scripts of the whole language take to be read, and what sqlite3 takes to prepare the same, best of three.
 
 Each script of 2.5, 5 and 10 MB is of one shape, in few statements of some 100 kB, so that what is told of each refusal counts
-for nothing. Our program is timed twice: on the script with a slip at its very end, where it reads all of it, tells the slip
-and runs nothing, so that this is reading alone; and on the script without the slip, whose statements it refuses or
-answers over an empty table one by one. Reading is to grow in line with the length and to take at most 0.05 s a megabyte.
+for nothing. Our program is timed three times: on the script with a slip at its very end, where it reads all of it, tells the
+slip and runs nothing, so that this is reading alone; on the script without the slip, whose statements it refuses or
+answers over an empty table one by one; and on one statement of that length, which no limit on a part of it may make slow. All
+three are to grow in line with the length, and reading is to take at most 0.05 s a megabyte.
 
 sqlite3 (the module of Python) prepares the same conditions, lists and columns by EXPLAIN, which runs nothing, in shorter
 statements, as it takes no chain of over 1,000 operators and no table of over 2,000 columns. It finds names and makes a
@@ -84,12 +85,12 @@ SHAPES = [
 ]
 
 
-def used(folder, script):
-    """The processor seconds of our program on a script, all of whose output goes to a file."""
+def used(folder, script, ends=(1,)):
+    """The processor seconds of our program on a script, which may end so; all of its output goes to a file."""
     with open(folder / "out.txt", "wb") as out:
         child = subprocess.Popen([PROGRAM, "run", script], cwd=folder, stdout=out, stderr=out)
         _, status, usage = os.wait4(child.pid, 0)
-    if os.waitstatus_to_exitcode(status) != 1:
+    if os.waitstatus_to_exitcode(status) not in ends:
         sys.exit(f"status {status}: {(folder / 'out.txt').read_bytes()[:300]}")
     return usage.ru_utime + usage.ru_stime
 
@@ -111,7 +112,7 @@ def prepared(statements):
 
 def main():
     print(f"reading is to take at most {ALLOWED} s a megabyte")
-    print(f"{'shape':24} {'MB':>5} {'read/s':>7} {'s/MB':>7} {'run/s':>7} {'sqlite3/s':>9} {'ratio':>6}")
+    print(f"{'shape':24} {'MB':>5} {'read/s':>7} {'s/MB':>7} {'run/s':>7} {'one/s':>7} {'sqlite3/s':>9} {'ratio':>6}")
     over = False
     with tempfile.TemporaryDirectory() as room:
         folder = pathlib.Path(room)
@@ -121,9 +122,11 @@ def main():
                 text = f"CREATE TABLE T ({COLUMNS});\n" + "".join(shape.statements(length, shape.count(STATEMENT)))
                 (folder / "slip.sql").write_text(text + ";")
                 (folder / "whole.sql").write_text(text)
+                (folder / "one.sql").write_text(f"CREATE TABLE T ({COLUMNS});\n" + shape.statement(0, shape.count(length)))
                 megabytes = len(text) / MEGABYTE
                 read, ran = best(lambda: used(folder, "slip.sql")), best(lambda: used(folder, "whole.sql"))
-                line = f"{shape.name:24} {size:5} {read:7.3f} {read / megabytes:7.4f} {ran:7.3f}"
+                one = best(lambda: used(folder, "one.sql", (0, 1)))
+                line = f"{shape.name:24} {size:5} {read:7.3f} {read / megabytes:7.4f} {ran:7.3f} {one:7.3f}"
                 if shape.has_peer:
                     theirs = best(lambda: prepared(shape.statements(length, PIECES)))
                     line += f" {theirs:9.3f} {read / theirs:6.2f}"

@@ -8,15 +8,25 @@ ghost use Rattle.plan_space.specs.Planned.{space_in};
 
 use crate::lacking::{missing_found, state_found};
 use crate::places::{Spot, offset_of};
-use crate::reason::{Ending, Message, Reason};
 use crate::steps::{access_below, join_below, sort_below, state_at};
 use crate::target::target_missed;
 use block_spaces::{BlockSpace, Version};
 use bound::Block;
 use catalog::Database;
 use certificate_files::{Expected, FileTold, Place, Rule, TextFault, Told};
+use certificate_reasons::{Ending, Reason};
 use certificate_text::{Spelled, read_text};
 use std::alloc::{AllocError, Global};
+
+/// What is told of a block whose text is refused.
+#[derive(Drop)]
+pub(crate) struct Message {
+    /// The number of the block, from 0.
+    pub block: usize,
+    /// The byte of the file that the message is about.
+    pub offset: usize,
+    pub reason: Reason,
+}
 
 /// A text that is refused, of the block of a number, from 0.
 #[derive(Clone, Copy)]
@@ -34,7 +44,7 @@ pub(crate) struct Found {
 }
 
 /// What is told of the block of a number, if its text is refused.
-pub(crate) fn message(
+pub(crate) fn block_message(
     alloc: Global,
     database: &Database,
     block: &Block,

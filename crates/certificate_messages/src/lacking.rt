@@ -6,13 +6,12 @@ ghost use Rattle.bound.specs.Bound.{block_of};
 use crate::finding::{Found, Refused};
 use crate::numbers::offset_of_missing;
 use crate::places::{Spot, offset_of};
-use crate::reason::{Lack, Reason};
-use crate::spelling::StateName;
 use block_spaces::BlockSpace;
 use bound::Block;
 use catalog::Database;
 use certificate_files::{BadState, Missing, TextFault, Told};
 use certificate_form::{Written, WrittenState, written_in};
+use certificate_reasons::{Lack, Reason, StateName};
 use std::alloc::Global;
 
 /// A number that isn't there, and how many are.

@@ -3,17 +3,12 @@
 #![tactic(auto)]
 
 mod finding;
-mod form_words;
 mod lacking;
 mod numbers;
 mod page;
 mod places;
-mod reason;
 mod report;
-mod spelling;
-mod step_words;
 mod steps;
 mod target;
-mod words;
 
 pub use report::FileReport;

@@ -5,12 +5,8 @@ ghost use Rattle.std.specs.List.{AllByRecursion};
 ghost use Rattle.definitions.specs.Binding.Formed.{IsFormedSomewhere};
 ghost use Rattle.bound.specs.Bound.{block_of};
 
-use crate::finding::message;
-use crate::form_words::hint;
+use crate::finding::{Message, block_message};
 use crate::page::Page;
-use crate::reason::Message;
-use crate::spelling::from_one;
-use crate::words::write_reason;
 use bound::Block;
 use catalog::Database;
 use certificate_files::FileTold;
@@ -63,11 +59,10 @@ impl<'r> FileReport<'r> {
         message: &Message,
     ) -> fmt::Result {
         self.write_place(f, page.locate(message.offset))?;
-        write!(f, "block {}: ", from_one(message.block))?;
-        write_reason(f, &message.reason)?;
-        f.write_str("\n")?;
+        let number = message.block.saturating_add(1);
+        writeln!(f, "block {number}: {}", message.reason)?;
         page.write_line(f, message.offset)?;
-        f.write_str(hint(&message.reason))
+        f.write_str(message.reason.hint())
     }
 
     /// That the file goes on behind the last text.
@@ -115,7 +110,7 @@ fn messages(
     let mut messages = Vec::new(alloc);
     let mut number: usize = 0;
     'texts: for block in blocks {
-        if let Some(message) = message(alloc, database, block, number, file, told) {
+        if let Some(message) = block_message(alloc, database, block, number, file, told) {
             // no room: one message fewer
             let _ = messages.push(message);
         }

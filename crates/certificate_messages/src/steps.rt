@@ -7,11 +7,10 @@ ghost use Rattle.table_sets.specs.Sets.{set_of};
 ghost use Rattle.certificate.specs.Certificates.{certificate_of};
 ghost use Rattle.plan_space.specs.Planned.{space_in};
 
-use crate::reason::{LowStep, Step};
-use crate::spelling::{spelled, state_name};
 use block_spaces::BlockSpace;
 use certificate::{Certificate, State};
 use certificate_files::Place;
+use certificate_reasons::{LowStep, Step, spelled, state_name};
 use estimate::saturated;
 use table_sets::TableSet;
 

@@ -2,11 +2,10 @@
 
 use crate::finding::Found;
 use crate::places::{Spot, offset_of};
-use crate::reason::{PlanFault, Reason, Step, WrongStep};
-use crate::spelling::{spelled, state_name};
 use crate::steps::state_at;
 use block_spaces::BlockSpace;
 use certificate_files::Place;
+use certificate_reasons::{PlanFault, Reason, Step, WrongStep, spelled, state_name};
 use certificate_text::Spelled;
 use plans::Plan;
 

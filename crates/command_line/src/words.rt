@@ -1,8 +1,8 @@
 //! From the words of a command line to what they ask for.
 
-ghost use Rattle.std.specs.Prelude.{◌≡◌, Some, true, false, codes, map, option_map, IfOk, IfErr, IsErr};
+ghost use Rattle.std.specs.Prelude.{◌≡◌, Some, false, codes, map, option_map, IfOk, IsErr};
 ghost use Rattle.clap.specs.Simple.{subcommand_rows_of};
-ghost use Rattle.clap.specs.Words.{FailsBy, app_of, fault_of, first_value, found_of, rule_of, kind_of, takes};
+ghost use Rattle.clap.specs.Words.{FailsBy, app_of, fault_of, first_value, found_of, rule_of, kind_of};
 ghost use Rattle.clap.specs.declared.error.kind.ErrorKind.TheVariants as kind;
 ghost use Rattle.command_line.specs.CommandLine as spec;
 ghost use Rattle.command_line.specs.Request.{asked, script_source};
@@ -21,11 +21,10 @@ const EXAMPLES: &str =
     "Examples:\n  sqlr run first.sql\n  sqlr run - < first.sql\n  sqlr check first.sql first.certificates";
 
 /// What the words of a command line ask for, the first of which is the program's name, as `clap`
-/// gives them to the command; or `clap`'s fault, which asked-for help and the version are too (own).
+/// gives them to the command; or `clap`'s fault, exactly where the words have one, of its kind. Help and
+/// the version, where they are asked for, are such faults too (own).
 pub fn request(alloc: Global, words: &[&str]) -> Result<Request, LineFault>
     ensures asked { IfOk result (λ r. spec.asked_of (map (λ w. w.now) words.now) ≡ Some (asked r)) }
-    ensures taken { IfOk result (λ _. takes line (map (λ w. w.now) words.now) ≡ true) }
-    ensures refused { IfErr result (λ f. takes line (map (λ w. w.now) words.now) ≡ true → kind_of f ≡ kind.OutOfMemory) }
     ensures kinds { FailsBy (fault_of line (map (λ w. w.now) words.now)) result }
 {
     let mut command = match command(alloc) {

@@ -1,5 +1,5 @@
 -- What it means that a rule is read at a place of the tokens, or stopped.
-use Rattle.std.specs.Prelude.{ℕ, ◌≡◌, ◌+◌, ◌<◌, ◌≤◌, List, Bool, true, false, Option, Some, None, Result, Ok, Err, slice_get, take, unwrap_or}
+use Rattle.std.specs.Prelude.{ℕ, ◌≡◌, ◌+◌, ◌<◌, ◌≤◌, List, Bool, true, false, Option, Some, None, Result, Ok, Err, slice_get, take, map, unwrap_or}
 use Rattle.definitions.specs.Token as token
 use Rattle.definitions.specs.Token.{TokenKind}
 use Rattle.definitions.specs.Rule.{Rule, At, NotAt}
@@ -9,17 +9,24 @@ use Rattle.cursor.specs.declared.stop.Stop.{Stop}
 use Rattle.cursor.specs.declared.stop.Stop.TheVariants as s
 use Rattle.trees.specs.declared.leaf.Numeral as tree
 use Rattle.trees.specs.Trees.{numeral_of}
+use Rattle.lexer.specs.declared.token.Token.{Token}
 
--- a place in the tokens of a script
+-- a place in the tokens of a script, and where they begin in its text
 pub record Place : Type 0 where
   pub tokens : List TokenKind
+  pub starts : List ℕ
   pub at : ℕ
+
+-- where some tokens begin
+abbrev pub starts_of : List Token → List ℕ
+starts_of = map (λ (t : Token). t.start)
 
 -- ---- single tokens
 
 -- from a place to the next one
 pub record IsNext (p q : Place) : Type 0 where
   pub tokens : q.tokens ≡ p.tokens
+  pub starts : q.starts ≡ p.starts
   pub at : q.at ≡ p.at + 1
 
 -- a token of a kind is passed if it stands there

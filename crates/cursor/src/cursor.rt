@@ -10,7 +10,8 @@ ghost use Rattle.lexer.specs.Meaning.{kind_of, kinds_of, symbol_of, word_of};
 ghost use Rattle.lexer.specs.Quoted.{quoted_text};
 ghost use Rattle.cursor.specs.declared.stop.Stop.TheVariants as stop;
 ghost use Rattle.trees.specs.Trees.{count_of, name_of, text_of};
-ghost use Rattle.cursor.specs.Reading.{IsNext, Eats, Expects, Takes, TakesNumber, ParsesFlat, viewed};
+ghost use Rattle.cursor.specs.Places.{Stands, count_leaves, if_there, name_leaves, numeral_leaves, start_at, string_leaves};
+ghost use Rattle.cursor.specs.Reading.{IsNext, Eats, Expects, Takes, TakesNumber, ParsesFlat, starts_of, viewed};
 
 use crate::class::{TokenClass, Wanted};
 use crate::stop::Stop;
@@ -33,12 +34,12 @@ pub struct Cursor<'t, 's> {
 
 impl<'t, 's> Model for Cursor<'t, 's> {
     ghost use Rattle.std.specs.Prelude.{◌≤◌, length};
-    ghost use Rattle.cursor.specs.Reading.{Place};
+    ghost use Rattle.cursor.specs.Reading.{Place, starts_of};
     ghost use Rattle.lexer.specs.Meaning.{kinds_of};
 
     ghost Value = { Place };
 
-    ghost view = { λ s. record { tokens = kinds_of s.tokens.now; at = s.at } };
+    ghost view = { λ s. record { tokens = kinds_of s.tokens.now; starts = starts_of s.tokens.now; at = s.at } };
 
     ghost invariant = { λ s. s.at ≤ length s.tokens.now };
 }
@@ -47,7 +48,7 @@ impl<'t, 's> Cursor<'t, 's> {
     /// The beginning of some tokens. What the rules look for is noted at one place alone, if it is given: to note it
     /// at each would take as long as reading.
     pub fn new(alloc: Global, tokens: &'t [Token<'s>], watched: Option<usize>) -> Cursor<'t, 's>
-        ensures { result ≡ record { tokens = kinds_of tokens.now; at = 0 } }
+        ensures { result ≡ record { tokens = kinds_of tokens.now; starts = starts_of tokens.now; at = 0 } }
     {
         Cursor {
             alloc,
@@ -72,6 +73,7 @@ impl<'t, 's> Cursor<'t, 's> {
         ensures token { IfSome result (λ token. slice_get self.old.tokens self.old.at ≡ Some (kind_of token.now.text.now token.now.kind)) }
         ensures end { IfNone result (slice_get self.old.tokens self.old.at ≡ None) }
         ensures inside { OnSome result (self.old.at < length self.old.tokens) }
+        ensures start { IfSome result (λ token. token.now.start ≡ start_at self.old) }
     {
         let token = token_at(self.tokens, self.at);
         self.note(class);
@@ -96,7 +98,9 @@ impl<'t, 's> Cursor<'t, 's> {
     }
 
     /// The offset of the token that stands here; 0 at the end.
-    pub fn start(&self) -> usize {
+    pub fn start(&self) -> usize
+        ensures { result ≡ start_at self.now }
+    {
         match self.tokens.get(self.at) {
             Some(token) => token.start,
             None => 0,
@@ -212,6 +216,7 @@ impl<'t, 's> Cursor<'t, 's> {
     /// Passes a name if one stands here (ISO/IEC 9075:1992, 5.4), where a rule looks for a class of tokens.
     pub fn take_name(&mut self, class: TokenClass) -> Result<Option<Name>, Stop>
         ensures ok { IfOk result (Takes name_in name_of self.old self.new) }
+        ensures placed { IfOk result (λ name. Stands self.old self.new (if_there name_leaves name)) }
         ensures memory { IfErr result (λ fault. fault ≡ stop.Memory) }
     {
         let Some(token) = self.look(class) else {
@@ -228,7 +233,8 @@ impl<'t, 's> Cursor<'t, 's> {
 
     /// A name (ISO/IEC 9075:1992, 5.4), where a rule looks for a class of tokens.
     pub fn name(&mut self, class: TokenClass) -> Result<Name, Stop>
-        ensures { ParsesFlat NameAt self.old self.new (viewed name_of result) }
+        ensures reads { ParsesFlat NameAt self.old self.new (viewed name_of result) }
+        ensures placed { IfOk result (λ name. Stands self.old self.new (name_leaves name)) }
     {
         let Some(name) = self.take_name(class)? else {
             return Err(self.stop());
@@ -238,7 +244,8 @@ impl<'t, 's> Cursor<'t, 's> {
 
     /// A number without a point (ISO/IEC 9075:1992, 5.3, unsigned integer).
     pub fn count(&mut self) -> Result<Count, Stop>
-        ensures { ParsesFlat CountAt self.old self.new (viewed count_of result) }
+        ensures reads { ParsesFlat CountAt self.old self.new (viewed count_of result) }
+        ensures placed { IfOk result (λ count. Stands self.old self.new (count_leaves count)) }
     {
         let Some(token) = self.look(TokenClass::WholeNumber) else {
             return Err(self.stop());
@@ -254,7 +261,8 @@ impl<'t, 's> Cursor<'t, 's> {
     /// Passes an unsigned number if one stands here (ISO/IEC 9075:1992, 5.3), where a rule looks for a class of
     /// tokens.
     pub fn take_number(&mut self, class: TokenClass) -> Option<Numeral>
-        ensures { TakesNumber self.old self.new result }
+        ensures taken { TakesNumber self.old self.new result }
+        ensures placed { Stands self.old self.new (if_there numeral_leaves result) }
     {
         let token = self.look(class)?;
         let number = token.numeral()?;
@@ -271,6 +279,7 @@ impl<'t, 's> Cursor<'t, 's> {
     /// class of tokens.
     pub fn take_string(&mut self, class: TokenClass) -> Result<Option<StringLiteral>, Stop>
         ensures ok { IfOk result (Takes string_in text_of self.old self.new) }
+        ensures placed { IfOk result (λ string. Stands self.old self.new (if_there string_leaves string)) }
         ensures memory { IfErr result (λ fault. fault ≡ stop.Memory) }
     {
         let Some(token) = self.look(class) else {
@@ -287,7 +296,8 @@ impl<'t, 's> Cursor<'t, 's> {
 
     /// A character string literal (ISO/IEC 9075:1992, 5.3).
     pub fn string(&mut self) -> Result<StringLiteral, Stop>
-        ensures { ParsesFlat StringAt self.old self.new (viewed text_of result) }
+        ensures reads { ParsesFlat StringAt self.old self.new (viewed text_of result) }
+        ensures placed { IfOk result (λ string. Stands self.old self.new (string_leaves string)) }
     {
         let Some(string) = self.take_string(TokenClass::String)? else {
             return Err(self.stop());

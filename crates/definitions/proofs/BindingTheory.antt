@@ -10,4 +10,4 @@ mod FormedBlocks
 mod InnerBlocks
 pub mod AcceptedQueries
 pub mod WorkedBindings
-mod WorkedForms
+pub mod WorkedForms

@@ -11,4 +11,4 @@ pub mod OneTable
 pub mod FullProducts
 pub mod Joins
 pub mod Classes
-mod BoundExamples
+pub mod BoundExamples

@@ -11,10 +11,11 @@ pub mod FigureBounds
 pub mod Repeats
 pub mod Counting
 pub mod Steps
+mod FileLoads
 mod Quoting
-mod Examples
+mod TextExamples
 mod TableExamples
-mod Runs
+pub mod Runs
 pub mod PlanTheory
 pub mod QueryTheory
 pub mod BindingTheory

@@ -5,4 +5,4 @@ pub mod EqualValues
 pub mod TypedValues
 pub mod GroupClasses
 pub mod SomeOutcome
-mod WorkedQueries
+pub mod WorkedQueries

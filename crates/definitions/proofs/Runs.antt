@@ -5,7 +5,7 @@ use Rattle.std.specs.Fmt.{digits}
 use Rattle.std.specs.declared.cmp.Ordering.{Ordering}
 use Rattle.definitions.specs.Value.{Number}
 use Rattle.definitions.specs.Refusal.{OpenString, Unexpected}
-use Rattle.definitions.specs.Statement.{Select, Statement, Query}
+use Rattle.definitions.specs.Statement.{Select, Query}
 use Rattle.definitions.specs.Grammar as g
 use Rattle.definitions.specs.Table.{Row, Table, Database}
 use Rattle.definitions.specs.Arithmetic.{Meaning, Is, Raises}
@@ -20,26 +20,11 @@ use Rattle.definitions.specs.Change as made
 use Rattle.definitions.specs.Step as step
 use Rattle.definitions.specs.Step.{State, Answering, Step, Run, Ended, Well, Faulted, Loaded}
 use Rattle.std.proofs.lemmas.List.Sorted.{sum_by-IsPermutation}
-use Rattle.definitions.specs.Laws.{SelectPrintsAnswer, PrintsAnswer}
-use Rattle.definitions.proofs.Examples.{open_string_at_7, load_from_fails_at_5}
-use Rattle.definitions.proofs.BindingTheory.WorkedBindings.{t_and_u, faultless, faultless_is_accepted}
-
--- an empty script prints nothing
-pub empty_script : {L : Type 0} (answers : Answering L) (s : State L) → Run answers s [] s [] Well
-empty_script answers s = step.run [] ([], ([], refl, refl), g.end 0 refl) (refl, refl, refl)
-
-pub open_string_line : {L : Type 0} (answers : Answering L) (s : State L) → Run answers s (codes "SELECT 'ab") s (codes "error E02 42000 at 7\n") Faulted
-unfolding digits
-open_string_line answers s = step.fault (step.lexical (record { refusal = OpenString; at = 7 }) open_string_at_7 refl) refl refl
-
-pub syntax_line : {L : Type 0} (answers : Answering L) (s : State L) → Run answers s (codes "LOAD FROM T;") s (codes "error E05 42000 at 5\n") Faulted
-unfolding digits
-syntax_line answers s = step.fault (step.syntax _ Unexpected 5 (
-  codes "LOAD" ∷ codes " " ∷ codes "FROM" ∷ codes " " ∷ codes "T" ∷ codes ";" ∷ [],
-  (codes " FROM T;", refl, refl, refl, (codes "FROM T;", refl, refl, refl, (codes " T;", refl, refl, refl, (codes "T;", refl, refl, refl, (codes ";", refl, refl, refl, ([], refl, refl, refl, refl)))))),
-  refl,
-)
-    load_from_fails_at_5 refl) refl refl
+use Rattle.definitions.specs.RunLaws.{FaultsChangeNothing, SelectPrintsAnswer, PrintsAnswer}
+use Rattle.definitions.specs.Examples.Runs.{ScriptsRun}
+use Rattle.definitions.specs.Examples.Binding.{t_and_u, faultless}
+use Rattle.definitions.proofs.TextExamples.{texts_read, tokens_derive}
+use Rattle.definitions.proofs.BindingTheory.WorkedBindings.{faultless_is_accepted}
 
 -- SELECT X FROM T WHERE X = 1 prints the header, the one row and the count
 plain : CanAnswer (bound_form t_and_u faultless)
@@ -52,9 +37,20 @@ accepted r (faults.not_yet q a h) = h plain
 one_sorted : {X : Type 0} (order : X → X → Ordering) (x : X) → IsSorted order (x ∷ [])
 one_sorted order x i d l m = absurd (omega (arith, m))
 
-pub one_row_printed : {L : Type 0} (answers : Answering L) (lib : L) → Step answers (record { library = lib; database = t_and_u }) (Query faultless) (record { library = lib; database = t_and_u }) (codes "X\n1\n1 rows\n") Well
-unfolding digits
-one_row_printed answers lib = step.query faultless (bound_form t_and_u faultless) (Rows ((Number (pos 1) 0 ∷ []) ∷ [])) refl accepted (faultless_is_accepted, refl) (record { moves = []; below = tt; is = refl }, one_sorted (row_order []) (Number (pos 1) 0 ∷ [])) refl refl refl
+module _ {L : Type 0} (answers : Answering L) where
+  pub scripts_run : ScriptsRun answers
+  unfolding digits
+  scripts_run = record {
+    empty_script = λ s. step.run [] ([], ([], refl, refl), g.end 0 refl) (refl, refl, refl);
+    open_string_line = λ s. step.fault (step.lexical (record { refusal = OpenString; at = 7 }) texts_read.open_string_at_7 refl) refl refl;
+    syntax_line = λ s. step.fault (step.syntax _ Unexpected 5 (
+      codes "LOAD" ∷ codes " " ∷ codes "FROM" ∷ codes " " ∷ codes "T" ∷ codes ";" ∷ [],
+      (codes " FROM T;", refl, refl, refl, (codes "FROM T;", refl, refl, refl, (codes " T;", refl, refl, refl, (codes "T;", refl, refl, refl, (codes ";", refl, refl, refl, ([], refl, refl, refl, refl)))))),
+      refl,
+    )
+        tokens_derive.load_from_fails_at_5 refl) refl refl;
+    one_row_printed = λ lib. step.query faultless (bound_form t_and_u faultless) (Rows ((Number (pos 1) 0 ∷ []) ∷ [])) refl accepted (faultless_is_accepted, refl) (record { moves = []; below = tt; is = refl }, one_sorted (row_order []) (Number (pos 1) 0 ∷ [])) refl refl refl;
+  }
 
 -- an error line leaves the database as it was
 loaded_fault : (db db' : Database) (n : List ℕ) (t : Table) (records : _) (text : List ℕ) → Loaded db n t records db' text Faulted → db' ≡ db
@@ -62,7 +58,7 @@ loaded_fault db db' n t records text (step.loaded rows a l d e f) = absurd cc
 loaded_fault db db' n t records text (step.too_many a d e f) = d
 loaded_fault db db' n t records text (step.refused r k f d e g) = d
 
-pub faults_change_nothing : {L : Type 0} (answers : Answering L) (old new : State L) (s : Statement) (text : List ℕ) → Step answers old s new text Faulted → new.database ≡ old.database
+pub faults_change_nothing : {L : Type 0} (answers : Answering L) → FaultsChangeNothing answers
 faults_change_nothing answers old new s text (step.refused r f n t e) = rw n refl
 faults_change_nothing answers old new s text (step.repeated a b n t e) = rw n refl
 faults_change_nothing answers old new s text (step.made db a b n t e) = absurd cc
@@ -79,18 +75,18 @@ rows_meant (Is bag) keys rows h = (bag, refl, h.0, h.1)
 rows_meant (Raises r rs) keys rows h = absurd h
 
 -- what is printed for a query that is not refused, and raises no exception, is its answer
-pub select_prints_answer : SelectPrintsAnswer
-select_prints_answer L answers old new q text (step.refused r f n t e) = absurd cc
-select_prints_answer L answers old new q text (step.repeated a b n t e) = absurd cc
-select_prints_answer L answers old new q text (step.made db a (made.created n c e f) g t w) = absurd cc
-select_prints_answer L answers old new q text (step.made db a (made.indexed u n c x m e f g h i) j t w) = absurd cc
-select_prints_answer L answers old new q text (step.made db a (made.table_set n r p e f) g t w) = absurd cc
-select_prints_answer L answers old new q text (step.made db a (made.index_set n c v x m y k e f g h i j) l t w) = absurd cc
-select_prints_answer L answers old new q text (step.no_file a b l c d e n t f) = absurd cc
-select_prints_answer L answers old new q text (step.load a b c l t r db e f g h lo n) = absurd cc
-select_prints_answer L answers old new q text (step.explain q' blocks s a bound are n e) = absurd cc
-select_prints_answer L answers old new q text (step.query q' blocks (Exception raise) s a bound allowed n t e) = absurd cc
-select_prints_answer L answers old new q text (step.query q' blocks (Rows rows) s a bound allowed n t e) =
+pub select_prints_answer : {L : Type 0} (answers : Answering L) → SelectPrintsAnswer answers
+select_prints_answer answers old new q text (step.refused r f n t e) = absurd cc
+select_prints_answer answers old new q text (step.repeated a b n t e) = absurd cc
+select_prints_answer answers old new q text (step.made db a (made.created n c e f) g t w) = absurd cc
+select_prints_answer answers old new q text (step.made db a (made.indexed u n c x m e f g h i) j t w) = absurd cc
+select_prints_answer answers old new q text (step.made db a (made.table_set n r p e f) g t w) = absurd cc
+select_prints_answer answers old new q text (step.made db a (made.index_set n c v x m y k e f g h i j) l t w) = absurd cc
+select_prints_answer answers old new q text (step.no_file a b l c d e n t f) = absurd cc
+select_prints_answer answers old new q text (step.load a b c l t r db e f g h lo n) = absurd cc
+select_prints_answer answers old new q text (step.explain q' blocks s a bound are n e) = absurd cc
+select_prints_answer answers old new q text (step.query q' blocks (Exception raise) s a bound allowed n t e) = absurd cc
+select_prints_answer answers old new q text (step.query q' blocks (Rows rows) s a bound allowed n t e) =
     let (bag, meant, permuted, sorted) = rows_meant (answer old.database blocks) (order_of blocks) rows allowed in
     let printed : PrintsAnswer old.database q' text = record {
       blocks = blocks;

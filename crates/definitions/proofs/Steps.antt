@@ -29,7 +29,7 @@ use Rattle.definitions.specs.Lists.{AnyOf}
 use Rattle.definitions.specs.Invariant.{IsCount, IsPageCount, IsRange, IsIndex, IsTable, IsDatabase, AreApart, type_at}
 use Rattle.definitions.specs.Step as step
 use Rattle.definitions.specs.Step.{State, Answering, Step, Ended, Loaded}
-use Rattle.definitions.specs.Laws.{StepKeepsDatabase}
+use Rattle.definitions.specs.RunLaws.{StepKeepsDatabase}
 use Rattle.definitions.proofs.Ranking.{rank_total, rank_as_compared, power_is_positive, scaled}
 use Rattle.definitions.proofs.Repeats.{all_append}
 use Rattle.definitions.proofs.Counting.{counted_index, new_is_table, loaded_is_table}
@@ -417,11 +417,11 @@ loaded_database db new name t records text ended h n (step.loaded rows a few e x
 loaded_database db new name t records text ended h n (step.too_many f e x y) = rw e h
 loaded_database db new name t records text ended h n (step.refused r k f e x y) = rw e h
 
-pub step_keeps_database : StepKeepsDatabase
-step_keeps_database L answers old new s text ended h (step.refused r f n t e) = rw n h
-step_keeps_database L answers old new s text ended h (step.repeated a b n t e) = rw n h
-step_keeps_database L answers old new s text ended h (step.made db a m n t e) = rw n (made_database old.database db s h a m)
-step_keeps_database L answers old new s text ended h (step.no_file a b l c d e n t f) = rw n h
-step_keeps_database L answers old new s text ended h (step.load name file bytes l t records db e named g k lo n) = rw n (loaded_database old.database db name t records text ended h named lo)
-step_keeps_database L answers old new s text ended h (step.query q blocks told e a b allowed n w x) = rw n h
-step_keeps_database L answers old new s text ended h (step.explain q blocks e a b are n w) = rw n h
+pub step_keeps_database : {L : Type 0} (answers : Answering L) → StepKeepsDatabase answers
+step_keeps_database answers old new s text ended h (step.refused r f n t e) = rw n h
+step_keeps_database answers old new s text ended h (step.repeated a b n t e) = rw n h
+step_keeps_database answers old new s text ended h (step.made db a m n t e) = rw n (made_database old.database db s h a m)
+step_keeps_database answers old new s text ended h (step.no_file a b l c d e n t f) = rw n h
+step_keeps_database answers old new s text ended h (step.load name file bytes l t records db e named g k lo n) = rw n (loaded_database old.database db name t records text ended h named lo)
+step_keeps_database answers old new s text ended h (step.query q blocks told e a b allowed n w x) = rw n h
+step_keeps_database answers old new s text ended h (step.explain q blocks e a b are n w) = rw n h

@@ -1,100 +1,33 @@
 -- Worked figures of small tables. No claim rests on them.
-use Rattle.std.proofs.Common.{◌≡◌, refl, ℕ, List, [], ◌∷◌, Option, Some, None, Bool, true, false, map}
-use Rattle.std.specs.Prelude.{codes, pos, neg_ℤ, ℤ}
-use Rattle.definitions.specs.Value.{Value, Null, Number, Text, SqlType, Integer, Numeric, Smallint, Char}
-use Rattle.definitions.specs.Statement.{Nullable, Unique}
-use Rattle.definitions.specs.Table.{Column, Row, KeyRange, IndexFigures, Table}
-use Rattle.definitions.specs.Figures.{pages_for, row_width, entry_width, index_figures}
-use Rattle.definitions.specs.Change.{new_table, with_rows, with_index, with_table_figures}
+use Rattle.std.proofs.Common.{refl}
+use Rattle.definitions.specs.Examples.Tables.{FiguresOfTables, FiguresOfIndexes, SizesOfRows}
 
-abbrev pub number : ℕ → Value
-number n = Number (pos n) 0
+pub figures_of_tables : FiguresOfTables
+figures_of_tables = record {
+  three_rows_on_a_page = refl;
+  a_unique_column_has_an_index = refl;
+  figures_stay = refl;
+  figures_are_counted_anew = refl;
+}
 
-abbrev pub text : List ℕ → Value
-text cs = Text cs
+pub figures_of_indexes : FiguresOfIndexes
+figures_of_indexes = record {
+  nulls_are_no_keys = refl;
+  falling_keys = refl;
+  a_null_behind_a_key_falls = refl;
+  no_rows_take_a_page = refl;
+  nulls_have_no_range = refl;
+  texts_have_no_range = refl;
+  ranges_are_in_units = refl;
+  keys_of_three_columns = refl;
+  the_first_column_has_the_range = refl;
+}
 
-abbrev pub column : SqlType → Column
-column type = record { name = codes "A"; type = type; constraint = Nullable }
-
-abbrev pub figures_with : ℕ → ℕ → Bool → Option KeyRange → IndexFigures
-figures_with keys pages clustered range = record { keys = keys; pages = pages; clustered = clustered; range = range }
-
-abbrev pub from_to : ℤ → ℤ → Option KeyRange
-from_to low high = Some (record { low = low; high = high })
-
--- T (A INTEGER NOT NULL UNIQUE) with 1, 2, 3
-abbrev pub one_two_three : Table
-one_two_three = with_rows (new_table (codes "T") (record { name = codes "A"; type = Integer; constraint = Unique } ∷ [])) ((number 1 ∷ []) ∷ (number 2 ∷ []) ∷ (number 3 ∷ []) ∷ [])
-
-pub three_rows_on_a_page : one_two_three.figures ≡ record { rows = 3; pages = 1 }
-three_rows_on_a_page = refl
-
-pub a_unique_column_has_an_index : one_two_three.indexes ≡ record { columns = 0 ∷ []; unique = true; figures = figures_with 3 1 true (from_to (pos 1) (pos 3)) } ∷ []
-a_unique_column_has_an_index = refl
-
--- a further index leaves what was set
-pub figures_stay : (with_index (with_table_figures one_two_three (record { rows = 1000; pages = 50 })) false (0 ∷ 0 ∷ [])).figures ≡ record { rows = 1000; pages = 50 }
-figures_stay = refl
-
--- and LOAD counts anew
-pub figures_are_counted_anew : (with_rows (with_table_figures one_two_three (record { rows = 1000; pages = 50 })) ((number 9 ∷ []) ∷ [])).figures ≡ record { rows = 4; pages = 1 }
-figures_are_counted_anew = refl
-
--- an index on rows of one value
-abbrev pub figures_of : SqlType → List Value → IndexFigures
-figures_of type values = index_figures (column type ∷ []) (map (λ v. v ∷ []) values) (0 ∷ [])
-
--- a null is no key and ranks first, and of two equal keys one counts
-pub nulls_are_no_keys : figures_of Integer (Null ∷ number 1 ∷ number 1 ∷ []) ≡ figures_with 1 1 true (from_to (pos 1) (pos 1))
-nulls_are_no_keys = refl
-
-pub falling_keys : figures_of Integer (number 2 ∷ number 1 ∷ []) ≡ figures_with 2 1 false (from_to (pos 1) (pos 2))
-falling_keys = refl
-
-pub a_null_behind_a_key_falls : figures_of Integer (number 1 ∷ Null ∷ []) ≡ figures_with 1 1 false (from_to (pos 1) (pos 1))
-a_null_behind_a_key_falls = refl
-
-pub no_rows_take_a_page : figures_of Integer [] ≡ figures_with 0 1 true None
-no_rows_take_a_page = refl
-
-pub nulls_have_no_range : figures_of Integer (Null ∷ Null ∷ []) ≡ figures_with 0 1 true None
-nulls_have_no_range = refl
-
-pub texts_have_no_range : figures_of (Char 2) (text (codes "ab") ∷ text (codes "cd") ∷ []) ≡ figures_with 2 1 true None
-texts_have_no_range = refl
-
--- -2.0 and 1.5 in NUMERIC(4,1)
-pub ranges_are_in_units : figures_of (Numeric 4 1) (Number (pos 15) 1 ∷ Number (neg_ℤ (pos 20)) 1 ∷ []) ≡ figures_with 2 1 false (from_to (neg_ℤ (pos 20)) (pos 15))
-ranges_are_in_units = refl
-
--- an index on B, A, C of (1.5, 'b', 1), (NULL, 'a', 1), (1.5, 'b', 1), (-2.0, 'b', NULL), (1.5, 'b', 7): the second and the fourth key have a
--- null, and the second ranks before the first
-abbrev pub three_columns : List Column
-three_columns = column (Numeric 4 1) ∷ column (Char 3) ∷ column Smallint ∷ []
-
-abbrev pub five_rows : List Row
-five_rows = (Number (pos 15) 1 ∷ text (codes "b  ") ∷ number 1 ∷ []) ∷ (Null ∷ text (codes "a  ") ∷ number 1 ∷ []) ∷ (Number (pos 15) 1 ∷ text (codes "b  ") ∷ number 1 ∷ []) ∷ (Number (neg_ℤ (pos 20)) 1 ∷ text (codes "b  ") ∷ Null ∷ [])
-    ∷ (Number (pos 15) 1 ∷ text (codes "b  ") ∷ number 7 ∷ []) ∷ []
-
-pub keys_of_three_columns : index_figures three_columns five_rows (1 ∷ 0 ∷ 2 ∷ []) ≡ figures_with 2 1 false None
-keys_of_three_columns = refl
-
-pub the_first_column_has_the_range : index_figures three_columns five_rows (0 ∷ 1 ∷ 2 ∷ []) ≡ figures_with 2 1 false (from_to (neg_ℤ (pos 20)) (pos 15))
-the_first_column_has_the_range = refl
-
--- 8 bytes beside the columns' 8, 3 and 2
-pub rows_take_21_bytes : row_width three_columns ≡ 21
-rows_take_21_bytes = refl
-
-pub entries_take_13_bytes : entry_width three_columns (1 ∷ 2 ∷ []) ≡ 13
-entries_take_13_bytes = refl
-
--- 256 rows of 16 bytes fill a page
-pub a_full_page : pages_for 256 16 ≡ 1
-a_full_page = refl
-
-pub a_second_page : pages_for 257 16 ≡ 2
-a_second_page = refl
-
-pub a_page_of_nothing : pages_for 0 16 ≡ 1
-a_page_of_nothing = refl
+pub sizes_of_rows : SizesOfRows
+sizes_of_rows = record {
+  rows_take_21_bytes = refl;
+  entries_take_13_bytes = refl;
+  a_full_page = refl;
+  a_second_page = refl;
+  a_page_of_nothing = refl;
+}

@@ -6,7 +6,7 @@ use Rattle.definitions.specs.Refusal.{Refusal}
 use Rattle.definitions.specs.Binding.Faults as binding
 use Rattle.definitions.specs.Queries.BoundBlock.{Blocks}
 use Rattle.definitions.specs.Step as step
-use Rattle.definitions.specs.Step.{Answering, State, Step, FaultLine, AreStatements, Break, NoMemory, SinkFailed}
+use Rattle.definitions.specs.Step.{Answering, Failing, State, Step, FaultLine, AreStatements, Break, NoMemory, SinkFailed, StepBreaks}
 use Rattle.definitions.specs.Estimates.Version.{Version}
 use Rattle.definitions.specs.Certificates.File.{lines_of}
 use Rattle.definitions.specs.Certificates.Explaining.{certified_from}
@@ -46,11 +46,13 @@ pub data Checked {L : Type 0} (answers : Answering L) (current : Version) (old :
       → binding.Binds new.database q blocks → AreTold current (certified_from new.database 0 blocks) (lines_of file) text ended
       → Checked answers current old script file new text ended
 
--- why a checking run breaks off is why a run does. Nothing is printed before its end: want of memory or a failed library leaves nothing
--- printed, and the database as some of the statements before the last left it; where the sink failed, a beginning of the run's text was printed
-pub data CheckBreaks {L : Type 0} (answers : Answering L) (current : Version) (old : State L) (script file : List ℕ) (break : Break) (new : State L) (begun : List ℕ) : Type 0 where
-  unread : break ≡ NoMemory → new ≡ old → begun ≡ [] → CheckBreaks answers current old script file break new begun
-  unchecked : (front rest : List Statement) (mid : State L) → break ≢ SinkFailed → AreStatements script (front ++ rest) → Prepares answers old front mid
-      → new.database ≡ mid.database → begun ≡ [] → CheckBreaks answers current old script file break new begun
+-- why a checking run breaks off is why a run does. Nothing is printed before its end: where the text isn't read, where a statement before the last
+-- breaks off, or where memory is wanting for the checks, nothing is printed; where the sink failed, a beginning of the run's text was printed
+pub data CheckBreaks {L : Type 0} (answers : Answering L) (fails : Failing L) (current : Version) (old : State L) (script file : List ℕ) (break : Break) (new : State L) (begun : List ℕ) : Type 0 where
+  unread : break ≡ NoMemory → new ≡ old → begun ≡ [] → CheckBreaks answers fails current old script file break new begun
+  unprepared : (front rest : List Statement) (s : Statement) (mid : State L) → AreStatements script (front ++ s ∷ rest) → rest ≢ [] → Prepares answers old front mid → asked s ≡ None
+      → StepBreaks answers fails mid s break new → begun ≡ [] → CheckBreaks answers fails current old script file break new begun
+  unchecked : (front : List Statement) (s : Statement) → AreStatements script (front ++ s ∷ []) → Prepares answers old front new
+      → break ≡ NoMemory → begun ≡ [] → CheckBreaks answers fails current old script file break new begun
   unprinted : (ended : CheckEnded) → break ≡ SinkFailed → Checked answers current old script file new begun ended
-      → CheckBreaks answers current old script file break new begun
+      → CheckBreaks answers fails current old script file break new begun

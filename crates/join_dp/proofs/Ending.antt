@@ -17,7 +17,7 @@ use Rattle.definitions.specs.Plans.Cost.{cost_of}
 use Rattle.definitions.specs.Plans.Folding.{IsUseful, OpensMerge, Folds, IsOn}
 use Rattle.definitions.specs.Plans.Certificate.{StateCost, IsListed}
 use Rattle.definitions.specs.Plans.Search.{as_bounds, IsSolved}
-use Rattle.plan_space.specs.Laws.{IsSpace}
+use Rattle.definitions.specs.Plans.Search.{IsComplete}
 use Rattle.join_dp.specs.Counting.{AreFew}
 use Rattle.join_dp.specs.Rows.{filled}
 use Rattle.join_dp.specs.Solved.{told_all, IsSolvedBelow, AreSolvedBelow}
@@ -100,11 +100,11 @@ module _ (space : Space) where
       let b = All-contains (λ (x : StateCost). x.tables < 2 ^ space.table_count) states (record { tables = s; order = k; cost = c }) v.below l in
       or_lt space.table_count s (2 ^ t) b (pow-lt lt)
 
-  pub all_solved : IsSpace space → (states : List Solved) → IsSolvedBelow space (2 ^ space.table_count) (told_all states) → AllMade space states → IsSolved space (told_all states)
-  all_solved lawful states v made = record {
+  pub all_solved : IsComplete space → (states : List Solved) → IsSolvedBelow space (2 ^ space.table_count) (told_all states) → AllMade space states → IsSolved space (told_all states)
+  all_solved complete states v made = record {
     form = record {
       tables = v.tables;
-      orders = all_told (λ (x : StateCost). IsOver space x.tables x.order) states (λ place within. let p = planned space lawful states made place within in let n = (made place within).numbered in state_over space lawful (omega (arith, n)) (at states place).tables (at states place).order p.0 p.1.is_on);
+      orders = all_told (λ (x : StateCost). IsOver space x.tables x.order) states (λ place within. let p = planned space complete states made place within in let n = (made place within).numbered in state_over space complete (omega (arith, n)) (at states place).tables (at states place).order p.0 p.1.is_on);
       rising = v.rising;
     };
     attained = λ s k c there. of_place s k c (listed_at states s k c there);
@@ -118,31 +118,31 @@ module _ (space : Space) where
     where
       of_place : (s k c : ℕ) → (i : ℕ) × (i < length states) × (told (at states i) ≡ record { tables = s; order = k; cost = c }) → (p : Plan) × IsOn space s k p × (cost_of space p ≡ c)
       of_place s k c (i, lt, is) =
-          let p = planned space lawful states made i lt in
+          let p = planned space complete states made i lt in
           subst (λ (x : StateCost). (q : Plan) × IsOn space x.tables x.order q × (cost_of space q ≡ x.cost)) is (p.0, p.1.is_on, p.1.costs)
 
   -- ---- the orders of states are folds
 
-  empty_useless : IsSpace space → (s : ℕ) → IsUseful space s 0 → ⊥
-  empty_useless lawful s = rw lawful.complete.unordered (never space.required)
+  empty_useless : IsComplete space → (s : ℕ) → IsUseful space s 0 → ⊥
+  empty_useless complete s = rw complete.unordered (never space.required)
     where
       never : (required : Order) → ((required ≢ []) × Satisfies space (whole space) [] required) ⊎ OpensMerge space s [] → ⊥
       never [] (inl (ne, gives)) = ne refl
       never (x ∷ xs) (inl (ne, gives)) = gives
       never required (inr opens) = opens
 
-  fold_again : IsSpace space → (s d f : ℕ) → Folds space s d f → Folds space s f f
-  fold_again lawful s d f (inl (u, e)) = inl (rw e u, refl)
-  fold_again lawful s d f (inr (n, e)) = rw e (inr (empty_useless lawful s, refl))
+  fold_again : IsComplete space → (s d f : ℕ) → Folds space s d f → Folds space s f f
+  fold_again complete s d f (inl (u, e)) = inl (rw e u, refl)
+  fold_again complete s d f (inr (n, e)) = rw e (inr (empty_useless complete s, refl))
 
-  step_folded : IsSpace space → (states : List Solved) (first tables order cost : ℕ) (step : Step) → StepMakes space states first tables order cost step → Folds space tables order order
-  step_folded lawful states first tables order cost (AccessOf path) m = fold_again lawful tables (space.path_order path) order m.3
-  step_folded lawful states first tables order cost (JoinOn from join) m = fold_again lawful tables (at states from).order order m.3
+  step_folded : IsComplete space → (states : List Solved) (first tables order cost : ℕ) (step : Step) → StepMakes space states first tables order cost step → Folds space tables order order
+  step_folded complete states first tables order cost (AccessOf path) m = fold_again complete tables (space.path_order path) order m.3
+  step_folded complete states first tables order cost (JoinOn from join) m = fold_again complete tables (at states from).order order m.3
 
-  sort_folded : IsSpace space → (states : List Solved) (first tables order cost : ℕ) (step : Step) (sorted : Option ℕ) → SortMakes space states first tables order cost step sorted → Folds space tables order order
-  sort_folded lawful states first tables order cost step None m = step_folded lawful states first tables order cost step m
-  sort_folded lawful states first tables order cost step (Some into) (k, less, m, can, folds, is) = fold_again lawful tables into order folds
+  sort_folded : IsComplete space → (states : List Solved) (first tables order cost : ℕ) (step : Step) (sorted : Option ℕ) → SortMakes space states first tables order cost step sorted → Folds space tables order order
+  sort_folded complete states first tables order cost step None m = step_folded complete states first tables order cost step m
+  sort_folded complete states first tables order cost step (Some into) (k, less, m, can, folds, is) = fold_again complete tables into order folds
 
-  pub all_folded : IsSpace space → (states : List Solved) → AllMade space states → All (λ (x : StateCost). Folds space x.tables x.order x.order) (told_all states)
-  all_folded lawful states made = all_told (λ (x : StateCost). Folds space x.tables x.order x.order) states
-      (λ place within. sort_folded lawful states place (at states place).tables (at states place).order (at states place).found.cost (at states place).found.step (at states place).found.sorted (made place within).made)
+  pub all_folded : IsComplete space → (states : List Solved) → AllMade space states → All (λ (x : StateCost). Folds space x.tables x.order x.order) (told_all states)
+  all_folded complete states made = all_told (λ (x : StateCost). Folds space x.tables x.order x.order) states
+      (λ place within. sort_folded complete states place (at states place).tables (at states place).order (at states place).found.cost (at states place).found.step (at states place).found.sorted (made place within).made)

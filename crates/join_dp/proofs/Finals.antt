@@ -14,10 +14,9 @@ use Rattle.definitions.specs.Plans.Certificate.{StateCost, Certificate, Lists}
 use Rattle.definitions.specs.Plans.Validity.{IsValid}
 use Rattle.definitions.specs.Plans.Exact.{IsExact}
 use Rattle.definitions.specs.Plans.Search.{certificate_below, IsSolved, IsCheapest}
-use Rattle.definitions.proofs.PlanTheory.Below.{searched}
 use Rattle.definitions.proofs.PlanTheory.Bounds.{least}
-use Rattle.definitions.proofs.PlanTheory.Finding.{finds, kept_ordered}
-use Rattle.plan_space.specs.Laws.{IsSpace}
+use Rattle.definitions.proofs.PlanTheory.Finding.{finds, kept_ordered, searched_whole}
+use Rattle.definitions.specs.Plans.Search.{IsComplete}
 use Rattle.join_dp.specs.Final.{IsCheapestAmong, IsCheapestOf, AreSolutions}
 use Rattle.join_dp.specs.Planned.{IsPlanAt}
 use Rattle.join_dp.specs.Solved.{told_all, AreSolvedBelow}
@@ -65,13 +64,13 @@ filter_less {X} p (x ∷ xs) (suc i) d lt fails = of_test (filter_less p xs i d 
 not_below : (n : ℕ) → nat_lt n n ≡ false
 not_below n = grind (arith, nat_tests)
 
-module _ (space : Space) (lawful : IsSpace space) (states : List Solved) (starts : List ℕ) (s : AreSolvedBelow space (2 ^ space.table_count) states starts) where
+module _ (space : Space) (complete : IsComplete space) (states : List Solved) (starts : List ℕ) (s : AreSolvedBelow space (2 ^ space.table_count) states starts) where
   solved : IsSolved space (told_all states)
-  solved = all_solved space lawful states s.solved s.made
+  solved = all_solved space complete states s.solved s.made
 
   -- there is a cheapest
   pub some_final : IsCheapestOf space states None → ⊥
-  some_final none = of_found (finds space (told_all states) lawful.complete solved)
+  some_final none = of_found (finds space (told_all states) complete solved)
     where
       of_place : (k c : ℕ) → Satisfies space (whole space) (order_at space k) space.required → (i : ℕ) × (i < length states) × (told (at states i) ≡ record { tables = whole space; order = k; cost = c }) → ⊥
       of_place k c gives (i, lt, is) =
@@ -86,7 +85,7 @@ module _ (space : Space) (lawful : IsSpace space) (states : List Solved) (starts
 
     is_cheapest : IsCheapest space (told_all states) p
     is_cheapest =
-        let ordered = kept_ordered space (at states best).order p lawful.complete on_all cheapest.2 in
+        let ordered = kept_ordered space (at states best).order p complete on_all cheapest.2 in
         (ordered.0, ordered.1, λ k c there gives. of_place k c gives (listed_at states (whole space) k c there))
       where
         of_place : (k c : ℕ) → Satisfies space (whole space) (order_at space k) space.required → (i : ℕ) × (i < length states) × (told (at states i) ≡ record { tables = whole space; order = k; cost = c }) → cost_of space p ≤ c
@@ -96,7 +95,7 @@ module _ (space : Space) (lawful : IsSpace space) (states : List Solved) (starts
             omega (arith, low, cost, plan.costs)
 
     certified : IsValid space p (certificate_below (cost_of space p) (told_all states)) × IsExact space (certificate_below (cost_of space p) (told_all states))
-    certified = searched space (told_all states) p lawful.complete solved is_cheapest
+    certified = searched_whole space (told_all states) p complete solved is_cheapest
 
     module _ (certificate : Certificate) (target : ℕ) (is : certificate ≡ certificate_below target (told_all states)) (cost : target ≡ (at states best).found.cost) where
       target_is : target ≡ cost_of space p
@@ -127,4 +126,4 @@ module _ (space : Space) (lawful : IsSpace space) (states : List Solved) (starts
     short few = let few_words = plan.short in omega (arith, few_words, among_few space.table_count (at states best).tables, few)
 
   pub solutions : (count : ℕ) → count ≡ length states → AreSolutions space count
-  solutions count is = (told_all states, solved.form, all_folded space lawful states s.made, length-map states told ∙ sym is)
+  solutions count is = (told_all states, solved.form, all_folded space complete states s.made, length-map states told ∙ sym is)

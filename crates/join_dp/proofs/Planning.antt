@@ -11,7 +11,7 @@ use Rattle.definitions.specs.Plans.Folding.{Folds, IsOn}
 use Rattle.definitions.specs.Plans.Cost.{saturated, loop_cost, merge_cost, cost_of}
 use Rattle.definitions.proofs.PlanTheory.TableSets.{has_more}
 use Rattle.definitions.proofs.PlanTheory.Orders.{useful_less, fold_over}
-use Rattle.plan_space.specs.Laws.{IsSpace}
+use Rattle.definitions.specs.Plans.Search.{IsComplete}
 use Rattle.join_dp.specs.Joining.{CanJoin, join_cost}
 use Rattle.join_dp.specs.Solving.{Solved, at, StepMakes, SortMakes, IsMadeAt, AllMade}
 use Rattle.join_dp.specs.Steps.{Join, Loop, Merge, Step, AccessOf, JoinOn, table_in, joined}
@@ -34,11 +34,11 @@ module _ (space : Space) where
   refold s t d k f (inl (u, e)) h = rw e at h
   refold s t d k f (inr (n, e)) h = inr (λ u. n (useful_less space s t d u), empty_fold (with_table s t) k f e h)
 
-  module _ (lawful : IsSpace space) where
+  module _ (complete : IsComplete space) where
     -- a merge goes by an order that is not empty, so the plan has it
     same_order : (s d k g : ℕ) (inner : Inner) → Folds space s d k → CanMerge space s k g inner → k ≡ d
     same_order s d k g inner (inl (u, e)) can = e
-    same_order s d k g inner (inr (n, e)) (follows, (x, y, m, hx, ey, by, inside)) = absurd (rw (e, lawful.complete.unordered) at by)
+    same_order s d k g inner (inr (n, e)) (follows, (x, y, m, hx, ey, by, inside)) = absurd (rw (e, complete.unordered) at by)
 
     pub access_of : (path : Path) (s f c : ℕ) → table_of path < space.table_count → IsPath space 0 path → s ≡ only (table_of path) → Folds space s (space.path_order path) f → c ≡ space.path_cost 0 path → IsStepOf space s f c (Access path)
     access_of path s f c lt there e folds is = record {
@@ -146,7 +146,7 @@ module _ (space : Space) where
     over_more s t k (lt, all) = (lt, λ i d l. has_more s t _ (all i d l))
 
     plan_over : (p : Plan) → IsPlan space p → IsOver space (tables_of space p) (order_of space p)
-    plan_over (plan.Access a) (access a' lt r) = lawful.orders a lt r
+    plan_over (plan.Access a) (access a' lt r) = complete.ordered a lt r
     plan_over (plan.Loop p a) (loop p' a' r can) = over_more _ _ _ (plan_over p r)
     plan_over (plan.Merge p g i) (merge p' g' i' r can) = over_more _ _ _ (plan_over p r)
     plan_over (plan.Sort p k) (sort p' k' r can) = can.1
@@ -157,4 +157,4 @@ module _ (space : Space) where
         fold_over space s (order_of space p) k empty_over (subst (λ x. IsOver space x (order_of space p)) on (plan_over p r)) folds
       where
         empty_over : IsOver space s 0
-        empty_over = (some, rw lawful.complete.unordered (λ i d lt. absurd (omega (arith, lt))))
+        empty_over = (some, rw complete.unordered (λ i d lt. absurd (omega (arith, lt))))

@@ -2,7 +2,7 @@
 
 ghost use Rattle.std.specs.Prelude.{◌≡◌, ◌<◌, IfOk, length};
 ghost use Rattle.definitions.specs.Plans.Space.{Space};
-ghost use Rattle.plan_space.specs.Laws.{IsSpace};
+ghost use Rattle.definitions.specs.Plans.Search.{IsComplete};
 ghost use Rattle.plans.specs.Plans.{path_of, plan_of};
 ghost use Rattle.join_dp.specs.Planned.{AreFromBefore, IsPlanAt, IsStepPlanAt};
 ghost use Rattle.join_dp.specs.Solving.{AllMade};
@@ -20,7 +20,7 @@ use std::alloc::{AllocError, Global};
 pub(crate) fn plan_at(alloc: Global, states: &States<'_>, place: usize) -> Result<Plan, AllocError>
     requires place { place < length (states_in states.now) }
     requires before { AreFromBefore (states_in states.now) }
-    ensures { (space : Space) → IsSpace space → AllMade space (states_in states.now) → IfOk result (λ plan. IsPlanAt space (states_in states.now) place (plan_of plan)) }
+    ensures { (space : Space) → IsComplete space → AllMade space (states_in states.now) → IfOk result (λ plan. IsPlanAt space (states_in states.now) place (plan_of plan)) }
 {
     let plan = step_plan(alloc, states, place)?;
     match states.at(place).found.sorted {
@@ -37,7 +37,7 @@ pub(crate) fn plan_at(alloc: Global, states: &States<'_>, place: usize) -> Resul
 fn step_plan(alloc: Global, states: &States<'_>, place: usize) -> Result<Plan, AllocError>
     requires place { place < length (states_in states.now) }
     requires before { AreFromBefore (states_in states.now) }
-    ensures { (space : Space) → IsSpace space → AllMade space (states_in states.now) → IfOk result (λ plan. IsStepPlanAt space (states_in states.now) place (plan_of plan)) }
+    ensures { (space : Space) → IsComplete space → AllMade space (states_in states.now) → IfOk result (λ plan. IsStepPlanAt space (states_in states.now) place (plan_of plan)) }
 {
     match states.at(place).found.step {
         Step::Access { path } => Ok(Plan::Access(copied(path)?)),

@@ -46,7 +46,7 @@ pub struct Ran {
 /// Runs a script in a session. What it prints goes behind the bytes of a tape, which fails where it
 /// has no room left or no memory.
 pub fn run<B: Library>(alloc: Global, session: &mut Session<B>, tape: Vec<u8>, part: Part) -> Ran
-    ensures { IsRun B.answers session.old part.entry.script.now session.new tape.items result }
+    ensures { IsRun B.answers B.fails session.old part.entry.script.now session.new tape.items result }
 {
     on_tape::<Brand, B>(alloc, session, tape, part, Blank::new(1))
 }
@@ -59,7 +59,7 @@ pub fn check<B: Library>(
     part: Part,
     certificates: &[u8],
 ) -> Ran
-    ensures { IsCheck B.answers session.old part.entry.script.now certificates.now session.new tape.items result }
+    ensures { IsCheck B.answers B.fails session.old part.entry.script.now certificates.now session.new tape.items result }
 {
     check_on_tape::<Brand, B>(alloc, session, tape, part, certificates, Blank::new(1))
 }
@@ -74,7 +74,7 @@ fn on_tape<L: Ledger, B: Library>(
     requires name { puts.name ≡ L.name }
     requires parts { puts.parts ≡ L.parts }
     requires some { 0 < puts.parts }
-    ensures run { IsRun B.answers session.old part.entry.script.now session.new tape.items result }
+    ensures run { IsRun B.answers B.fails session.old part.entry.script.now session.new tape.items result }
 {
     let (book, share) = puts.open::<L>();
     let mut tape = Tape {
@@ -108,7 +108,7 @@ fn check_on_tape<L: Ledger, B: Library>(
     requires name { puts.name ≡ L.name }
     requires parts { puts.parts ≡ L.parts }
     requires some { 0 < puts.parts }
-    ensures check { IsCheck B.answers session.old part.entry.script.now certificates.now session.new tape.items result }
+    ensures check { IsCheck B.answers B.fails session.old part.entry.script.now certificates.now session.new tape.items result }
 {
     let (book, share) = puts.open::<L>();
     let mut tape = Tape {

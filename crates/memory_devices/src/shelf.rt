@@ -23,6 +23,8 @@ impl Library for Shelf<'_> {
 
     ghost answers = { λ old name answer new. (new ≡ old) × (answer ≡ bytes_of_file old.files.now name) };
 
+    ghost fails = { λ old name new. new ≡ old };
+
     ghost failures = { λ _. 0 };
 
     fn fetch(&mut self, name: &str) -> Result<Fetched, FetchFault> {

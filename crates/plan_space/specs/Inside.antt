@@ -8,7 +8,7 @@ use Rattle.block_merges.specs.Lists as block_merges
 use Rattle.set_figures.specs.Sets as set_figures
 use Rattle.order_uses.specs.Uses as order_uses
 use Rattle.plan_space.specs.Planned.{Planned, space_in}
-use Rattle.plan_space.specs.Laws.{IsSpace}
+use Rattle.definitions.specs.Plans.Search.{IsComplete}
 use Rattle.plan_space.specs.Links.{LinksSay}
 use Rattle.plan_space.specs.declared.space.Space.TheInside.{Inside}
 
@@ -17,7 +17,7 @@ planned s = record { version = version_of s.version; database = s.estimate.datab
 
 -- all that is made is of its block
 pub record IsPlanSpace (s : Inside) : Type 0 where
-  pub lawful : IsSpace (space_in (planned s))
+  pub complete : IsComplete (space_in (planned s))
   pub count : (space_in (planned s)).table_count ≡ length (block_of s.estimate.block).tables
   pub few : (space_in (planned s)).table_count ≤ most_from_tables
   pub orders : s.orders ≡ (space_in (planned s)).orders

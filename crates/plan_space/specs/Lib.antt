@@ -1,6 +1,5 @@
 pub use Rattle.definitions.specs.Plans.Search
 pub mod Planned
-pub mod Laws
 pub mod Links
 pub mod Inside
 pub mod Measures

@@ -20,7 +20,7 @@ ghost use Rattle.order_uses.specs.Sorts.{AreSorts};
 ghost use Rattle.block_paths.specs.Item.{AreItems};
 ghost use Rattle.block_merges.specs.Merge.{AreMerges};
 ghost use Rattle.plan_space.specs.Planned.{space_in};
-ghost use Rattle.plan_space.specs.Laws.{IsSpace};
+ghost use Rattle.definitions.specs.Plans.Search.{IsComplete};
 ghost use Rattle.plan_space.specs.Links.{LinksSay};
 ghost use Rattle.plan_space.specs.Measures.{Measures};
 
@@ -106,7 +106,7 @@ impl<'a> Space<'a> {
     pub fn table_count(&self) -> usize
         ensures exact { result ≡ (space_in self.now).table_count }
         ensures few { result ≤ most_from_tables }
-        ensures lawful { IsSpace (space_in self.now) }
+        ensures complete { IsComplete (space_in self.now) }
     {
         self.estimate.table_count()
     }

@@ -5,7 +5,7 @@ use Rattle.definitions.specs.Printing.{refusal_text}
 use Rattle.definitions.specs.Refusal.{Refusal}
 use Rattle.definitions.specs.Statement.{Select, Statement}
 use Rattle.definitions.specs.Table.{Database}
-use Rattle.definitions.specs.Step.{Answering, State, AreStatements, FaultLine, SinkFailed}
+use Rattle.definitions.specs.Step.{Answering, Failing, State, AreStatements, FaultLine}
 use Rattle.definitions.specs.Binding.Faults as binding
 use Rattle.definitions.specs.Estimates.Version.{current_version}
 use Rattle.definitions.specs.Certificates.Verdicts as verdicts
@@ -20,7 +20,7 @@ use Rattle.sqlr.specs.declared.ended.RunFault.{RunFault}
 use Rattle.sqlr.specs.declared.ended.RunFault.TheVariants as r
 use Rattle.sqlr.specs.declared.outcome.Printed.{Printed}
 use Rattle.sqlr.specs.Devices.{Took, TookBeginning}
-use Rattle.sqlr.specs.Sessions.{break_of, BreaksLine, IsLibraryBlamed, IsSinkBlamed, Prints}
+use Rattle.sqlr.specs.Sessions.{BreaksLine, IsLibraryBlamed, IsSinkBlamed, Prints}
 use Rattle.bound.specs.Bound.{block_of}
 use Rattle.certificate_files.specs.Telling.{check_ended_of}
 use Rattle.sqlr.specs.declared.checked.Checked.TheVariants as c
@@ -30,43 +30,43 @@ use Rattle.sqlr.proofs.Running.{took_all, took_nothing, took_up_to}
 
 -- ---- a text that is put as a whole
 
-module _ {L : Type 0} (answers : Answering L) (old new : State L) (script file : List ℕ) (taken taken' : Option (List ℕ)) where
+module _ {L : Type 0} (answers : Answering L) (fails : Failing L) (old new : State L) (script file : List ℕ) (taken taken' : Option (List ℕ)) where
   pub text_put : (text : List ℕ) (how : CheckEnded) (ended : Ended) (result : Result Ended RunFault) → Checked answers current_version old script file new text how → ended ≡ end_of_check how
       → IfOk result (λ own. own ≡ ended) → OnOk result (Took taken text taken') → IfOk result (Checks answers old script file new taken taken')
   text_put text how ended (Ok own) is end same took = (text, how, is, same ∙ end, took)
   text_put text how ended (Err fault) is end same took = tt
 
   begun_at : (text : List ℕ) (how : CheckEnded) (fault : RunFault) → Checked answers current_version old script file new text how → fault ≡ r.Sink → TookBeginning taken text taken'
-      → BreaksChecking answers old script file new taken taken' fault
+      → BreaksChecking answers fails old script file new taken taken' fault
   begun_at text how fault is sink begun =
-      subst (λ f. BreaksChecking answers old script file new taken taken' f) (sym sink) (text, run.unprinted how refl is, took_up_to taken taken taken' [] text (took_nothing taken) begun)
+      subst (λ f. BreaksChecking answers fails old script file new taken taken' f) (sym sink) (text, run.unprinted how refl is, took_up_to taken taken taken' [] text (took_nothing taken) begun)
 
   pub text_begun : (text : List ℕ) (how : CheckEnded) (result : Result Ended RunFault) → Checked answers current_version old script file new text how
-      → IfErr result (λ f. f ≡ r.Sink) → OnErr result (TookBeginning taken text taken') → IfErr result (BreaksChecking answers old script file new taken taken')
+      → IfErr result (λ f. f ≡ r.Sink) → OnErr result (TookBeginning taken text taken') → IfErr result (BreaksChecking answers fails old script file new taken taken')
   text_begun text how (Ok own) is sink begun = tt
   text_begun text how (Err fault) is sink begun = begun_at text how fault is sink begun
 
 -- ---- the script's text
 
-pub nothing_read : {L : Type 0} (answers : Answering L) (old : State L) (script file : List ℕ) (taken : Option (List ℕ)) (offset : ℕ) → BreaksChecking answers old script file old taken taken (r.Memory offset)
-nothing_read answers old script file taken offset = ([], run.unread refl refl refl, took_all taken taken [] (took_nothing taken))
+pub nothing_read : {L : Type 0} (answers : Answering L) (fails : Failing L) (old : State L) (script file : List ℕ) (taken : Option (List ℕ)) (offset : ℕ) → BreaksChecking answers fails old script file old taken taken (r.Memory offset)
+nothing_read answers fails old script file taken offset = ([], run.unread refl refl refl, took_all taken taken [] (took_nothing taken))
 
 pub fault_put : {L : Type 0} (answers : Answering L) (old : State L) (script file line : List ℕ) (taken taken' : Option (List ℕ)) (result : Result Ended RunFault)
     → FaultLine script line → IfOk result (Prints line taken taken') → IfOk result (Checks answers old script file old taken taken')
 fault_put answers old script file line taken taken' (Ok ended) f (is, took) = (line, verdicts.Faulted, run.fault f refl refl, is, took)
 fault_put answers old script file line taken taken' (Err x) f h = tt
 
-fault_begun_at : {L : Type 0} (answers : Answering L) (old : State L) (script file line : List ℕ) (taken taken' : Option (List ℕ)) (fault : RunFault)
-    → FaultLine script line → BreaksLine line taken taken' fault → BreaksChecking answers old script file old taken taken' fault
-fault_begun_at answers old script file line taken taken' (r.Memory offset) f h =
-    subst (λ x. BreaksChecking answers old script file old taken x (r.Memory offset)) (sym h) (nothing_read answers old script file taken offset)
-fault_begun_at answers old script file line taken taken' (r.Library offset) f h = absurd h
-fault_begun_at answers old script file line taken taken' r.Sink f h = begun_at answers old old script file taken taken' line verdicts.Faulted r.Sink (run.fault f refl refl) refl h
+fault_begun_at : {L : Type 0} (answers : Answering L) (fails : Failing L) (old : State L) (script file line : List ℕ) (taken taken' : Option (List ℕ)) (fault : RunFault)
+    → FaultLine script line → BreaksLine line taken taken' fault → BreaksChecking answers fails old script file old taken taken' fault
+fault_begun_at answers fails old script file line taken taken' (r.Memory offset) f h =
+    subst (λ x. BreaksChecking answers fails old script file old taken x (r.Memory offset)) (sym h) (nothing_read answers fails old script file taken offset)
+fault_begun_at answers fails old script file line taken taken' (r.Library offset) f h = absurd h
+fault_begun_at answers fails old script file line taken taken' r.Sink f h = begun_at answers fails old old script file taken taken' line verdicts.Faulted r.Sink (run.fault f refl refl) refl h
 
-pub fault_begun : {L : Type 0} (answers : Answering L) (old : State L) (script file line : List ℕ) (taken taken' : Option (List ℕ)) (result : Result Ended RunFault)
-    → FaultLine script line → IfErr result (BreaksLine line taken taken') → IfErr result (BreaksChecking answers old script file old taken taken')
-fault_begun answers old script file line taken taken' (Ok ended) f h = tt
-fault_begun answers old script file line taken taken' (Err x) f h = fault_begun_at answers old script file line taken taken' x f h
+pub fault_begun : {L : Type 0} (answers : Answering L) (fails : Failing L) (old : State L) (script file line : List ℕ) (taken taken' : Option (List ℕ)) (result : Result Ended RunFault)
+    → FaultLine script line → IfErr result (BreaksLine line taken taken') → IfErr result (BreaksChecking answers fails old script file old taken taken')
+fault_begun answers fails old script file line taken taken' (Ok ended) f h = tt
+fault_begun answers fails old script file line taken taken' (Err x) f h = fault_begun_at answers fails old script file line taken taken' x f h
 
 -- ---- the statements
 
@@ -83,7 +83,7 @@ not_empty : (rest : List Statement) (s : Statement) → rest ++ s ∷ [] ≢ []
 not_empty [] s h = absurd cc
 not_empty (x ∷ rest) s h = absurd cc
 
-module _ {L : Type 0} (answers : Answering L) (old new : State L) (script file : List ℕ) (xs before : List tree.Statement) (last : tree.Statement)
+module _ {L : Type 0} (answers : Answering L) (fails : Failing L) (old new : State L) (script file : List ℕ) (xs before : List tree.Statement) (last : tree.Statement)
     (parts : xs ≡ before ++ last ∷ []) (are : AreStatements script (statements_of xs)) where
   abbrev whole : AreStatements script (statements_of before ++ statement_of last ∷ [])
   whole = subst (λ ss. AreStatements script ss) (ap statements_of parts ∙ with_last before last) are
@@ -100,23 +100,18 @@ module _ {L : Type 0} (answers : Answering L) (old new : State L) (script file :
   pub refused_line : (p : Printed) (taken taken' : Option (List ℕ)) (result : Result Ended RunFault) → ArePrepared answers old (statements_of before) new (Some p)
       → IfOk result (λ own. own ≡ p.ended) → OnOk result (Took taken p.text.items taken') → IfOk result (Checks answers old script file new taken taken')
   refused_line p taken taken' result prepared same took =
-      text_put answers old new script file taken taken' p.text.items verdicts.Faulted p.ended result (refused_checked p prepared) (refused_ended p prepared) same took
+      text_put answers fails old new script file taken taken' p.text.items verdicts.Faulted p.ended result (refused_checked p prepared) (refused_ended p prepared) same took
 
   pub refused_line_begun : (p : Printed) (taken taken' : Option (List ℕ)) (result : Result Ended RunFault) → ArePrepared answers old (statements_of before) new (Some p)
-      → IfErr result (λ f. f ≡ r.Sink) → OnErr result (TookBeginning taken p.text.items taken') → IfErr result (BreaksChecking answers old script file new taken taken')
+      → IfErr result (λ f. f ≡ r.Sink) → OnErr result (TookBeginning taken p.text.items taken') → IfErr result (BreaksChecking answers fails old script file new taken taken')
   refused_line_begun p taken taken' result prepared sink begun =
-      text_begun answers old new script file taken taken' p.text.items verdicts.Faulted result (refused_checked p prepared) sink begun
+      text_begun answers fails old new script file taken taken' p.text.items verdicts.Faulted result (refused_checked p prepared) sink begun
 
-  pub preparing_broke : (fault : RunFault) → fault ≢ r.Sink → BreaksPreparing answers old (statements_of before) new → (taken : Option (List ℕ)) → BreaksChecking answers old script file new taken taken fault
-  preparing_broke fault apart (front, rest, mid, is, prepared, same) taken =
-      let own : AreStatements script (front ++ (rest ++ statement_of last ∷ [])) =
-      subst (λ ss. AreStatements script ss) (ap (λ ss. ss ++ statement_of last ∷ []) is ∙ append_assoc front rest (statement_of last ∷ [])) whole in
-      ([], run.unchecked front (rest ++ statement_of last ∷ []) mid (not_sink_failed fault apart) own prepared same refl, took_all taken taken [] (took_nothing taken))
-    where
-      not_sink_failed : (f : RunFault) → f ≢ r.Sink → break_of f ≢ SinkFailed
-      not_sink_failed (r.Memory offset) h = λ k. cc
-      not_sink_failed (r.Library offset) h = λ k. cc
-      not_sink_failed r.Sink h = absurd (h refl)
+  pub preparing_broke : (fault : RunFault) → BreaksPreparing answers fails old (statements_of before) new fault → (taken : Option (List ℕ)) → BreaksChecking answers fails old script file new taken taken fault
+  preparing_broke fault (front, rest, s, mid, is, prepared, none, broke) taken =
+      let own : AreStatements script (front ++ s ∷ (rest ++ statement_of last ∷ [])) =
+      subst (λ ss. AreStatements script ss) (ap (λ ss. ss ++ statement_of last ∷ []) is ∙ append_assoc front (s ∷ rest) (statement_of last ∷ [])) whole in
+      ([], run.unprepared front (rest ++ statement_of last ∷ []) s mid own (not_empty rest (statement_of last)) prepared none broke refl, took_all taken taken [] (took_nothing taken))
 
   module _ (prepared : Prepares answers old (statements_of before) new) where
     of_query : (q : Select) (text : List ℕ) (how : CheckEnded) → asked (statement_of last) ≡ Some q → QueryChecked new.database q file text how → Checked answers current_version old script file new text how
@@ -131,15 +126,15 @@ module _ {L : Type 0} (answers : Answering L) (old new : State L) (script file :
     last_checked taken taken' (Ok ended) (text, how, h, is, took) = (text, how, of_asked (asked (statement_of last)) text how refl h, is, took)
     last_checked taken taken' (Err fault) h = tt
 
-    last_broke_at : (taken taken' : Option (List ℕ)) (fault : RunFault) → BreaksLast new.database (statement_of last) file taken taken' fault → BreaksChecking answers old script file new taken taken' fault
+    last_broke_at : (taken taken' : Option (List ℕ)) (fault : RunFault) → BreaksLast new.database (statement_of last) file taken taken' fault → BreaksChecking answers fails old script file new taken taken' fault
     last_broke_at taken taken' (r.Memory offset) h =
-        subst (λ x. BreaksChecking answers old script file new taken x (r.Memory offset)) (sym h)
-        ([], run.unchecked (statements_of before) (statement_of last ∷ []) new (λ k. cc) whole prepared refl refl, took_all taken taken [] (took_nothing taken))
+        subst (λ x. BreaksChecking answers fails old script file new taken x (r.Memory offset)) (sym h)
+        ([], run.unchecked (statements_of before) (statement_of last) whole prepared refl refl, took_all taken taken [] (took_nothing taken))
     last_broke_at taken taken' (r.Library offset) h = absurd h
     last_broke_at taken taken' r.Sink (text, how, h, begun) =
-        begun_at answers old new script file taken taken' text how r.Sink (of_asked (asked (statement_of last)) text how refl h) refl begun
+        begun_at answers fails old new script file taken taken' text how r.Sink (of_asked (asked (statement_of last)) text how refl h) refl begun
 
-    pub last_broke : (taken taken' : Option (List ℕ)) (result : Result Ended RunFault) → IfErr result (BreaksLast new.database (statement_of last) file taken taken') → IfErr result (BreaksChecking answers old script file new taken taken')
+    pub last_broke : (taken taken' : Option (List ℕ)) (result : Result Ended RunFault) → IfErr result (BreaksLast new.database (statement_of last) file taken taken') → IfErr result (BreaksChecking answers fails old script file new taken taken')
     last_broke taken taken' (Ok ended) h = tt
     last_broke taken taken' (Err fault) h = last_broke_at taken taken' fault h
 
@@ -200,24 +195,23 @@ binds_of db q file checked h = h.0
 
 -- ---- who is blamed
 
-pub library_apart : (before after : ℕ) (result : Result Ended RunFault) → IfErr result (λ f. f ≡ r.Sink) → IfErr result (IsLibraryBlamed before after)
-library_apart before after (Ok ended) h = tt
-library_apart before after (Err fault) h = subst (IsLibraryBlamed before after) (sym h) tt
+-- where the sink alone can fail, the library has not
+pub library_unasked : (before after : ℕ) (result : Result Ended RunFault) → after ≡ before → IfErr result (λ f. f ≡ r.Sink) → IsLibraryBlamed before after result
+library_unasked before after (Ok ended) same h = same
+library_unasked before after (Err fault) same h = subst (λ f. IsLibraryBlamed {X = Ended} before after (Err f)) (sym h) same
 
-pub sink_blamed : (before after : ℕ) (result : Result Ended RunFault) → OnErr result (before < after) → IfErr result (IsSinkBlamed before after)
-sink_blamed before after (Ok ended) h = tt
-sink_blamed before after (Err (r.Memory offset)) h = tt
-sink_blamed before after (Err (r.Library offset)) h = tt
-sink_blamed before after (Err r.Sink) h = h
+pub sink_blamed : (before after : ℕ) (result : Result Ended RunFault) → IfErr result (λ f. f ≡ r.Sink) → OnErr result (before < after) → OnOk result (after ≡ before) → IsSinkBlamed before after result
+sink_blamed before after (Ok ended) is failed unfailed = unfailed
+sink_blamed before after (Err fault) is failed unfailed = subst (λ f. IsSinkBlamed {X = Ended} before after (Err f)) (sym is) failed
 
-pub sink_apart : (before after : ℕ) (fault : RunFault) → fault ≢ r.Sink → IsSinkBlamed before after fault
-sink_apart before after (r.Memory offset) h = tt
-sink_apart before after (r.Library offset) h = tt
-sink_apart before after r.Sink h = absurd (h refl)
+pub sink_apart : (before after : ℕ) (fault : RunFault) → fault ≢ r.Sink → after ≡ before → IsSinkBlamed {X = Ended} before after (Err fault)
+sink_apart before after (r.Memory offset) h same = same
+sink_apart before after (r.Library offset) h same = same
+sink_apart before after r.Sink h same = absurd (h refl)
 
 pub never_library : (before after : ℕ) (db : Database) (s : Statement) (file : List ℕ) (taken taken' : Option (List ℕ)) (result : Result Ended RunFault)
-    → IfErr result (BreaksLast db s file taken taken') → IfErr result (IsLibraryBlamed before after)
-never_library before after db s file taken taken' (Ok ended) h = tt
-never_library before after db s file taken taken' (Err (r.Memory offset)) h = tt
-never_library before after db s file taken taken' (Err (r.Library offset)) h = absurd h
-never_library before after db s file taken taken' (Err r.Sink) h = tt
+    → after ≡ before → IfErr result (BreaksLast db s file taken taken') → IsLibraryBlamed before after result
+never_library before after db s file taken taken' (Ok ended) same h = same
+never_library before after db s file taken taken' (Err (r.Memory offset)) same h = same
+never_library before after db s file taken taken' (Err (r.Library offset)) same h = absurd h
+never_library before after db s file taken taken' (Err r.Sink) same h = same

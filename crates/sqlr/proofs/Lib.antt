@@ -1,9 +1,11 @@
 pub mod Scripts
 pub mod Taking
 pub mod Changing
+pub mod Breaking
 pub mod Running
 pub mod Preparing
 pub mod CheckingRuns
 pub mod Selecting
 pub mod Explained
 pub mod Written
+pub mod EndAlike

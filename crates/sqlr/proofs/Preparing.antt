@@ -3,15 +3,17 @@ use Rattle.std.proofs.Common.{ℕ, ◌≡◌, ◌≢◌, ◌<◌, ◌∙◌, ◌
 use Rattle.std.specs.Prelude.{true, false, is_some, option_map}
 use Rattle.definitions.specs.Statement.{Select, Statement}
 use Rattle.definitions.specs.Step as step
-use Rattle.definitions.specs.Step.{Answering, State, Step}
+use Rattle.definitions.specs.Step.{Answering, Failing, State, Step, StepBreaks}
 use Rattle.definitions.specs.CheckingRun.{asked, Prepared, Prepares}
 use Rattle.trees.specs.declared.statement.Statement as tree
 use Rattle.trees.specs.declared.statement.Select as own
 use Rattle.trees.specs.Trees.{select_of, statement_of, statements_of}
 use Rattle.sqlr.specs.declared.ended.Ended.TheVariants as e
+use Rattle.sqlr.specs.declared.ended.RunFault.{RunFault}
 use Rattle.sqlr.specs.declared.outcome.Printed.{Printed}
-use Rattle.sqlr.specs.Sessions.{ended_of, Takes}
-use Rattle.sqlr.specs.Checking.{ArePrepared, BreaksPreparing, IsIfRefused, IsPrepared}
+use Rattle.sqlr.specs.declared.outcome.StepFault.{StepFault}
+use Rattle.sqlr.specs.Sessions.{break_of, ended_of, step_break, Takes}
+use Rattle.sqlr.specs.Checking.{ArePrepared, BreaksPrepared, BreaksPreparing, IsIfRefused, IsPrepared}
 use Rattle.sqlr.proofs.Running.{front, split}
 
 -- ---- one statement
@@ -75,6 +77,7 @@ pub one_refused : {L : Type 0} (answers : Answering L) (old mid new : State L) (
     → i < length xs → x ≡ get_or xs i x → PreparedTo answers old xs i mid → IsPrepared answers mid (statement_of x) new (Some p) → ArePrepared answers old (statements_of xs) new (Some p)
 one_refused answers old mid new xs i x p l h ran this = (statements_of (take i xs), statements_of (drop (suc i) xs), statement_of x, mid, split xs i x l h, ran, this)
 
-pub broke_preparing : {L : Type 0} (answers : Answering L) (old mid new : State L) (xs : List tree.Statement) (i : ℕ) (x : tree.Statement)
-    → i < length xs → x ≡ get_or xs i x → PreparedTo answers old xs i mid → new.database ≡ mid.database → BreaksPreparing answers old (statements_of xs) new
-broke_preparing answers old mid new xs i x l h ran same = (statements_of (take i xs), statement_of x ∷ statements_of (drop (suc i) xs), mid, split xs i x l h, ran, same)
+pub broke_preparing : {L : Type 0} (answers : Answering L) (fails : Failing L) (old mid new : State L) (xs : List tree.Statement) (i : ℕ) (x : tree.Statement) (fault : StepFault) (own : RunFault)
+    → i < length xs → x ≡ get_or xs i x → PreparedTo answers old xs i mid → BreaksPrepared answers fails mid (statement_of x) new fault → break_of own ≡ step_break fault → BreaksPreparing answers fails old (statements_of xs) new own
+broke_preparing answers fails old mid new xs i x fault own l h ran (none, broke) same =
+    (statements_of (take i xs), statements_of (drop (suc i) xs), statement_of x, mid, split xs i x l h, ran, none, subst (λ b. StepBreaks answers fails mid (statement_of x) b new) (sym same) broke)

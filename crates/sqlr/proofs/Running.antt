@@ -4,7 +4,7 @@ use Rattle.std.specs.Prelude.{◌+◌}
 use Rattle.std.proofs.lemmas.List.{append-nil, append_assoc}
 use Rattle.definitions.specs.Statement.{Statement}
 use Rattle.definitions.specs.Step as step
-use Rattle.definitions.specs.Step.{Answering, State, Step, Steps, AreStatements, FaultLine, both_ended, StepsBreak, SinkFailed, NoMemory, LibraryFailed}
+use Rattle.definitions.specs.Step.{Answering, Failing, State, Step, Steps, AreStatements, FaultLine, both_ended, StepBreaks}
 use Rattle.trees.specs.declared.statement.Statement as tree
 use Rattle.trees.specs.Trees.{statement_of, statements_of}
 use Rattle.sqlr.specs.declared.ended.Ended.{Ended}
@@ -13,7 +13,7 @@ use Rattle.sqlr.specs.declared.ended.RunFault.{RunFault}
 use Rattle.sqlr.specs.declared.ended.RunFault.TheVariants as r
 use Rattle.sqlr.specs.declared.outcome.Printed.{Printed}
 use Rattle.sqlr.specs.Devices.{Took, TookBeginning, TookUpTo}
-use Rattle.sqlr.specs.Sessions.{BreaksIn, BreaksLine, BreaksOff, IsBoth, Runs, RunsAll, Takes, Prints}
+use Rattle.sqlr.specs.Sessions.{break_of, BreaksIn, BreaksLine, BreaksOff, IsBoth, IsLibraryBlamed, Runs, RunsAll, Takes, Prints}
 
 pub next : (i : ℕ) → i + 1 ≡ suc i
 next i = omega arith
@@ -84,25 +84,16 @@ pub one_more : {L : Type 0} (answers : Answering L) (old mid new : State L) (xs 
 one_more answers old mid new xs i x taken taken' taken'' ended both p l h (text, how, ran, is, took) (own, this, own_is) put b =
     (text ++ p.text.items, both_ended how own, subst (λ ss. Steps answers old ss new (text ++ p.text.items) (both_ended how own)) (sym (front xs i x l h)) (steps_more answers _ old mid new (statement_of x) text p.text.items how own ran this), b how own is own_is, took_more taken taken' taken'' text p.text.items took put)
 
-pub memory_apart : (offset : ℕ) → r.Memory offset ≡ r.Sink → ⊥
-memory_apart offset k = cc
-
-pub library_apart : (offset : ℕ) → r.Library offset ≡ r.Sink → ⊥
-library_apart offset k = cc
-
--- a statement breaks off, and has done nothing
-pub broke_undone : {L : Type 0} (answers : Answering L) (old mid new : State L) (xs : List tree.Statement) (i : ℕ) (x : tree.Statement) (taken taken' : Option (List ℕ)) (ended : Ended) (fault : RunFault)
-    → i < length xs → x ≡ get_or xs i x → RanTo answers old xs i mid taken taken' ended → new.database ≡ mid.database → ((fault ≡ r.Sink) → ⊥) → BreaksIn answers old (statements_of xs) new taken taken' fault
-broke_undone answers old mid new xs i x taken taken' ended (r.Memory offset) l h (text, how, ran, is, took) same n =
-    (text, [], step.undone (statements_of (take i xs)) (statements_of (drop (suc i) xs)) (statement_of x) mid how (split xs i x l h) ran (λ k. cc) same refl, took_all taken taken' text took)
-broke_undone answers old mid new xs i x taken taken' ended (r.Library offset) l h (text, how, ran, is, took) same n =
-    (text, [], step.undone (statements_of (take i xs)) (statements_of (drop (suc i) xs)) (statement_of x) mid how (split xs i x l h) ran (λ k. cc) same refl, took_all taken taken' text took)
-broke_undone answers old mid new xs i x taken taken' ended r.Sink l h ran same n = absurd (n refl)
+-- a statement breaks off, and is not done
+pub broke_undone : {L : Type 0} (answers : Answering L) (fails : Failing L) (old mid new : State L) (xs : List tree.Statement) (i : ℕ) (x : tree.Statement) (taken taken' : Option (List ℕ)) (ended : Ended) (fault : RunFault)
+    → i < length xs → x ≡ get_or xs i x → RanTo answers old xs i mid taken taken' ended → StepBreaks answers fails mid (statement_of x) (break_of fault) new → BreaksIn answers fails old (statements_of xs) new taken taken' fault
+broke_undone answers fails old mid new xs i x taken taken' ended fault l h (text, how, ran, is, took) broke =
+    (text, [], step.undone (statements_of (take i xs)) (statements_of (drop (suc i) xs)) (statement_of x) mid how (split xs i x l h) ran broke refl, took_all taken taken' text took)
 
 -- the sink refuses a statement's text
-pub broke_done : {L : Type 0} (answers : Answering L) (old mid new : State L) (xs : List tree.Statement) (i : ℕ) (x : tree.Statement) (taken taken' taken'' : Option (List ℕ)) (ended : Ended) (p : Printed)
-    → i < length xs → x ≡ get_or xs i x → RanTo answers old xs i mid taken taken' ended → Takes answers mid (statement_of x) new p → TookBeginning taken' p.text.items taken'' → BreaksIn answers old (statements_of xs) new taken taken'' r.Sink
-broke_done answers old mid new xs i x taken taken' taken'' ended p l h (text, how, ran, is, took) (own, this, own_is) begun =
+pub broke_done : {L : Type 0} (answers : Answering L) (fails : Failing L) (old mid new : State L) (xs : List tree.Statement) (i : ℕ) (x : tree.Statement) (taken taken' taken'' : Option (List ℕ)) (ended : Ended) (p : Printed)
+    → i < length xs → x ≡ get_or xs i x → RanTo answers old xs i mid taken taken' ended → Takes answers mid (statement_of x) new p → TookBeginning taken' p.text.items taken'' → BreaksIn answers fails old (statements_of xs) new taken taken'' r.Sink
+broke_done answers fails old mid new xs i x taken taken' taken'' ended p l h (text, how, ran, is, took) (own, this, own_is) begun =
     (text, p.text.items, step.done (statements_of (take i xs)) (statements_of (drop (suc i) xs)) (statement_of x) mid how own (split xs i x l h) ran refl this, took_up_to taken taken' taken'' text p.text.items took begun)
 
 -- ---- scripts
@@ -112,24 +103,31 @@ pub script_ran : {L : Type 0} (answers : Answering L) (old new : State L) (scrip
 script_ran answers old new script ss taken taken' (Ok ended) a (text, how, ran, is, took) = (text, how, step.run ss a ran, is, took)
 script_ran answers old new script ss taken taken' (Err f) a h = tt
 
-pub script_broke : {L : Type 0} (answers : Answering L) (old new : State L) (script : List ℕ) (ss : List Statement) (taken taken' : Option (List ℕ)) (result : Result Ended RunFault)
-    → AreStatements script ss → IfErr result (BreaksIn answers old ss new taken taken') → IfErr result (BreaksOff answers old script new taken taken')
-script_broke answers old new script ss taken taken' (Ok ended) a h = tt
-script_broke answers old new script ss taken taken' (Err f) a (printed, begun, broke, took) = (printed, begun, step.steps ss a broke, took)
+pub script_broke : {L : Type 0} (answers : Answering L) (fails : Failing L) (old new : State L) (script : List ℕ) (ss : List Statement) (taken taken' : Option (List ℕ)) (result : Result Ended RunFault)
+    → AreStatements script ss → IfErr result (BreaksIn answers fails old ss new taken taken') → IfErr result (BreaksOff answers fails old script new taken taken')
+script_broke answers fails old new script ss taken taken' (Ok ended) a h = tt
+script_broke answers fails old new script ss taken taken' (Err f) a (printed, begun, broke, took) = (printed, begun, step.steps ss a broke, took)
 
 pub line_printed : {L : Type 0} (answers : Answering L) (old : State L) (script line : List ℕ) (taken taken' : Option (List ℕ)) (result : Result Ended RunFault)
     → FaultLine script line → IfOk result (Prints line taken taken') → IfOk result (Runs answers old script old taken taken')
 line_printed answers old script line taken taken' (Ok ended) f (is, took) = (line, step.Faulted, step.fault f refl refl, is, took)
 line_printed answers old script line taken taken' (Err x) f h = tt
 
-pub nothing_done : {L : Type 0} (answers : Answering L) (old : State L) (script : List ℕ) (taken : Option (List ℕ)) (offset : ℕ) → BreaksOff answers old script old taken taken (r.Memory offset)
-nothing_done answers old script taken offset = ([], [], step.unread refl refl refl refl, took_all taken taken [] (took_nothing taken))
+pub nothing_done : {L : Type 0} (answers : Answering L) (fails : Failing L) (old : State L) (script : List ℕ) (taken : Option (List ℕ)) (offset : ℕ) → BreaksOff answers fails old script old taken taken (r.Memory offset)
+nothing_done answers fails old script taken offset = ([], [], step.unread refl refl refl refl, took_all taken taken [] (took_nothing taken))
 
-line_broke_at : {L : Type 0} (answers : Answering L) (old : State L) (script line : List ℕ) (taken taken' : Option (List ℕ)) (fault : RunFault) → FaultLine script line → BreaksLine line taken taken' fault → BreaksOff answers old script old taken taken' fault
-line_broke_at answers old script line taken taken' (r.Memory offset) f h = subst (λ x. BreaksOff answers old script old taken x (r.Memory offset)) (sym h) (nothing_done answers old script taken offset)
-line_broke_at answers old script line taken taken' (r.Library offset) f h = absurd h
-line_broke_at answers old script line taken taken' r.Sink f h = ([], line, step.fault refl f refl refl, took_up_to taken taken taken' [] line (took_nothing taken) h)
+line_broke_at : {L : Type 0} (answers : Answering L) (fails : Failing L) (old : State L) (script line : List ℕ) (taken taken' : Option (List ℕ)) (fault : RunFault) → FaultLine script line → BreaksLine line taken taken' fault → BreaksOff answers fails old script old taken taken' fault
+line_broke_at answers fails old script line taken taken' (r.Memory offset) f h = subst (λ x. BreaksOff answers fails old script old taken x (r.Memory offset)) (sym h) (nothing_done answers fails old script taken offset)
+line_broke_at answers fails old script line taken taken' (r.Library offset) f h = absurd h
+line_broke_at answers fails old script line taken taken' r.Sink f h = ([], line, step.fault refl f refl refl, took_up_to taken taken taken' [] line (took_nothing taken) h)
 
-pub line_broke : {L : Type 0} (answers : Answering L) (old : State L) (script line : List ℕ) (taken taken' : Option (List ℕ)) (result : Result Ended RunFault) → FaultLine script line → IfErr result (BreaksLine line taken taken') → IfErr result (BreaksOff answers old script old taken taken')
-line_broke answers old script line taken taken' (Ok ended) f h = tt
-line_broke answers old script line taken taken' (Err x) f h = line_broke_at answers old script line taken taken' x f h
+pub line_broke : {L : Type 0} (answers : Answering L) (fails : Failing L) (old : State L) (script line : List ℕ) (taken taken' : Option (List ℕ)) (result : Result Ended RunFault) → FaultLine script line → IfErr result (BreaksLine line taken taken') → IfErr result (BreaksOff answers fails old script old taken taken')
+line_broke answers fails old script line taken taken' (Ok ended) f h = tt
+line_broke answers fails old script line taken taken' (Err x) f h = line_broke_at answers fails old script line taken taken' x f h
+
+-- a line asks no library for anything
+pub line_unasked : (n : ℕ) (line : List ℕ) (taken taken' : Option (List ℕ)) (result : Result Ended RunFault) → IfErr result (BreaksLine line taken taken') → IsLibraryBlamed n n result
+line_unasked n line taken taken' (Ok ended) h = refl
+line_unasked n line taken taken' (Err (r.Memory offset)) h = refl
+line_unasked n line taken taken' (Err (r.Library offset)) h = absurd h
+line_unasked n line taken taken' (Err r.Sink) h = refl

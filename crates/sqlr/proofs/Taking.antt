@@ -47,7 +47,7 @@ refusal_told answers old new s (Err f) refusal h n t d = tt
 
 -- ---- LOAD
 
-load_accepted : (db : Database) (name : Name) (file : List ℕ) → table_named db name ≢ None → faults.IsAccepted db (tree.Load name file)
+pub load_accepted : (db : Database) (name : Name) (file : List ℕ) → table_named db name ≢ None → faults.IsAccepted db (tree.Load name file)
 load_accepted db name file h f (faults.no_table n g e) = h e
 
 pub no_file_told : {L : Type 0} (answers : Answering L) (old new : State L) (library : L) (name : Name) (file : List ℕ) (result : Result Printed StepFault) → table_named old.database name ≢ None → answers old.library file None library

@@ -5,7 +5,7 @@ use Rattle.definitions.specs.Table.{Database}
 use Rattle.definitions.specs.Refusal.{Refusal}
 use Rattle.definitions.specs.Printing.{refusal_text}
 use Rattle.definitions.specs.Step as step
-use Rattle.definitions.specs.Step.{Answering, State, Step}
+use Rattle.definitions.specs.Step.{Answering, Failing, State, Step, StepBreaks}
 use Rattle.definitions.specs.Binding.Faults.{Faulty, Binds}
 use Rattle.definitions.specs.Estimates.Version.{current_version}
 use Rattle.definitions.specs.Queries.BoundBlock.{Blocks}
@@ -24,8 +24,9 @@ use Rattle.sqlr.specs.declared.ended.Ended.TheVariants as e
 use Rattle.sqlr.specs.declared.ended.RunFault.{RunFault}
 use Rattle.sqlr.specs.declared.ended.RunFault.TheVariants as r
 use Rattle.sqlr.specs.declared.outcome.Printed.{Printed}
+use Rattle.sqlr.specs.declared.outcome.StepFault.{StepFault}
 use Rattle.sqlr.specs.Devices.{Took, TookBeginning, TookUpTo}
-use Rattle.sqlr.specs.Sessions.{break_of}
+use Rattle.sqlr.specs.Sessions.{break_of, BreaksAt}
 
 abbrev pub end_of_check : CheckEnded → Ended
 end_of_check verdicts.Well = e.Well
@@ -41,9 +42,9 @@ Checks answers old script file new taken taken' ended =
     (text : List ℕ) × (how : CheckEnded) × Checked answers current_version old script file new text how × (ended ≡ end_of_check how) × Took taken text taken'
 
 -- the check breaks off: the sink took a beginning of what it prints
-abbrev pub BreaksChecking : {L : Type 0} → Answering L → State L → List ℕ → List ℕ → State L → Option (List ℕ) → Option (List ℕ) → RunFault → Type 0
-BreaksChecking answers old script file new taken taken' fault =
-    (begun : List ℕ) × CheckBreaks answers current_version old script file (break_of fault) new begun × TookUpTo taken [] begun taken'
+abbrev pub BreaksChecking : {L : Type 0} → Answering L → Failing L → State L → List ℕ → List ℕ → State L → Option (List ℕ) → Option (List ℕ) → RunFault → Type 0
+BreaksChecking answers fails old script file new taken taken' fault =
+    (begun : List ℕ) × CheckBreaks answers fails current_version old script file (break_of fault) new begun × TookUpTo taken [] begun taken'
 
 -- ---- the statements before the last
 
@@ -63,10 +64,14 @@ ArePrepared answers old ss new None = Prepares answers old ss new
 ArePrepared {L} answers old ss new (Some p) =
     (front rest : List Statement) × (s : Statement) × (mid : State L) × (ss ≡ front ++ s ∷ rest) × Prepares answers old front mid × IsPrepared answers mid s new (Some p)
 
+-- a statement that has no query broke off
+abbrev pub BreaksPrepared : {L : Type 0} → Answering L → Failing L → State L → Statement → State L → StepFault → Type 0
+BreaksPrepared answers fails old s new fault = (asked s ≡ None) × BreaksAt answers fails old s new fault
+
 -- some are prepared, and the next one broke off
-abbrev pub BreaksPreparing : {L : Type 0} → Answering L → State L → List Statement → State L → Type 0
-BreaksPreparing {L} answers old ss new =
-    (front rest : List Statement) × (mid : State L) × (ss ≡ front ++ rest) × Prepares answers old front mid × (new.database ≡ mid.database)
+abbrev pub BreaksPreparing : {L : Type 0} → Answering L → Failing L → State L → List Statement → State L → RunFault → Type 0
+BreaksPreparing {L} answers fails old ss new fault =
+    (front rest : List Statement) × (s : Statement) × (mid : State L) × (ss ≡ front ++ s ∷ rest) × Prepares answers old front mid × (asked s ≡ None) × StepBreaks answers fails mid s (break_of fault) new
 
 -- ---- the last statement
 

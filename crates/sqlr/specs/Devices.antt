@@ -1,5 +1,5 @@
 -- What libraries answer and sinks take.
-use Rattle.std.specs.Prelude.{ℕ, ◌≡◌, ◌<◌, ◌≤◌, ⊤, List, ◌++◌, Option, Some, None, length, take}
+use Rattle.std.specs.Prelude.{ℕ, ◌≡◌, ◌<◌, ◌≤◌, ⊤, List, ◌++◌, Option, Some, None, Result, Ok, Err, length, take}
 use Rattle.sqlr.specs.declared.library.Fetched.{Fetched}
 use Rattle.sqlr.specs.declared.library.Fetched.TheVariants as f
 use Rattle.sqlr.specs.declared.library.FetchFault.{FetchFault}
@@ -9,10 +9,11 @@ abbrev pub answer_of : Fetched → Option (List ℕ)
 answer_of f.Absent = None
 answer_of (f.Bytes bytes) = Some bytes.items
 
--- the device is told only where it failed in the call
-abbrev pub FetchFailed : ℕ → ℕ → FetchFault → Type 0
-FetchFailed before after e.Device = before < after
-FetchFailed before after e.Memory = ⊤
+-- the device has failed in the call where that is told, and nowhere else
+abbrev pub IsFetchBlamed : ℕ → ℕ → Result Fetched FetchFault → Type 0
+IsFetchBlamed before after (Ok fetched) = after ≡ before
+IsFetchBlamed before after (Err e.Device) = before < after
+IsFetchBlamed before after (Err e.Memory) = after ≡ before
 
 -- a sink has taken bytes; one that tells none says nothing
 abbrev pub Took : Option (List ℕ) → List ℕ → Option (List ℕ) → Type 0

@@ -1,10 +1,10 @@
 -- What a session's calls do, in the words of the definitions.
-use Rattle.std.specs.Prelude.{ℕ, ◌≡◌, ◌<◌, ⊤, List, Option, Some}
+use Rattle.std.specs.Prelude.{ℕ, ◌≡◌, ◌<◌, List, Option, Some, Result, Ok, Err}
 use Rattle.definitions.specs.Statement.{Name, Statement}
 use Rattle.definitions.specs.Table.{Table, Database, table_named}
 use Rattle.definitions.specs.Loading.{Record, AreFileRecords}
 use Rattle.definitions.specs.Step as step
-use Rattle.definitions.specs.Step.{Answering, State, Step, Steps, Run, Loaded, both_ended, Break, NoMemory, LibraryFailed, SinkFailed, StepsBreak, Breaks}
+use Rattle.definitions.specs.Step.{Answering, Failing, State, Step, Steps, Run, Loaded, both_ended, Break, NoMemory, LibraryFailed, SinkFailed, StepBreaks, StepsBreak, Breaks}
 use Rattle.sqlr.specs.declared.ended.Ended.{Ended}
 use Rattle.sqlr.specs.declared.ended.Ended.TheVariants as e
 use Rattle.sqlr.specs.declared.ended.RunFault.{RunFault}
@@ -42,18 +42,18 @@ abbrev pub Runs : {L : Type 0} → Answering L → State L → List ℕ → Stat
 Runs answers old script new taken taken' ended = (text : List ℕ) × (how : step.Ended) × Run answers old script new text how × (ended ≡ ended_of how) × Took taken text taken'
 
 -- a script's run breaks off: the sink took the beginning of what it prints
-abbrev pub BreaksOff : {L : Type 0} → Answering L → State L → List ℕ → State L → Option (List ℕ) → Option (List ℕ) → RunFault → Type 0
-BreaksOff answers old script new taken taken' fault =
-    (printed begun : List ℕ) × Breaks answers old script (break_of fault) new printed begun × TookUpTo taken printed begun taken'
+abbrev pub BreaksOff : {L : Type 0} → Answering L → Failing L → State L → List ℕ → State L → Option (List ℕ) → Option (List ℕ) → RunFault → Type 0
+BreaksOff answers fails old script new taken taken' fault =
+    (printed begun : List ℕ) × Breaks answers fails old script (break_of fault) new printed begun × TookUpTo taken printed begun taken'
 
 -- statements are run: the sink took all that they print
 abbrev pub RunsAll : {L : Type 0} → Answering L → State L → List Statement → State L → Option (List ℕ) → Option (List ℕ) → Ended → Type 0
 RunsAll answers old ss new taken taken' ended = (text : List ℕ) × (how : step.Ended) × Steps answers old ss new text how × (ended ≡ ended_of how) × Took taken text taken'
 
 -- statements break off: the sink took the beginning of what they print
-abbrev pub BreaksIn : {L : Type 0} → Answering L → State L → List Statement → State L → Option (List ℕ) → Option (List ℕ) → RunFault → Type 0
-BreaksIn answers old ss new taken taken' fault =
-    (printed begun : List ℕ) × StepsBreak answers old ss (break_of fault) new printed begun × TookUpTo taken printed begun taken'
+abbrev pub BreaksIn : {L : Type 0} → Answering L → Failing L → State L → List Statement → State L → Option (List ℕ) → Option (List ℕ) → RunFault → Type 0
+BreaksIn answers fails old ss new taken taken' fault =
+    (printed begun : List ℕ) × StepsBreak answers fails old ss (break_of fault) new printed begun × TookUpTo taken printed begun taken'
 
 -- a line is printed, or breaks off
 abbrev pub Prints : List ℕ → Option (List ℕ) → Option (List ℕ) → Ended → Type 0
@@ -68,15 +68,30 @@ BreaksLine line taken taken' r.Sink = TookBeginning taken line taken'
 abbrev pub IsBoth : Ended → Ended → Ended → Type 0
 IsBoth first second both = (a b : step.Ended) → first ≡ ended_of a → second ≡ ended_of b → both ≡ ended_of (both_ended a b)
 
--- a device is blamed only where it failed in the call
-abbrev pub IsBlamed : ℕ → ℕ → StepFault → Type 0
-IsBlamed before after f.Library = before < after
-IsBlamed before after f.Memory = ⊤
+-- why a statement broke off, in the words of the definitions
+abbrev pub step_break : StepFault → Break
+step_break f.Memory = NoMemory
+step_break f.Library = LibraryFailed
 
-abbrev pub IsLibraryBlamed : ℕ → ℕ → RunFault → Type 0
-IsLibraryBlamed before after (r.Library offset) = before < after
-IsLibraryBlamed before after _ = ⊤
+-- a statement breaks off
+abbrev pub BreaksAt : {L : Type 0} → Answering L → Failing L → State L → Statement → State L → StepFault → Type 0
+BreaksAt answers fails old s new fault = StepBreaks answers fails old s (step_break fault) new
 
-abbrev pub IsSinkBlamed : ℕ → ℕ → RunFault → Type 0
-IsSinkBlamed before after r.Sink = before < after
-IsSinkBlamed before after _ = ⊤
+-- ---- a device has failed in the call where that is told, and nowhere else
+
+abbrev pub IsStepBlamed : {X : Type 0} → ℕ → ℕ → Result X StepFault → Type 0
+IsStepBlamed before after (Ok x) = after ≡ before
+IsStepBlamed before after (Err f.Library) = before < after
+IsStepBlamed before after (Err f.Memory) = after ≡ before
+
+abbrev pub IsLibraryBlamed : {X : Type 0} → ℕ → ℕ → Result X RunFault → Type 0
+IsLibraryBlamed before after (Ok x) = after ≡ before
+IsLibraryBlamed before after (Err (r.Library offset)) = before < after
+IsLibraryBlamed before after (Err (r.Memory offset)) = after ≡ before
+IsLibraryBlamed before after (Err r.Sink) = after ≡ before
+
+abbrev pub IsSinkBlamed : {X : Type 0} → ℕ → ℕ → Result X RunFault → Type 0
+IsSinkBlamed before after (Ok x) = after ≡ before
+IsSinkBlamed before after (Err r.Sink) = before < after
+IsSinkBlamed before after (Err (r.Library offset)) = after ≡ before
+IsSinkBlamed before after (Err (r.Memory offset)) = after ≡ before

@@ -1,12 +1,12 @@
 //! Checking runs.
 
-ghost use Rattle.std.specs.Prelude.{ℕ, ◌≡◌, ◌≢◌, ◌≤◌, ◌<◌, List, IfOk, IfErr, OnOk, OnErr};
+ghost use Rattle.std.specs.Prelude.{ℕ, ◌≡◌, ◌≢◌, ◌<◌, List, IfOk, IfErr, OnOk, OnErr};
 ghost use Rattle.definitions.specs.Step.{AreStatements};
 ghost use Rattle.trees.specs.Trees.{statement_of, statements_of};
 ghost use Rattle.sqlr.specs.declared.ended.RunFault.TheVariants as fault;
 ghost use Rattle.sqlr.specs.Devices.{Took, TookBeginning};
-ghost use Rattle.sqlr.specs.Checking.{ArePrepared, BreaksChecking, BreaksLast, BreaksPreparing, Checks, ChecksLast, IsIfRefused, IsPrepared};
-ghost use Rattle.sqlr.specs.Sessions.{IsBlamed, IsLibraryBlamed, IsSinkBlamed};
+ghost use Rattle.sqlr.specs.Checking.{ArePrepared, BreaksChecking, BreaksLast, BreaksPrepared, BreaksPreparing, Checks, ChecksLast, IsIfRefused, IsPrepared};
+ghost use Rattle.sqlr.specs.Sessions.{IsLibraryBlamed, IsSinkBlamed, IsStepBlamed};
 
 use crate::checked::{Checked, check_query, end_of, query_of};
 use crate::ended::{Ended, RunFault};
@@ -25,8 +25,8 @@ impl<L: Library> Session<L> {
     /// Checks a file of certificates against the blocks of a script's last statement, a SELECT or an
     /// EXPLAIN, and puts a line for each block into a sink, in one text (own). The statements before
     /// are run, but for the queries, and print nothing; where one of them is refused, its line is all
-    /// that is printed. A run that breaks off leaves the database as some of the statements before
-    /// the last left it.
+    /// that is printed. A run that breaks off leaves the database as the statements before the one at which it
+    /// broke off left it, and the library as they or that one's request did.
     pub fn check<S: Sink>(
         &mut self,
         script: &str,
@@ -34,9 +34,9 @@ impl<L: Library> Session<L> {
         sink: &mut S,
     ) -> Result<Ended, RunFault>
         ensures checks { IfOk result (Checks L.answers self.old script.now certificates.now self.new (S.taken sink.old) (S.taken sink.new)) }
-        ensures breaks { IfErr result (BreaksChecking L.answers self.old script.now certificates.now self.new (S.taken sink.old) (S.taken sink.new)) }
-        ensures library { IfErr result (IsLibraryBlamed (L.failures self.old.library) (L.failures self.new.library)) }
-        ensures sink { IfErr result (IsSinkBlamed (S.failures sink.old) (S.failures sink.new)) }
+        ensures breaks { IfErr result (BreaksChecking L.answers L.fails self.old script.now certificates.now self.new (S.taken sink.old) (S.taken sink.new)) }
+        ensures library { IsLibraryBlamed (L.failures self.old.library) (L.failures self.new.library) result }
+        ensures sink { IsSinkBlamed (S.failures sink.old) (S.failures sink.new) result }
     {
         match parse_script(self.alloc, script) {
             Ok(statements) => self.check_statements(&statements, certificates, sink),
@@ -55,9 +55,9 @@ impl<L: Library> Session<L> {
         sink: &mut S,
     ) -> Result<Ended, RunFault>
         ensures checks { (script : List ℕ) → AreStatements script (statements_of statements.now) → IfOk result (Checks L.answers self.old script certificates.now self.new (S.taken sink.old) (S.taken sink.new)) }
-        ensures breaks { (script : List ℕ) → AreStatements script (statements_of statements.now) → IfErr result (BreaksChecking L.answers self.old script certificates.now self.new (S.taken sink.old) (S.taken sink.new)) }
-        ensures library { IfErr result (IsLibraryBlamed (L.failures self.old.library) (L.failures self.new.library)) }
-        ensures sink { IfErr result (IsSinkBlamed (S.failures sink.old) (S.failures sink.new)) }
+        ensures breaks { (script : List ℕ) → AreStatements script (statements_of statements.now) → IfErr result (BreaksChecking L.answers L.fails self.old script certificates.now self.new (S.taken sink.old) (S.taken sink.new)) }
+        ensures library { IsLibraryBlamed (L.failures self.old.library) (L.failures self.new.library) result }
+        ensures sink { IsSinkBlamed (S.failures sink.old) (S.failures sink.new) result }
     {
         let Some((last, before)) = statements.split_last() else {
             return put_text(NOTHING, Ended::Faulted, sink);
@@ -72,9 +72,9 @@ impl<L: Library> Session<L> {
     /// The statements before the last: what the first of them prints that is refused, if one is.
     fn prepare<'a>(&mut self, statements: &'a [Statement]) -> Result<Option<Printed<'a>>, RunFault>
         ensures prepared { IfOk result (ArePrepared L.answers self.old (statements_of statements.entry.now) self.new) }
-        ensures breaks { OnErr result (BreaksPreparing L.answers self.old (statements_of statements.entry.now) self.new) }
+        ensures breaks { IfErr result (BreaksPreparing L.answers L.fails self.old (statements_of statements.entry.now) self.new) }
         ensures apart { IfErr result (λ f. f ≢ fault.Sink) }
-        ensures library { IfErr result (IsLibraryBlamed (L.failures self.old.library) (L.failures self.new.library)) }
+        ensures library { IsLibraryBlamed (L.failures self.old.library) (L.failures self.new.library) result }
     {
         'statements: for statement in statements {
             let offset = place_of(statement);
@@ -94,9 +94,8 @@ impl<L: Library> Session<L> {
         statement: &'a Statement,
     ) -> Result<Option<Printed<'a>>, StepFault>
         ensures prepared { IfOk result (IsPrepared L.answers self.old (statement_of statement.entry.now) self.new) }
-        ensures kept { OnErr result (self.new.database ≡ self.old.database) }
-        ensures blamed { IfErr result (IsBlamed (L.failures self.old.library) (L.failures self.new.library)) }
-        ensures counted { L.failures self.old.library ≤ L.failures self.new.library }
+        ensures breaks { IfErr result (BreaksPrepared L.answers L.fails self.old (statement_of statement.entry.now) self.new) }
+        ensures blamed { IsStepBlamed (L.failures self.old.library) (L.failures self.new.library) result }
     {
         if query_of(statement).is_some() {
             return Ok(None);
@@ -116,7 +115,7 @@ impl<L: Library> Session<L> {
     ) -> Result<Ended, RunFault>
         ensures checks { IfOk result (ChecksLast self.now.database (statement_of last.now) certificates.now (S.taken sink.old) (S.taken sink.new)) }
         ensures breaks { IfErr result (BreaksLast self.now.database (statement_of last.now) certificates.now (S.taken sink.old) (S.taken sink.new)) }
-        ensures sink { IfErr result (IsSinkBlamed (S.failures sink.old) (S.failures sink.new)) }
+        ensures sink { IsSinkBlamed (S.failures sink.old) (S.failures sink.new) result }
     {
         // A look at the tables tells what holds of a database.
         let _tables = self.database.tables();
@@ -157,6 +156,7 @@ fn put_refused<S: Sink>(
     ensures fault { IfErr result (λ f. f ≡ fault.Sink) }
     ensures begun { OnErr result (TookBeginning (S.taken sink.old) printed.now.text.items (S.taken sink.new)) }
     ensures failed { OnErr result (S.failures sink.old < S.failures sink.new) }
+    ensures unfailed { OnOk result (S.failures sink.new ≡ S.failures sink.old) }
 {
     tell_cause(sink, &printed.refused, database);
     put_text(&printed.text, printed.ended, sink)
@@ -169,6 +169,7 @@ fn put_text<S: Sink>(text: &[u8], ended: Ended, sink: &mut S) -> Result<Ended, R
     ensures fault { IfErr result (λ f. f ≡ fault.Sink) }
     ensures begun { OnErr result (TookBeginning (S.taken sink.old) text.now (S.taken sink.new)) }
     ensures failed { OnErr result (S.failures sink.old < S.failures sink.new) }
+    ensures unfailed { OnOk result (S.failures sink.new ≡ S.failures sink.old) }
 {
     match sink.put(text) {
         Ok(()) => Ok(ended),

@@ -7,6 +7,7 @@ mod checked;
 mod checking;
 mod ended;
 mod explaining;
+pub mod laws;
 mod library;
 mod not_yet;
 mod outcome;

@@ -1,7 +1,7 @@
 //! Where LOAD finds its files.
 
-ghost use Rattle.std.specs.Prelude.{◌≤◌, ℕ, List, Option, IfOk, IfErr};
-ghost use Rattle.sqlr.specs.Devices.{answer_of, FetchFailed};
+ghost use Rattle.std.specs.Prelude.{ℕ, List, Option, IfOk, OnErr};
+ghost use Rattle.sqlr.specs.Devices.{answer_of, IsFetchBlamed};
 
 use thiserror::Error;
 
@@ -11,14 +11,17 @@ pub trait Library: Drop {
     /// after.
     ghost answers: { Self → List ℕ → Option (List ℕ) → Self → Type 0 };
 
+    /// What a request may leave that gets no answer: the library before, a name, and the library after.
+    ghost fails: { Self → List ℕ → Self → Type 0 };
+
     /// How often its device has failed.
     ghost failures: { Self → ℕ };
 
     /// The file of a name.
     fn fetch(&mut self, name: &str) -> Result<Fetched, FetchFault>
         ensures answer { IfOk result (λ fetched. answers self.old name.now (answer_of fetched) self.new) }
-        ensures fault { IfErr result (λ fault. FetchFailed (failures self.old) (failures self.new) fault) }
-        ensures counted { failures self.old ≤ failures self.new };
+        ensures fault { OnErr result (fails self.old name.now self.new) }
+        ensures blamed { IsFetchBlamed (failures self.old) (failures self.new) result };
 }
 
 /// What a library answers.

@@ -1,6 +1,6 @@
 //! Sessions.
 
-ghost use Rattle.std.specs.Prelude.{◌≡◌, ◌≢◌, ◌≤◌, [], None, IfOk, IfErr, OnErr};
+ghost use Rattle.std.specs.Prelude.{◌≡◌, ◌≢◌, [], None, IfOk, IfErr, OnErr};
 ghost use Rattle.definitions.specs.Printing.{fault_text};
 ghost use Rattle.definitions.specs.Statement as tree;
 ghost use Rattle.definitions.specs.Step.{AreStatements};
@@ -8,7 +8,7 @@ ghost use Rattle.definitions.specs.Table.{table_named};
 ghost use Rattle.refusals.specs.Meaning.{refusal_of};
 ghost use Rattle.trees.specs.Trees.{name_of, statement_of, statements_of, text_of};
 ghost use Rattle.sqlr.specs.declared.outcome.StepFault.TheVariants as fault;
-ghost use Rattle.sqlr.specs.Sessions.{BreaksIn, BreaksLine, BreaksOff, IsBlamed, IsBoth, IsLibraryBlamed, IsSinkBlamed, Prints, Runs, RunsAll, Takes, TakesBytes};
+ghost use Rattle.sqlr.specs.Sessions.{BreaksAt, BreaksIn, BreaksLine, BreaksOff, IsBoth, IsLibraryBlamed, IsSinkBlamed, IsStepBlamed, Prints, Runs, RunsAll, Takes, TakesBytes};
 
 use crate::cause::{Cause, FileLoad, Refused};
 use crate::changes::{create_index, create_table, set_index, set_table};
@@ -65,13 +65,14 @@ impl<L: Library> Session<L> {
     /// Runs a script, and puts what it prints into a sink, the text of each statement as a whole
     /// (own). The script is read first; a fault there prints its one line, and nothing is run. After
     /// a refused statement the script goes on. A run that breaks off leaves the database as the
-    /// statements before left it; where the sink failed, the statement whose text it refused has
-    /// taken effect, and a beginning of that text was printed.
+    /// statements before left it, and the library as they or the request of the LOAD at which it broke
+    /// off did; where the sink failed, the statement whose text it refused has taken effect, and a
+    /// beginning of that text was printed.
     pub fn run<S: Sink>(&mut self, script: &str, sink: &mut S) -> Result<Ended, RunFault>
         ensures runs { IfOk result (Runs L.answers self.old script.now self.new (S.taken sink.old) (S.taken sink.new)) }
-        ensures breaks { IfErr result (BreaksOff L.answers self.old script.now self.new (S.taken sink.old) (S.taken sink.new)) }
-        ensures library { IfErr result (IsLibraryBlamed (L.failures self.old.library) (L.failures self.new.library)) }
-        ensures sink { IfErr result (IsSinkBlamed (S.failures sink.old) (S.failures sink.new)) }
+        ensures breaks { IfErr result (BreaksOff L.answers L.fails self.old script.now self.new (S.taken sink.old) (S.taken sink.new)) }
+        ensures library { IsLibraryBlamed (L.failures self.old.library) (L.failures self.new.library) result }
+        ensures sink { IsSinkBlamed (S.failures sink.old) (S.failures sink.new) result }
     {
         match parse_script(self.alloc, script) {
             Ok(statements) => self.run_statements(&statements, sink),
@@ -92,7 +93,7 @@ impl<L: Library> Session<L> {
     ) -> Result<Ended, RunFault>
         ensures prints { IfOk result (Prints (fault_text (refusal_of refusal) offset) (S.taken sink.old) (S.taken sink.new)) }
         ensures breaks { IfErr result (BreaksLine (fault_text (refusal_of refusal) offset) (S.taken sink.old) (S.taken sink.new)) }
-        ensures blamed { IfErr result (IsSinkBlamed (S.failures sink.old) (S.failures sink.new)) }
+        ensures blamed { IsSinkBlamed (S.failures sink.old) (S.failures sink.new) result }
     {
         let mut text = Vec::new(self.alloc);
         if write_fault(&mut text, refusal, offset).is_err() {
@@ -110,9 +111,9 @@ impl<L: Library> Session<L> {
         sink: &mut S,
     ) -> Result<Ended, RunFault>
         ensures runs { IfOk result (RunsAll L.answers self.old (statements_of statements.now) self.new (S.taken sink.old) (S.taken sink.new)) }
-        ensures breaks { IfErr result (BreaksIn L.answers self.old (statements_of statements.now) self.new (S.taken sink.old) (S.taken sink.new)) }
-        ensures library { IfErr result (IsLibraryBlamed (L.failures self.old.library) (L.failures self.new.library)) }
-        ensures sink { IfErr result (IsSinkBlamed (S.failures sink.old) (S.failures sink.new)) }
+        ensures breaks { IfErr result (BreaksIn L.answers L.fails self.old (statements_of statements.now) self.new (S.taken sink.old) (S.taken sink.new)) }
+        ensures library { IsLibraryBlamed (L.failures self.old.library) (L.failures self.new.library) result }
+        ensures sink { IsSinkBlamed (S.failures sink.old) (S.failures sink.new) result }
     {
         let mut ended = Ended::Well;
         'statements: for statement in statements {
@@ -132,12 +133,12 @@ impl<L: Library> Session<L> {
         Ok(ended)
     }
 
-    /// Runs a statement. One that breaks off has changed nothing in the database.
+    /// Runs a statement. One that breaks off has changed nothing in the database; a LOAD may have asked
+    /// the library for its file.
     pub(crate) fn step<'a>(&mut self, statement: &'a Statement) -> Result<Printed<'a>, StepFault>
         ensures takes { IfOk result (Takes L.answers self.old (statement_of statement.now) self.new) }
-        ensures kept { OnErr result (self.new.database ≡ self.old.database) }
-        ensures blamed { IfErr result (IsBlamed (L.failures self.old.library) (L.failures self.new.library)) }
-        ensures counted { L.failures self.old.library ≤ L.failures self.new.library }
+        ensures breaks { IfErr result (BreaksAt L.answers L.fails self.old (statement_of statement.now) self.new) }
+        ensures blamed { IsStepBlamed (L.failures self.old.library) (L.failures self.new.library) result }
     {
         let alloc = self.alloc;
         match statement {
@@ -169,9 +170,8 @@ impl<L: Library> Session<L> {
         file: &'a StringLiteral,
     ) -> Result<Printed<'a>, StepFault>
         ensures takes { IfOk result (Takes L.answers self.old (tree.Load (name_of table.now) (text_of file.now)) self.new) }
-        ensures kept { OnErr result (self.new.database ≡ self.old.database) }
-        ensures blamed { IfErr result (IsBlamed (L.failures self.old.library) (L.failures self.new.library)) }
-        ensures counted { L.failures self.old.library ≤ L.failures self.new.library }
+        ensures breaks { IfErr result (BreaksAt L.answers L.fails self.old (tree.Load (name_of table.now) (text_of file.now)) self.new) }
+        ensures blamed { IsStepBlamed (L.failures self.old.library) (L.failures self.new.library) result }
     {
         if self.database.table(table.text.as_str()).is_none() {
             return refused(self.alloc, Refusal::NotFound, Cause::NoTable(table));

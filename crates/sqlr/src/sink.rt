@@ -1,6 +1,6 @@
 //! Where the printed bytes go.
 
-ghost use Rattle.std.specs.Prelude.{◌≡◌, ◌<◌, ◌≤◌, ℕ, List, Option, OnOk, OnErr, map};
+ghost use Rattle.std.specs.Prelude.{◌≡◌, ◌<◌, ℕ, List, Option, OnOk, OnErr, map};
 ghost use Rattle.std.specs.List.{AllByRecursion};
 ghost use Rattle.definitions.specs.Binding.Formed.{IsFormedSomewhere};
 ghost use Rattle.bound.specs.Bound.{block_of};
@@ -24,7 +24,7 @@ pub trait Sink {
         ensures ok { OnOk result (Took (taken self.old) bytes.now (taken self.new)) }
         ensures fault { OnErr result (TookBeginning (taken self.old) bytes.now (taken self.new)) }
         ensures failed { OnErr result (failures self.old < failures self.new) }
-        ensures counted { failures self.old ≤ failures self.new };
+        ensures unfailed { OnOk result (failures self.new ≡ failures self.old) };
 
     /// Is told why a script or a statement is refused, before its line is put, with the database that it
     /// was refused over (own). It does nothing, unless a sink has another body.

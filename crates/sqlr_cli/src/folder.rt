@@ -36,6 +36,8 @@ impl<L: Ledger, R: Runtime + AllocGlobal> Library for Folder<'_, L, R> {
 
     ghost answers = { λ _ _ _ _. ⊤ };
 
+    ghost fails = { λ _ _ _. ⊤ };
+
     ghost failures = { λ s. s.failures };
 
     fn fetch(&mut self, name: &str) -> Result<Fetched, FetchFault> {

@@ -24,6 +24,8 @@ impl<L: Ledger> Library for Faulty<'_, L> {
 
     ghost answers = { λ old name answer new. (new ≡ old) × (answer ≡ bytes_of_file old.shelf.files.now name) };
 
+    ghost fails = { λ old name new. new.shelf ≡ old.shelf };
+
     ghost failures = { λ s. s.failures };
 
     fn fetch(&mut self, name: &str) -> Result<Fetched, FetchFault> {

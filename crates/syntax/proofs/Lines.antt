@@ -94,8 +94,11 @@ no_length (x ∷ xs) h = absurd (omega (arith, h))
 is_zero : (n : ℕ) (b : Bool) → b ≡ (n == 0) → b ≡ true → n ≡ 0
 is_zero n b e h = grind (arith, nat_tests, e, h)
 
+pub no_operand : (v : Vec Operand Global) (b : Bool) → b ≡ (v.len == 0) → b ≡ true → v.items ≡ []
+no_operand v b e h = no_length v.items (sym v.ok.0 ∙ is_zero v.len b e h)
+
 pub alone : (x : Expr) (v : Vec Operand Global) (b : Bool) → b ≡ (v.len == 0) → b ≡ true → line x (operands (map operand_of v.items)) ≡ x
-alone x v b e h = ap (λ xs. line x (operands (map operand_of xs))) (no_length v.items (sym v.ok.0 ∙ is_zero v.len b e h))
+alone x v b e h = ap (λ xs. line x (operands (map operand_of xs))) (no_operand v b e h)
 
 pub several : (x : Expr) (v : Vec Operand Global) (b : Bool) → b ≡ (v.len == 0) → b ≡ false → line x (operands (map operand_of v.items)) ≡ s.Line x (operands (map operand_of v.items))
 several x v b e h = some v.items (λ z. is_some v.len b e h (v.ok.0 ∙ z))

@@ -2,16 +2,19 @@
 
 ghost use Rattle.std.specs.Prelude.{◌≡◌, ◌<◌, map, length, IfOk};
 ghost use Rattle.definitions.specs.Grammar.{ListOf};
+ghost use Rattle.cursor.specs.Places.{Stands};
 ghost use Rattle.cursor.specs.Reading.{ParsesFlat, viewed};
+ghost use Rattle.syntax.specs.Places.{all};
 
 use cursor::{Cursor, Stop};
 use lexer::Symbol;
 
 /// What stands between commas.
 pub trait Element: Drop {
-    ghost use Rattle.std.specs.Prelude.{List, ℕ};
+    ghost use Rattle.std.specs.Prelude.{List, ℕ, IfOk};
     ghost use Rattle.definitions.specs.Rule.{Rule};
     ghost use Rattle.definitions.proofs.Alike.{Alike};
+    ghost use Rattle.cursor.specs.Places.{Placed, Stands};
     ghost use Rattle.cursor.specs.Reading.{ParsesFlat, viewed};
 
     ghost Tree: { Type 0 };
@@ -22,15 +25,19 @@ pub trait Element: Drop {
 
     ghost tree_of: { Self → Tree };
 
+    ghost leaves: { Self → List Placed };
+
     /// One element.
     fn read(cursor: &mut Cursor) -> Result<Self, Stop>
-        ensures { ParsesFlat rule cursor.old cursor.new (viewed tree_of result) };
+        ensures reads { ParsesFlat rule cursor.old cursor.new (viewed tree_of result) }
+        ensures placed { IfOk result (λ x. Stands cursor.old cursor.new (leaves x)) };
 }
 
 /// `element { "," element }`.
 pub fn comma_list<T: Element>(cursor: &mut Cursor) -> Result<Vec<T>, Stop>
     ensures reads { ParsesFlat (ListOf T.rule) cursor.old cursor.new (viewed (λ (xs : _). map T.tree_of xs.items) result) }
     ensures some { IfOk result (λ xs. 0 < length xs.items) }
+    ensures placed { IfOk result (λ xs. Stands cursor.old cursor.new (all T.leaves xs.items)) }
 {
     let mut elements = Vec::new(cursor.alloc);
     let first = T::read(cursor)?;

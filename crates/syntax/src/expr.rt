@@ -1,14 +1,18 @@
 //! Expressions. Each function reads one rule of the grammar; what a token opens is read within the levels below.
 
-ghost use Rattle.std.specs.Prelude.{◌≡◌, ◌+◌, ◌*◌, map, Ok};
+ghost use Rattle.std.specs.Prelude.{◌≡◌, ◌+◌, ◌*◌, ◌++◌, [], IfOk, map, Ok};
 ghost use Rattle.definitions.specs.Grammar as grammar;
 ghost use Rattle.definitions.specs.Grammar.{within};
-ghost use Rattle.definitions.specs.Token.{Reserved};
+ghost use Rattle.definitions.specs.Token.{OpenParen, Reserved};
+ghost use Rattle.definitions.specs.Word as words;
 ghost use Rattle.lexer.specs.Meaning.{word_of};
 ghost use Rattle.sqlvalue.specs.Meaning.{op_of};
 ghost use Rattle.trees.specs.Trees.{block_of, column_of, expr_of, function_of, member_of};
 ghost use Rattle.cursor.specs.Leaves.{line_kind};
-ghost use Rattle.cursor.specs.Reading.{Eats, EatsAsterisk, Parses, ParsesFlat, viewed};
+ghost use Rattle.cursor.specs.Places as leaf;
+ghost use Rattle.cursor.specs.Places.{GoesOn, Stands, if_there, one};
+ghost use Rattle.cursor.specs.Reading.{Eats, EatsAsterisk, Parses, ParsesFlat, Place, viewed};
+ghost use Rattle.syntax.specs.Places.{all, block_leaves, expr_leaves, function_leaf, op_leaf, reference_leaves};
 ghost use Rattle.syntax.specs.Reading.{LineAt, OperandAt};
 
 use crate::query;
@@ -19,7 +23,8 @@ use trees::{Block, ColumnReference, Expr, Op, Operand, SetFunction};
 /// `operand { operator operand }`, of one of the four kinds (ISO/IEC 9075:1992, 8.12 and 6.12).
 #[cycle(expressions)]
 pub fn line(cursor: &mut Cursor, kind: LineKind, levels: u8) -> Result<Expr, Stop>
-    ensures { Parses (LineAt (line_kind kind)) levels cursor.old cursor.new (viewed expr_of result) }
+    ensures reads { Parses (LineAt (line_kind kind)) levels cursor.old cursor.new (viewed expr_of result) }
+    ensures placed { IfOk result (λ expr. Stands cursor.old cursor.new (expr_leaves expr)) }
 {
     let head = operand(cursor, kind, levels)?;
     let mut others = Vec::new(cursor.alloc);
@@ -44,7 +49,8 @@ pub fn line(cursor: &mut Cursor, kind: LineKind, levels: u8) -> Result<Expr, Sto
 
 #[cycle(expressions)]
 fn operand(cursor: &mut Cursor, kind: LineKind, levels: u8) -> Result<Expr, Stop>
-    ensures { Parses (OperandAt (line_kind kind)) levels cursor.old cursor.new (viewed expr_of result) }
+    ensures reads { Parses (OperandAt (line_kind kind)) levels cursor.old cursor.new (viewed expr_of result) }
+    ensures placed { IfOk result (λ expr. Stands cursor.old cursor.new (expr_leaves expr)) }
 {
     match kind {
         LineKind::Disjunction => line(cursor, LineKind::Conjunction, levels),
@@ -57,7 +63,8 @@ fn operand(cursor: &mut Cursor, kind: LineKind, levels: u8) -> Result<Expr, Stop
 /// `NOT negation | test` (ISO/IEC 9075:1992, 8.12).
 #[cycle(expressions)]
 fn negation(cursor: &mut Cursor, levels: u8) -> Result<Expr, Stop>
-    ensures { Parses (λ m. grammar.NegationOf (within m)) levels cursor.old cursor.new (viewed expr_of result) }
+    ensures reads { Parses (λ m. grammar.NegationOf (within m)) levels cursor.old cursor.new (viewed expr_of result) }
+    ensures placed { IfOk result (λ expr. Stands cursor.old cursor.new (expr_leaves expr)) }
 {
     let start = cursor.start();
     if !cursor.eat_word(Word::Not) {
@@ -72,7 +79,8 @@ fn negation(cursor: &mut Cursor, levels: u8) -> Result<Expr, Stop>
 /// `sum [ tail ]` (ISO/IEC 9075:1992, 8.1).
 #[cycle(expressions)]
 fn test(cursor: &mut Cursor, levels: u8) -> Result<Expr, Stop>
-    ensures { Parses (λ m. grammar.TestOf (within m)) levels cursor.old cursor.new (viewed expr_of result) }
+    ensures reads { Parses (λ m. grammar.TestOf (within m)) levels cursor.old cursor.new (viewed expr_of result) }
+    ensures placed { IfOk result (λ expr. Stands cursor.old cursor.new (expr_leaves expr)) }
 {
     let value = line(cursor, LineKind::Sum, levels)?;
     tail(cursor, value, levels)
@@ -81,7 +89,8 @@ fn test(cursor: &mut Cursor, levels: u8) -> Result<Expr, Stop>
 /// What stands behind a value.
 #[cycle(expressions)]
 fn tail(cursor: &mut Cursor, value: Expr, levels: u8) -> Result<Expr, Stop>
-    ensures { Parses (λ m. grammar.TailOf (within m) (expr_of value)) levels cursor.old cursor.new (viewed expr_of result) }
+    ensures reads { Parses (λ m. grammar.TailOf (within m) (expr_of value)) levels cursor.old cursor.new (viewed expr_of result) }
+    ensures placed { IfOk result (λ expr. GoesOn (expr_leaves value) cursor.old cursor.new (expr_leaves expr)) }
 {
     let start = cursor.start();
     if let Some(op) = cursor.take_comparison() {
@@ -104,7 +113,8 @@ fn compared(
     value: Expr,
     levels: u8,
 ) -> Result<Expr, Stop>
-    ensures { Parses (λ m. grammar.ComparedOf (within m) (op_of op) (expr_of value)) levels cursor.old cursor.new (viewed expr_of result) }
+    ensures reads { Parses (λ m. grammar.ComparedOf (within m) (op_of op) (expr_of value)) levels cursor.old cursor.new (viewed expr_of result) }
+    ensures placed { IfOk result (λ expr. GoesOn (expr_leaves value ++ one (op_leaf (op_of op)) start) cursor.old cursor.new (expr_leaves expr)) }
 {
     let left = Box::new(cursor.alloc, value)?;
     let Some(quantifier) = cursor.take_quantifier() else {
@@ -131,7 +141,8 @@ fn compared(
 
 /// `[ NOT ] NULL` behind IS (ISO/IEC 9075:1992, 8.6).
 fn null_test(cursor: &mut Cursor, start: usize, value: Expr) -> Result<Expr, Stop>
-    ensures { ParsesFlat (grammar.NullOf (expr_of value)) cursor.old cursor.new (viewed expr_of result) }
+    ensures reads { ParsesFlat (grammar.NullOf (expr_of value)) cursor.old cursor.new (viewed expr_of result) }
+    ensures placed { IfOk result (λ expr. GoesOn (expr_leaves value ++ one (leaf.Reserved words.Is) start) cursor.old cursor.new (expr_leaves expr)) }
 {
     let negated = cursor.eat_word(Word::Not);
     cursor.expect_word(Word::Null)?;
@@ -146,7 +157,8 @@ fn null_test(cursor: &mut Cursor, start: usize, value: Expr) -> Result<Expr, Sto
 /// `BETWEEN .. | LIKE .. | IN ..`; or, but not behind NOT, nothing.
 #[cycle(expressions)]
 fn predicate(cursor: &mut Cursor, negated: bool, value: Expr, levels: u8) -> Result<Expr, Stop>
-    ensures { Parses (λ m. grammar.PredicateOf (within m) negated (expr_of value)) levels cursor.old cursor.new (viewed expr_of result) }
+    ensures reads { Parses (λ m. grammar.PredicateOf (within m) negated (expr_of value)) levels cursor.old cursor.new (viewed expr_of result) }
+    ensures placed { IfOk result (λ expr. GoesOn (expr_leaves value) cursor.old cursor.new (expr_leaves expr)) }
 {
     let start = cursor.start();
     if eat_predicate(cursor, negated, Word::Between) {
@@ -185,7 +197,8 @@ fn between(
     value: Expr,
     levels: u8,
 ) -> Result<Expr, Stop>
-    ensures { Parses (λ m. grammar.BetweenOf (within m) negated (expr_of value)) levels cursor.old cursor.new (viewed expr_of result) }
+    ensures reads { Parses (λ m. grammar.BetweenOf (within m) negated (expr_of value)) levels cursor.old cursor.new (viewed expr_of result) }
+    ensures placed { IfOk result (λ expr. GoesOn (expr_leaves value ++ one (leaf.Reserved words.Between) start) cursor.old cursor.new (expr_leaves expr)) }
 {
     let low = line(cursor, LineKind::Sum, levels)?;
     cursor.expect_word(Word::And)?;
@@ -204,7 +217,8 @@ fn between(
 
 /// The pattern behind LIKE (ISO/IEC 9075:1992, 8.5).
 fn like(cursor: &mut Cursor, start: usize, negated: bool, value: Expr) -> Result<Expr, Stop>
-    ensures { ParsesFlat (grammar.LikeOf negated (expr_of value)) cursor.old cursor.new (viewed expr_of result) }
+    ensures reads { ParsesFlat (grammar.LikeOf negated (expr_of value)) cursor.old cursor.new (viewed expr_of result) }
+    ensures placed { IfOk result (λ expr. GoesOn (expr_leaves value ++ one (leaf.Reserved words.Like) start) cursor.old cursor.new (expr_leaves expr)) }
 {
     let pattern = cursor.string()?;
     let value = Box::new(cursor.alloc, value)?;
@@ -225,7 +239,8 @@ fn in_list(
     value: Expr,
     levels: u8,
 ) -> Result<Expr, Stop>
-    ensures { Parses (λ m. grammar.InListOf (within m) negated (expr_of value)) levels cursor.old cursor.new (viewed expr_of result) }
+    ensures reads { Parses (λ m. grammar.InListOf (within m) negated (expr_of value)) levels cursor.old cursor.new (viewed expr_of result) }
+    ensures placed { IfOk result (λ expr. GoesOn (expr_leaves value ++ one (leaf.Reserved words.In) start) cursor.old cursor.new (expr_leaves expr)) }
 {
     let value = Box::new(cursor.alloc, value)?;
     if cursor.sees_word(Word::Select) {
@@ -250,7 +265,8 @@ fn in_list(
 /// `member { "," member }`.
 #[cycle(expressions)]
 fn members(cursor: &mut Cursor, levels: u8) -> Result<Vec<Option<Expr>>, Stop>
-    ensures { Parses (λ m. grammar.ListOf (grammar.MemberOf (within m))) levels cursor.old cursor.new (viewed (λ (xs : _). map member_of xs.items) result) }
+    ensures reads { Parses (λ m. grammar.ListOf (grammar.MemberOf (within m))) levels cursor.old cursor.new (viewed (λ (xs : _). map member_of xs.items) result) }
+    ensures placed { IfOk result (λ xs. Stands cursor.old cursor.new (all (if_there expr_leaves) xs.items)) }
 {
     let mut members = Vec::new(cursor.alloc);
     let first = member(cursor, levels)?;
@@ -268,7 +284,8 @@ fn members(cursor: &mut Cursor, levels: u8) -> Result<Vec<Option<Expr>>, Stop>
 /// `sum | NULL`; NULL is none.
 #[cycle(expressions)]
 fn member(cursor: &mut Cursor, levels: u8) -> Result<Option<Expr>, Stop>
-    ensures { Parses (λ m. grammar.MemberOf (within m)) levels cursor.old cursor.new (viewed member_of result) }
+    ensures reads { Parses (λ m. grammar.MemberOf (within m)) levels cursor.old cursor.new (viewed member_of result) }
+    ensures placed { IfOk result (λ member. Stands cursor.old cursor.new (if_there expr_leaves member)) }
 {
     if cursor.eat_word(Word::Null) {
         return Ok(None);
@@ -280,7 +297,8 @@ fn member(cursor: &mut Cursor, levels: u8) -> Result<Option<Expr>, Stop>
 /// `( "+" | "-" ) signed | primary` (ISO/IEC 9075:1992, 6.12).
 #[cycle(expressions)]
 fn signed(cursor: &mut Cursor, levels: u8) -> Result<Expr, Stop>
-    ensures { Parses (λ m. grammar.SignOf (within m)) levels cursor.old cursor.new (viewed expr_of result) }
+    ensures reads { Parses (λ m. grammar.SignOf (within m)) levels cursor.old cursor.new (viewed expr_of result) }
+    ensures placed { IfOk result (λ expr. Stands cursor.old cursor.new (expr_leaves expr)) }
 {
     let start = cursor.start();
     let Some(minus) = cursor.take_sign(TokenClass::Value) else {
@@ -299,7 +317,8 @@ fn signed(cursor: &mut Cursor, levels: u8) -> Result<Expr, Stop>
 /// A number, a string, a function, EXISTS, a parenthesis or a column.
 #[cycle(expressions)]
 fn primary(cursor: &mut Cursor, levels: u8) -> Result<Expr, Stop>
-    ensures { Parses (λ m. grammar.PrimaryOf (within m)) levels cursor.old cursor.new (viewed expr_of result) }
+    ensures reads { Parses (λ m. grammar.PrimaryOf (within m)) levels cursor.old cursor.new (viewed expr_of result) }
+    ensures placed { IfOk result (λ expr. Stands cursor.old cursor.new (expr_leaves expr)) }
 {
     let start = cursor.start();
     if let Some(number) = cursor.take_number(TokenClass::Value) {
@@ -318,7 +337,8 @@ fn primary(cursor: &mut Cursor, levels: u8) -> Result<Expr, Stop>
 /// EXISTS, a parenthesis or a column.
 #[cycle(expressions)]
 fn other_primary(cursor: &mut Cursor, levels: u8) -> Result<Expr, Stop>
-    ensures { Parses (λ m. grammar.OtherPrimaryOf (within m)) levels cursor.old cursor.new (viewed expr_of result) }
+    ensures reads { Parses (λ m. grammar.OtherPrimaryOf (within m)) levels cursor.old cursor.new (viewed expr_of result) }
+    ensures placed { IfOk result (λ expr. Stands cursor.old cursor.new (expr_leaves expr)) }
 {
     let start = cursor.start();
     if cursor.eat_word_as(Word::Exists, TokenClass::Value) {
@@ -343,7 +363,8 @@ fn argument(
     function: SetFunction,
     levels: u8,
 ) -> Result<Expr, Stop>
-    ensures { Parses (λ m. grammar.ArgumentOf (within m) (function_of function)) levels cursor.old cursor.new (viewed expr_of result) }
+    ensures reads { Parses (λ m. grammar.ArgumentOf (within m) (function_of function)) levels cursor.old cursor.new (viewed expr_of result) }
+    ensures placed { IfOk result (λ expr. GoesOn (one (function_leaf (function_of function)) start) cursor.old cursor.new (expr_leaves expr)) }
 {
     if eat_asterisk(cursor, function) {
         cursor.expect_symbol(Symbol::CloseParen)?;
@@ -374,7 +395,8 @@ fn eat_asterisk(cursor: &mut Cursor, function: SetFunction) -> bool
 /// What stands behind `(`, with the parenthesis that closes it (ISO/IEC 9075:1992, 6.11 and 7.11).
 #[cycle(expressions)]
 fn parenthesis(cursor: &mut Cursor, start: usize, levels: u8) -> Result<Expr, Stop>
-    ensures { Parses (λ m. grammar.ParenthesisOf (within m)) levels cursor.old cursor.new (viewed expr_of result) }
+    ensures reads { Parses (λ m. grammar.ParenthesisOf (within m)) levels cursor.old cursor.new (viewed expr_of result) }
+    ensures placed { IfOk result (λ expr. (from : Place) → Stands from cursor.old [] → Stands from cursor.old (one (leaf.Mark OpenParen) start) → Stands from cursor.new (expr_leaves expr)) }
 {
     if cursor.sees_word(Word::Select) {
         let query = subquery(cursor, levels)?;
@@ -388,7 +410,8 @@ fn parenthesis(cursor: &mut Cursor, start: usize, levels: u8) -> Result<Expr, St
 /// A query block, and the parenthesis that closes it (ISO/IEC 9075:1992, 7.11).
 #[cycle(expressions)]
 fn subquery(cursor: &mut Cursor, levels: u8) -> Result<Box<Block>, Stop>
-    ensures { Parses (λ m. grammar.SubqueryOf (within m)) levels cursor.old cursor.new (viewed (λ (b : _). block_of b.value) result) }
+    ensures reads { Parses (λ m. grammar.SubqueryOf (within m)) levels cursor.old cursor.new (viewed (λ (b : _). block_of b.value) result) }
+    ensures placed { IfOk result (λ query. Stands cursor.old cursor.new (block_leaves query.value)) }
 {
     let query = query::block(cursor, levels)?;
     cursor.expect_symbol(Symbol::CloseParen)?;
@@ -398,7 +421,8 @@ fn subquery(cursor: &mut Cursor, levels: u8) -> Result<Box<Block>, Stop>
 
 /// `name [ "." name ]`, where a rule looks for a class of tokens (ISO/IEC 9075:1992, 6.4).
 pub fn column_reference(cursor: &mut Cursor, class: TokenClass) -> Result<ColumnReference, Stop>
-    ensures { ParsesFlat grammar.ReferenceAt cursor.old cursor.new (viewed column_of result) }
+    ensures reads { ParsesFlat grammar.ReferenceAt cursor.old cursor.new (viewed column_of result) }
+    ensures placed { IfOk result (λ reference. Stands cursor.old cursor.new (reference_leaves reference)) }
 {
     let first = cursor.name(class)?;
     if !cursor.eat_symbol(Symbol::Point) {

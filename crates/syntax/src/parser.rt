@@ -1,10 +1,12 @@
 //! Scripts.
 
-ghost use Rattle.std.specs.Prelude.{◌≡◌, IfOk, IfErr};
+ghost use Rattle.std.specs.Prelude.{◌≡◌, [], IfOk, IfErr};
 ghost use Rattle.definitions.specs.Grammar.{Derives};
 ghost use Rattle.lexer.specs.Meaning.{kinds_of, tokens_of};
 ghost use Rattle.trees.specs.Trees.{statements_of};
+ghost use Rattle.cursor.specs.Places.{Stand, StandIn, left_at};
 ghost use Rattle.cursor.specs.Reading.{viewed};
+ghost use Rattle.syntax.specs.Places.{all, statement_leaves};
 ghost use Rattle.syntax.specs.Reading.{IsSyntaxFault, ParsesScript};
 
 use crate::fault::{SyntaxFault, fault_of};
@@ -17,10 +19,11 @@ use trees::Statement;
 /// The levels that parentheses, signs and NOTs may open (own).
 pub const MAX_LEVELS: u8 = 64;
 
-/// The statements that the tokens of a script are, `{ statement ";" }`; `end` is the script's
-/// length in bytes.
+/// The statements that the tokens of a script are, `{ statement ";" }`, with each name, literal and
+/// operator where its token stands; `end` is the script's length in bytes.
 pub fn parse(alloc: Global, tokens: &[Token], end: usize) -> Result<Vec<Statement>, SyntaxFault>
     ensures derived { IfOk result (λ statements. Derives (kinds_of tokens.now) (statements_of statements.items)) }
+    ensures placed { IfOk result (λ statements. StandIn (all statement_leaves statements.items) (tokens_of tokens.now)) }
     ensures fault { IfErr result (IsSyntaxFault (tokens_of tokens.now) end) }
 {
     let mut cursor = Cursor::new(alloc, tokens, None);
@@ -55,7 +58,8 @@ fn behind_semicolon(tokens: &[Token]) -> usize {
 
 /// `{ statement ";" }`, up to the end of the tokens.
 fn script(alloc: Global, cursor: &mut Cursor) -> Result<Vec<Statement>, Stop>
-    ensures { ParsesScript cursor.old (viewed (λ (xs : _). statements_of xs.items) result) }
+    ensures reads { ParsesScript cursor.old (viewed (λ (xs : _). statements_of xs.items) result) }
+    ensures placed { IfOk result (λ xs. Stand (left_at cursor.old) (all statement_leaves xs.items) []) }
 {
     let mut statements = Vec::new(alloc);
     'statements: while !cursor.is_at_end() {

@@ -1,13 +1,16 @@
 //! Query blocks and their order.
 
-ghost use Rattle.std.specs.Prelude.{◌≡◌, map, option_map};
+ghost use Rattle.std.specs.Prelude.{◌≡◌, [], IfOk, false, map, option_map};
 ghost use Rattle.definitions.specs.Token.{Reserved};
 ghost use Rattle.definitions.specs.Word as spec;
 ghost use Rattle.definitions.specs.Grammar as grammar;
 ghost use Rattle.definitions.specs.Grammar.{within};
 ghost use Rattle.lexer.specs.Meaning.{word_of};
 ghost use Rattle.trees.specs.Trees.{block_of, column_of, condition_of, item_of, key_of, key_name_of, list_of, name_of, select_of, source_of};
+ghost use Rattle.cursor.specs.Places as leaf;
+ghost use Rattle.cursor.specs.Places.{Stands, has_leaf, if_there, name_leaves};
 ghost use Rattle.cursor.specs.Reading.{Given, Parses, ParsesFlat, viewed};
+ghost use Rattle.syntax.specs.Places.{all, block_leaves, expr_leaves, item_leaves, key_leaves, key_name_leaves, list_leaves, reference_leaves, select_leaves};
 
 use crate::element::{Element, comma_list};
 use crate::expr;
@@ -20,7 +23,8 @@ use trees::{
 /// A query block (ISO/IEC 9075:1992, 7.9).
 #[cycle(expressions)]
 pub fn block(cursor: &mut Cursor, levels: u8) -> Result<Block, Stop>
-    ensures { Parses (λ m. grammar.BlockOf (within m)) levels cursor.old cursor.new (viewed block_of result) }
+    ensures reads { Parses (λ m. grammar.BlockOf (within m)) levels cursor.old cursor.new (viewed block_of result) }
+    ensures placed { IfOk result (λ block. Stands cursor.old cursor.new (block_leaves block)) }
 {
     let start = cursor.start();
     cursor.expect_word(Word::Select)?;
@@ -44,7 +48,8 @@ pub fn block(cursor: &mut Cursor, levels: u8) -> Result<Block, Stop>
 
 /// `[ ALL | DISTINCT ]`, whether DISTINCT (ISO/IEC 9075:1992, 6.5 and 7.9).
 pub fn distinct(cursor: &mut Cursor) -> bool
-    ensures { Given grammar.DistinctAt cursor.old cursor.new result }
+    ensures reads { Given grammar.DistinctAt cursor.old cursor.new result }
+    ensures placed { Stands cursor.old cursor.new [] }
 {
     if cursor.eat_word(Word::All) {
         return false;
@@ -55,7 +60,8 @@ pub fn distinct(cursor: &mut Cursor) -> bool
 /// `"*" | item { "," item }` (ISO/IEC 9075:1992, 7.9).
 #[cycle(expressions)]
 fn select_list(cursor: &mut Cursor, levels: u8) -> Result<SelectList, Stop>
-    ensures { Parses (λ m. grammar.SelectListOf (within m)) levels cursor.old cursor.new (viewed list_of result) }
+    ensures reads { Parses (λ m. grammar.SelectListOf (within m)) levels cursor.old cursor.new (viewed list_of result) }
+    ensures placed { IfOk result (λ list. Stands cursor.old cursor.new (list_leaves list)) }
 {
     let start = cursor.start();
     if cursor.eat_symbol(Symbol::Asterisk) {
@@ -67,7 +73,8 @@ fn select_list(cursor: &mut Cursor, levels: u8) -> Result<SelectList, Stop>
 
 #[cycle(expressions)]
 fn items(cursor: &mut Cursor, levels: u8) -> Result<Vec<Item>, Stop>
-    ensures { Parses (λ m. grammar.ListOf (grammar.ItemOf (within m))) levels cursor.old cursor.new (viewed (λ (xs : _). map item_of xs.items) result) }
+    ensures reads { Parses (λ m. grammar.ListOf (grammar.ItemOf (within m))) levels cursor.old cursor.new (viewed (λ (xs : _). map item_of xs.items) result) }
+    ensures placed { IfOk result (λ xs. Stands cursor.old cursor.new (all item_leaves xs.items)) }
 {
     let mut items = Vec::new(cursor.alloc);
     let first = item(cursor, levels)?;
@@ -85,7 +92,8 @@ fn items(cursor: &mut Cursor, levels: u8) -> Result<Vec<Item>, Stop>
 /// `expr [ AS name ]` (ISO/IEC 9075:1992, 7.9).
 #[cycle(expressions)]
 fn item(cursor: &mut Cursor, levels: u8) -> Result<Item, Stop>
-    ensures { Parses (λ m. grammar.ItemOf (within m)) levels cursor.old cursor.new (viewed item_of result) }
+    ensures reads { Parses (λ m. grammar.ItemOf (within m)) levels cursor.old cursor.new (viewed item_of result) }
+    ensures placed { IfOk result (λ item. Stands cursor.old cursor.new (item_leaves item)) }
 {
     let value = expr::line(cursor, LineKind::Disjunction, levels)?;
     let alias = alias(cursor)?;
@@ -94,7 +102,8 @@ fn item(cursor: &mut Cursor, levels: u8) -> Result<Item, Stop>
 
 /// `[ AS name ]`.
 fn alias(cursor: &mut Cursor) -> Result<Option<Name>, Stop>
-    ensures { ParsesFlat (grammar.Optional (Reserved spec.As) grammar.NameAt) cursor.old cursor.new (viewed (option_map name_of) result) }
+    ensures reads { ParsesFlat (grammar.Optional (Reserved spec.As) grammar.NameAt) cursor.old cursor.new (viewed (option_map name_of) result) }
+    ensures placed { IfOk result (λ alias. Stands cursor.old cursor.new (if_there name_leaves alias)) }
 {
     if !cursor.eat_word(Word::As) {
         return Ok(None);
@@ -106,7 +115,8 @@ fn alias(cursor: &mut Cursor) -> Result<Option<Name>, Stop>
 /// `[ word expr ]`, the word being WHERE or HAVING (ISO/IEC 9075:1992, 7.6 and 7.8).
 #[cycle(expressions)]
 fn condition_behind(cursor: &mut Cursor, word: Word, levels: u8) -> Result<Option<Expr>, Stop>
-    ensures { Parses (λ m. grammar.ConditionOf (within m) (word_of word)) levels cursor.old cursor.new (viewed condition_of result) }
+    ensures reads { Parses (λ m. grammar.ConditionOf (within m) (word_of word)) levels cursor.old cursor.new (viewed condition_of result) }
+    ensures placed { has_leaf (leaf.Reserved (word_of word)) ≡ false → IfOk result (λ condition. Stands cursor.old cursor.new (if_there expr_leaves condition)) }
 {
     if !cursor.eat_word(word) {
         return Ok(None);
@@ -117,7 +127,8 @@ fn condition_behind(cursor: &mut Cursor, word: Word, levels: u8) -> Result<Optio
 
 /// `[ GROUP BY column { "," column } ]` (ISO/IEC 9075:1992, 7.7).
 fn groups(cursor: &mut Cursor) -> Result<Vec<ColumnReference>, Stop>
-    ensures { ParsesFlat grammar.GroupsAt cursor.old cursor.new (viewed (λ (xs : _). map column_of xs.items) result) }
+    ensures reads { ParsesFlat grammar.GroupsAt cursor.old cursor.new (viewed (λ (xs : _). map column_of xs.items) result) }
+    ensures placed { IfOk result (λ xs. Stands cursor.old cursor.new (all reference_leaves xs.items)) }
 {
     if !cursor.eat_word(Word::Group) {
         return Ok(Vec::new(cursor.alloc));
@@ -128,7 +139,8 @@ fn groups(cursor: &mut Cursor) -> Result<Vec<ColumnReference>, Stop>
 
 /// A query: `block [ ORDER BY key { "," key } ]` (ISO/IEC 9075:1992, 13.1).
 pub fn select(cursor: &mut Cursor, levels: u8) -> Result<Select, Stop>
-    ensures { Parses (λ m. grammar.SelectOf (within m)) levels cursor.old cursor.new (viewed select_of result) }
+    ensures reads { Parses (λ m. grammar.SelectOf (within m)) levels cursor.old cursor.new (viewed select_of result) }
+    ensures placed { IfOk result (λ select. Stands cursor.old cursor.new (select_leaves select)) }
 {
     let block = block(cursor, levels)?;
     let order = order(cursor)?;
@@ -136,7 +148,8 @@ pub fn select(cursor: &mut Cursor, levels: u8) -> Result<Select, Stop>
 }
 
 fn order(cursor: &mut Cursor) -> Result<Vec<Key>, Stop>
-    ensures { ParsesFlat grammar.OrderAt cursor.old cursor.new (viewed (λ (xs : _). map key_of xs.items) result) }
+    ensures reads { ParsesFlat grammar.OrderAt cursor.old cursor.new (viewed (λ (xs : _). map key_of xs.items) result) }
+    ensures placed { IfOk result (λ xs. Stands cursor.old cursor.new (all key_leaves xs.items)) }
 {
     if !cursor.eat_word(Word::Order) {
         return Ok(Vec::new(cursor.alloc));
@@ -147,7 +160,8 @@ fn order(cursor: &mut Cursor) -> Result<Vec<Key>, Stop>
 
 /// `name | count`.
 fn key_name(cursor: &mut Cursor) -> Result<KeyName, Stop>
-    ensures { ParsesFlat grammar.KeyNameAt cursor.old cursor.new (viewed key_name_of result) }
+    ensures reads { ParsesFlat grammar.KeyNameAt cursor.old cursor.new (viewed key_name_of result) }
+    ensures placed { IfOk result (λ name. Stands cursor.old cursor.new (key_name_leaves name)) }
 {
     if let Some(name) = cursor.take_name(TokenClass::Name)? {
         return Ok(KeyName::Name(name));
@@ -158,7 +172,8 @@ fn key_name(cursor: &mut Cursor) -> Result<KeyName, Stop>
 
 /// `[ ASC | DESC ]`, whether DESC.
 fn descending(cursor: &mut Cursor) -> bool
-    ensures { Given grammar.DirectionAt cursor.old cursor.new result }
+    ensures reads { Given grammar.DirectionAt cursor.old cursor.new result }
+    ensures placed { Stands cursor.old cursor.new [] }
 {
     if cursor.eat_word(Word::Asc) {
         return false;
@@ -171,6 +186,7 @@ impl Element for Source {
     ghost use Rattle.definitions.specs.Grammar.{SourceAt};
     ghost use Rattle.definitions.proofs.Grammar.{source_alike};
     ghost use Rattle.trees.specs.Trees.{source_of};
+    ghost use Rattle.syntax.specs.Places.{source_leaves};
 
     ghost Tree = { Source };
 
@@ -179,6 +195,8 @@ impl Element for Source {
     ghost reads_one_way = { source_alike };
 
     ghost tree_of = { source_of };
+
+    ghost leaves = { source_leaves };
 
     /// `name [ name ]` (ISO/IEC 9075:1992, 6.3).
     fn read(cursor: &mut Cursor) -> Result<Source, Stop> {
@@ -193,6 +211,7 @@ impl Element for ColumnReference {
     ghost use Rattle.definitions.specs.Grammar.{ReferenceAt};
     ghost use Rattle.definitions.proofs.Grammar.{reference_alike};
     ghost use Rattle.trees.specs.Trees.{column_of};
+    ghost use Rattle.syntax.specs.Places.{reference_leaves};
 
     ghost Tree = { ColumnReference };
 
@@ -201,6 +220,8 @@ impl Element for ColumnReference {
     ghost reads_one_way = { reference_alike };
 
     ghost tree_of = { column_of };
+
+    ghost leaves = { reference_leaves };
 
     fn read(cursor: &mut Cursor) -> Result<ColumnReference, Stop> {
         expr::column_reference(cursor, TokenClass::Name)
@@ -212,6 +233,7 @@ impl Element for Key {
     ghost use Rattle.definitions.specs.Grammar.{KeyAt};
     ghost use Rattle.definitions.proofs.Grammar.{key_alike};
     ghost use Rattle.trees.specs.Trees.{key_of};
+    ghost use Rattle.syntax.specs.Places.{key_leaves};
 
     ghost Tree = { Key };
 
@@ -220,6 +242,8 @@ impl Element for Key {
     ghost reads_one_way = { key_alike };
 
     ghost tree_of = { key_of };
+
+    ghost leaves = { key_leaves };
 
     /// `(name | count) [ ASC | DESC ]` (ISO/IEC 9075:1992, 13.1).
     fn read(cursor: &mut Cursor) -> Result<Key, Stop> {

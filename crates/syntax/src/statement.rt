@@ -1,11 +1,13 @@
 //! Statements other than queries.
 
-ghost use Rattle.std.specs.Prelude.{◌≡◌, map, option_map};
+ghost use Rattle.std.specs.Prelude.{◌≡◌, [], IfOk, map, option_map};
 ghost use Rattle.definitions.specs.Grammar as grammar;
 ghost use Rattle.definitions.specs.Grammar.{within};
 ghost use Rattle.trees.specs.Trees.{bound_of, constraint_of, figures_of, name_of, range_of, statement_of};
 ghost use Rattle.sqlvalue.specs.Meaning.{declared_of};
+ghost use Rattle.cursor.specs.Places.{Stands, if_there, name_leaves};
 ghost use Rattle.cursor.specs.Reading.{Parses, ParsesFlat, viewed};
+ghost use Rattle.syntax.specs.Places.{all, bound_leaves, figures_leaves, range_leaves, statement_leaves};
 
 use crate::element::{Element, comma_list};
 use crate::query;
@@ -15,7 +17,8 @@ use sqlvalue::DeclaredType;
 use trees::{Bound, ColumnDefinition, Constraint, IndexFigures, Name, Range, Statement};
 
 pub fn statement(cursor: &mut Cursor, levels: u8) -> Result<Statement, Stop>
-    ensures { Parses (λ m. grammar.StatementOf (within m)) levels cursor.old cursor.new (viewed statement_of result) }
+    ensures reads { Parses (λ m. grammar.StatementOf (within m)) levels cursor.old cursor.new (viewed statement_of result) }
+    ensures placed { IfOk result (λ statement. Stands cursor.old cursor.new (statement_leaves statement)) }
 {
     if cursor.eat_word(Word::Create) {
         create(cursor)
@@ -34,7 +37,8 @@ pub fn statement(cursor: &mut Cursor, levels: u8) -> Result<Statement, Stop>
 
 /// What stands behind CREATE.
 fn create(cursor: &mut Cursor) -> Result<Statement, Stop>
-    ensures { ParsesFlat grammar.CreateAt cursor.old cursor.new (viewed statement_of result) }
+    ensures reads { ParsesFlat grammar.CreateAt cursor.old cursor.new (viewed statement_of result) }
+    ensures placed { IfOk result (λ statement. Stands cursor.old cursor.new (statement_leaves statement)) }
 {
     if cursor.eat_word(Word::Table) {
         create_table(cursor)
@@ -45,7 +49,8 @@ fn create(cursor: &mut Cursor) -> Result<Statement, Stop>
 
 /// `name "(" column { "," column } ")"` (ISO/IEC 9075:1992, 11.3).
 fn create_table(cursor: &mut Cursor) -> Result<Statement, Stop>
-    ensures { ParsesFlat grammar.TableAt cursor.old cursor.new (viewed statement_of result) }
+    ensures reads { ParsesFlat grammar.TableAt cursor.old cursor.new (viewed statement_of result) }
+    ensures placed { IfOk result (λ statement. Stands cursor.old cursor.new (statement_leaves statement)) }
 {
     let name = cursor.name(TokenClass::Name)?;
     cursor.expect_symbol(Symbol::OpenParen)?;
@@ -56,7 +61,8 @@ fn create_table(cursor: &mut Cursor) -> Result<Statement, Stop>
 
 /// `[ UNIQUE ] INDEX ON name names` (own).
 fn create_index(cursor: &mut Cursor) -> Result<Statement, Stop>
-    ensures { ParsesFlat grammar.IndexAt cursor.old cursor.new (viewed statement_of result) }
+    ensures reads { ParsesFlat grammar.IndexAt cursor.old cursor.new (viewed statement_of result) }
+    ensures placed { IfOk result (λ statement. Stands cursor.old cursor.new (statement_leaves statement)) }
 {
     let unique = cursor.eat_word(Word::Unique);
     cursor.expect_word(Word::Index)?;
@@ -72,7 +78,8 @@ fn create_index(cursor: &mut Cursor) -> Result<Statement, Stop>
 
 /// `"(" name { "," name } ")"`.
 fn names(cursor: &mut Cursor) -> Result<Vec<Name>, Stop>
-    ensures { ParsesFlat grammar.NamesAt cursor.old cursor.new (viewed (λ (xs : _). map name_of xs.items) result) }
+    ensures reads { ParsesFlat grammar.NamesAt cursor.old cursor.new (viewed (λ (xs : _). map name_of xs.items) result) }
+    ensures placed { IfOk result (λ xs. Stands cursor.old cursor.new (all name_leaves xs.items)) }
 {
     cursor.expect_symbol(Symbol::OpenParen)?;
     let names = comma_list::<Name>(cursor)?;
@@ -82,7 +89,8 @@ fn names(cursor: &mut Cursor) -> Result<Vec<Name>, Stop>
 
 /// A type (ISO/IEC 9075:1992, 6.1).
 fn declared_type(cursor: &mut Cursor) -> Result<DeclaredType, Stop>
-    ensures { ParsesFlat grammar.TypeAt cursor.old cursor.new (viewed declared_of result) }
+    ensures reads { ParsesFlat grammar.TypeAt cursor.old cursor.new (viewed declared_of result) }
+    ensures placed { IfOk result (λ declared. Stands cursor.old cursor.new []) }
 {
     let Some(word) = cursor.take_type_word() else {
         return Err(cursor.stop());
@@ -97,7 +105,8 @@ fn declared_type(cursor: &mut Cursor) -> Result<DeclaredType, Stop>
 
 /// `"(" count [ "," count ] ")"`; the scale is 0 if none is written.
 fn numeric_parameters(cursor: &mut Cursor) -> Result<DeclaredType, Stop>
-    ensures { ParsesFlat grammar.ParametersAt cursor.old cursor.new (viewed declared_of result) }
+    ensures reads { ParsesFlat grammar.ParametersAt cursor.old cursor.new (viewed declared_of result) }
+    ensures placed { IfOk result (λ declared. Stands cursor.old cursor.new []) }
 {
     cursor.expect_symbol(Symbol::OpenParen)?;
     let precision = cursor.count()?;
@@ -111,7 +120,8 @@ fn numeric_parameters(cursor: &mut Cursor) -> Result<DeclaredType, Stop>
 
 /// `[ "," count ]`, or 0.
 fn scale(cursor: &mut Cursor) -> Result<u128, Stop>
-    ensures { ParsesFlat grammar.ScaleAt cursor.old cursor.new (viewed (λ scale. scale) result) }
+    ensures reads { ParsesFlat grammar.ScaleAt cursor.old cursor.new (viewed (λ scale. scale) result) }
+    ensures placed { IfOk result (λ scale. Stands cursor.old cursor.new []) }
 {
     if !cursor.eat_symbol(Symbol::Comma) {
         return Ok(0);
@@ -122,7 +132,8 @@ fn scale(cursor: &mut Cursor) -> Result<u128, Stop>
 
 /// `[ "(" count ")" ]`; the length is 1 if none is written.
 fn char_length(cursor: &mut Cursor) -> Result<DeclaredType, Stop>
-    ensures { ParsesFlat grammar.LengthAt cursor.old cursor.new (viewed declared_of result) }
+    ensures reads { ParsesFlat grammar.LengthAt cursor.old cursor.new (viewed declared_of result) }
+    ensures placed { IfOk result (λ declared. Stands cursor.old cursor.new []) }
 {
     if !cursor.eat_symbol(Symbol::OpenParen) {
         return Ok(DeclaredType::Char { length: 1 });
@@ -136,7 +147,8 @@ fn char_length(cursor: &mut Cursor) -> Result<DeclaredType, Stop>
 
 /// `[ NOT NULL [ UNIQUE | PRIMARY KEY ] ]` (ISO/IEC 9075:1992, 11.4 and 11.7).
 fn constraint(cursor: &mut Cursor) -> Result<Constraint, Stop>
-    ensures { ParsesFlat grammar.ConstraintAt cursor.old cursor.new (viewed constraint_of result) }
+    ensures reads { ParsesFlat grammar.ConstraintAt cursor.old cursor.new (viewed constraint_of result) }
+    ensures placed { IfOk result (λ constraint. Stands cursor.old cursor.new []) }
 {
     if !cursor.eat_word(Word::Not) {
         return Ok(Constraint::Nullable);
@@ -154,7 +166,8 @@ fn constraint(cursor: &mut Cursor) -> Result<Constraint, Stop>
 
 /// `name FROM string` (own).
 fn load(cursor: &mut Cursor) -> Result<Statement, Stop>
-    ensures { ParsesFlat grammar.LoadAt cursor.old cursor.new (viewed statement_of result) }
+    ensures reads { ParsesFlat grammar.LoadAt cursor.old cursor.new (viewed statement_of result) }
+    ensures placed { IfOk result (λ statement. Stands cursor.old cursor.new (statement_leaves statement)) }
 {
     let table = cursor.name(TokenClass::Name)?;
     cursor.expect_word(Word::From)?;
@@ -164,7 +177,8 @@ fn load(cursor: &mut Cursor) -> Result<Statement, Stop>
 
 /// What stands behind SET (own).
 fn set_statistics(cursor: &mut Cursor) -> Result<Statement, Stop>
-    ensures { ParsesFlat grammar.SetAt cursor.old cursor.new (viewed statement_of result) }
+    ensures reads { ParsesFlat grammar.SetAt cursor.old cursor.new (viewed statement_of result) }
+    ensures placed { IfOk result (λ statement. Stands cursor.old cursor.new (statement_leaves statement)) }
 {
     cursor.expect_word(Word::Statistics)?;
     let table = cursor.name(TokenClass::Name)?;
@@ -185,7 +199,8 @@ fn set_statistics(cursor: &mut Cursor) -> Result<Statement, Stop>
 
 /// `KEYS count PAGES count [ CLUSTERED ] [ LOW bound HIGH bound ]`.
 fn index_figures(cursor: &mut Cursor) -> Result<IndexFigures, Stop>
-    ensures { ParsesFlat grammar.FiguresAt cursor.old cursor.new (viewed figures_of result) }
+    ensures reads { ParsesFlat grammar.FiguresAt cursor.old cursor.new (viewed figures_of result) }
+    ensures placed { IfOk result (λ figures. Stands cursor.old cursor.new (figures_leaves figures)) }
 {
     cursor.expect_word(Word::Keys)?;
     let keys = cursor.count()?;
@@ -202,7 +217,8 @@ fn index_figures(cursor: &mut Cursor) -> Result<IndexFigures, Stop>
 }
 
 fn range(cursor: &mut Cursor) -> Result<Option<Range>, Stop>
-    ensures { ParsesFlat grammar.RangeAt cursor.old cursor.new (viewed (option_map range_of) result) }
+    ensures reads { ParsesFlat grammar.RangeAt cursor.old cursor.new (viewed (option_map range_of) result) }
+    ensures placed { IfOk result (λ range. Stands cursor.old cursor.new (if_there range_leaves range)) }
 {
     if !cursor.eat_word(Word::Low) {
         return Ok(None);
@@ -215,7 +231,8 @@ fn range(cursor: &mut Cursor) -> Result<Option<Range>, Stop>
 
 /// `[ "+" | "-" ] number` (ISO/IEC 9075:1992, 5.3).
 fn bound(cursor: &mut Cursor) -> Result<Bound, Stop>
-    ensures { ParsesFlat grammar.BoundAt cursor.old cursor.new (viewed bound_of result) }
+    ensures reads { ParsesFlat grammar.BoundAt cursor.old cursor.new (viewed bound_of result) }
+    ensures placed { IfOk result (λ bound. Stands cursor.old cursor.new (bound_leaves bound)) }
 {
     let minus = cursor.take_sign(TokenClass::Number).unwrap_or(false);
     let Some(number) = cursor.take_number(TokenClass::Number) else {
@@ -229,6 +246,7 @@ impl Element for Name {
     ghost use Rattle.definitions.specs.Grammar.{NameAt};
     ghost use Rattle.definitions.proofs.Grammar.{name_alike};
     ghost use Rattle.trees.specs.Trees.{name_of};
+    ghost use Rattle.cursor.specs.Places.{name_leaves};
 
     ghost Tree = { Name };
 
@@ -237,6 +255,8 @@ impl Element for Name {
     ghost reads_one_way = { name_alike };
 
     ghost tree_of = { name_of };
+
+    ghost leaves = { name_leaves };
 
     fn read(cursor: &mut Cursor) -> Result<Name, Stop> {
         cursor.name(TokenClass::Name)
@@ -248,6 +268,7 @@ impl Element for ColumnDefinition {
     ghost use Rattle.definitions.specs.Grammar.{ColumnAt};
     ghost use Rattle.definitions.proofs.Grammar.{column_alike};
     ghost use Rattle.trees.specs.Trees.{definition_of};
+    ghost use Rattle.syntax.specs.Places.{definition_leaves};
 
     ghost Tree = { ColumnDefinition };
 
@@ -256,6 +277,8 @@ impl Element for ColumnDefinition {
     ghost reads_one_way = { column_alike };
 
     ghost tree_of = { definition_of };
+
+    ghost leaves = { definition_leaves };
 
     /// `name type [ constraint ]` (ISO/IEC 9075:1992, 11.4).
     fn read(cursor: &mut Cursor) -> Result<ColumnDefinition, Stop> {

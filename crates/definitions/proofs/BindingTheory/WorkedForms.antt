@@ -1,11 +1,11 @@
--- The law of formed blocks on a query, and why its literals have to be such as can be written. No claim rests on it.
+-- Blocks that are well formed, by the law and by hand.
 use Rattle.std.proofs.Common.{refl, lit≤, lit<, [], arith}
 use Rattle.std.proofs.lemmas.Int.{ints}
 use Rattle.definitions.specs.Invariant.{IsDatabase}
-use Rattle.definitions.specs.Queries.BoundBlock as b
 use Rattle.definitions.specs.Binding.BoundForm.{bound_form}
-use Rattle.definitions.specs.Binding.Formed.{AreWritten, AreFormed, IsFormedValue}
-use Rattle.definitions.proofs.BindingTheory.WorkedBindings.{t_and_u, faultless, faultless_is_accepted, two_blocks, outer_block}
+use Rattle.definitions.specs.Binding.Formed.{AreWritten, AreFormed}
+use Rattle.definitions.specs.Examples.Binding.{t_and_u, faultless, FormedBlocks}
+use Rattle.definitions.proofs.BindingTheory.WorkedBindings.{faultless_is_accepted, correlated_is_formed}
 use Rattle.definitions.proofs.BindingTheory.AcceptedQueries.{accepted_queries_are_formed}
 
 t_and_u_is_database : IsDatabase t_and_u
@@ -51,9 +51,15 @@ t_and_u_is_database = record {
 faultless_is_written : AreWritten t_and_u faultless
 faultless_is_written = (((tt, (tt, ((lit< tt, lit≤ tt), (tt, tt)))), lit< tt), tt)
 
-pub faultless_is_formed : AreFormed t_and_u (bound_form t_and_u faultless) [] 0
+faultless_is_formed : AreFormed t_and_u (bound_form t_and_u faultless) [] 0
 faultless_is_formed = accepted_queries_are_formed t_and_u faultless t_and_u_is_database faultless_is_written faultless_is_accepted
 
--- a numeral of one digit that has the units 10 is none that can be written, and not formed
-pub ten_of_one_digit : IsFormedValue t_and_u two_blocks [] 0 outer_block (b.Numeral 10 1 0) → ⊥
-ten_of_one_digit h = omega (arith, h)
+pub formed_blocks : FormedBlocks
+formed_blocks = record {
+  correlated_binds = refl;
+  correlated_is_formed = correlated_is_formed;
+  key_past_items = λ h. omega (arith, h.order.0);
+  inner_block_in_front = λ h. omega (arith, h.condition.2.0);
+  faultless_is_formed = faultless_is_formed;
+  ten_of_one_digit = λ h. omega (arith, h);
+}

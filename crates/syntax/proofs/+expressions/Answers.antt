@@ -19,6 +19,13 @@ use Rattle.trees.proofs.Views.{of_column, of_numeral, of_string, of_signed, of_n
 use Rattle.definitions.specs.Grammar as g
 use Rattle.definitions.proofs.Grammar.{closed_alike, optional_alike, list_alike, name_alike, reference_alike, source_alike, distinct_alike, groups_alike, sum_alike, expr_alike, item_alike, select_list_alike, condition_alike, block_alike, subquery_alike, member_alike, within_alike}
 use Rattle.cursor.proofs.Outcomes.{gives_as, then_on, flat_on, past_on, sees_on, misses_on, reads_on, reads_not_on, if_on, gives, past_fails, never_fails, then_fails, no_memory, answers, begins}
+use Rattle.cursor.specs.Places.{Reserved, Mark, one, if_there}
+use Rattle.cursor.proofs.Places.{ok_then, ok_goes_on, ok_behind, ok_behind_either, here, on, stays, still, seen_as, no_more, past, past_leaf, leaf_here, says_leaf, says_passed}
+use Rattle.syntax.specs.Places.{all, expr_leaves, block_leaves, item_leaves, operand_leaves, sign_leaf, op_leaf, function_leaf}
+use Rattle.syntax.proofs.Places as leaves
+use Rattle.definitions.specs.Word as words
+use Rattle.syntax.proofs.Lines.{no_operand}
+use Rattle.std.proofs.Common.{append-nil}
 use Rattle.syntax.proofs.+expressions.Goals as goal
 
 different : {b : Bool} → b ≡ true → b ≡ false → ⊥
@@ -40,455 +47,600 @@ unstarred tree.Avg at out = begins at.1 out
 unstarred tree.Min at out = begins at.1 out
 unstarred tree.Max at out = begins at.1 out
 
-pub expr::line-returns-in_err-head : goal.expr::line-returns-in_err-head
-expr::line-returns-in_err-head i c = answers _ _ (search rules) (is_line (line_kind c.args.kind) (then_fails c.in_err-head.ensures))
+pub expr::line-returns-in_err-head-clause-reads : goal.expr::line-returns-in_err-head-clause-reads
+expr::line-returns-in_err-head-clause-reads i c = answers _ _ (search rules) (is_line (line_kind c.args.kind) (then_fails c.in_err-head.ensures.reads))
 
 pub expr::line-operands-init : goal.expr::line-operands-init
-expr::line-operands-init i c = subst (λ xs. Lines (line_kind c.args.kind) c.args.levels c.args.levels c.args.cursor.now c.operand.new.cursor (expr_of c.in_ok-head.head) xs) (sym (ap (map operand_of) c.new-others.ensures.items)) (line_begins (line_kind c.args.kind) c.args.levels c.args.levels c.args.cursor.now c.operand.new.cursor (expr_of c.in_ok-head.head) c.args.levels c.in_ok-head.ensures)
+expr::line-operands-init i c = record {
+  reads = subst (λ xs. Lines (line_kind c.args.kind) c.args.levels c.args.levels c.args.cursor.now c.operand.new.cursor (expr_of c.in_ok-head.head) xs) (sym (ap (map operand_of) c.new-others.ensures.items)) (line_begins (line_kind c.args.kind) c.args.levels c.args.levels c.args.cursor.now c.operand.new.cursor (expr_of c.in_ok-head.head) c.args.levels c.in_ok-head.ensures.reads);
+  placed = seen_as (ap (λ xs. expr_leaves c.in_ok-head.head ++ all operand_leaves xs) c.new-others.ensures.items ∙ append-nil _) c.in_ok-head.ensures.placed;
+}
 
-pub expr::line-returns-in_err-value : goal.expr::line-returns-in_err-value
-expr::line-returns-in_err-value i c = answers _ _ (search rules) (line_fails (line_kind c.args.kind) c.args.levels c.args.levels c.args.cursor.now c.operands.cursor c.take_line_operator.new.self c.operand-in-operands.new.cursor _ _ _ _ c.operands.invariant c.in-Some.ensures c.in_err-value.ensures)
+pub expr::line-returns-in_err-value-clause-reads : goal.expr::line-returns-in_err-value-clause-reads
+expr::line-returns-in_err-value-clause-reads i c = answers _ _ (search rules) (line_fails (line_kind c.args.kind) c.args.levels c.args.levels c.args.cursor.now c.operands.cursor c.take_line_operator.new.self c.operand-in-operands.new.cursor _ _ _ _ c.operands.invariant.reads c.in-Some.ensures c.in_err-value.ensures.reads)
 
-pub expr::line-returns-in_err-push : goal.expr::line-returns-in_err-push
-expr::line-returns-in_err-push i c = answers _ _ (search rules) (no_memory refl)
+pub expr::line-returns-in_err-push-clause-reads : goal.expr::line-returns-in_err-push-clause-reads
+expr::line-returns-in_err-push-clause-reads i c = answers _ _ (search rules) (no_memory refl)
 
 pub expr::line-operands-smaller : goal.expr::line-operands-smaller
-expr::line-operands-smaller i c = fewer (line_kind c.args.kind) c.args.levels c.args.levels c.operands.cursor c.take_line_operator.new.self c.operand-in-operands.new.cursor _ _ c.args.levels c.in-Some.ensures c.in_ok-value.ensures
+expr::line-operands-smaller i c = fewer (line_kind c.args.kind) c.args.levels c.args.levels c.operands.cursor c.take_line_operator.new.self c.operand-in-operands.new.cursor _ _ c.args.levels c.in-Some.ensures c.in_ok-value.ensures.reads
 
 pub expr::line-operands-preserved : goal.expr::line-operands-preserved
-expr::line-operands-preserved i c = subst (λ xs. Lines (line_kind c.args.kind) c.args.levels c.args.levels c.args.cursor.now c.operand-in-operands.new.cursor (expr_of c.operands.head-1) xs) (sym (ap (map operand_of) c.in_ok-push.ensures.items ∙ map_push _ _ _ ∙ ap (λ x. map operand_of c.operands.others.items ++ x ∷ []) (of_operand _))) (line_goes_on (line_kind c.args.kind) c.args.levels c.args.levels c.args.cursor.now c.operands.cursor c.take_line_operator.new.self c.operand-in-operands.new.cursor _ _ _ _ c.args.levels c.operands.invariant c.in-Some.ensures c.in_ok-value.ensures)
+expr::line-operands-preserved i c = record {
+  reads = subst (λ xs. Lines (line_kind c.args.kind) c.args.levels c.args.levels c.args.cursor.now c.operand-in-operands.new.cursor (expr_of c.operands.head-1) xs) (sym (ap (map operand_of) c.in_ok-push.ensures.items ∙ map_push _ _ _ ∙ ap (λ x. map operand_of c.operands.others.items ++ x ∷ []) (of_operand _))) (line_goes_on (line_kind c.args.kind) c.args.levels c.args.levels c.args.cursor.now c.operands.cursor c.take_line_operator.new.self c.operand-in-operands.new.cursor _ _ _ _ c.args.levels c.operands.invariant.reads c.in-Some.ensures c.in_ok-value.ensures.reads);
+  placed = seen_as (ap (λ xs. expr_leaves c.operands.head-1 ++ all operand_leaves xs) c.in_ok-push.ensures.items ∙ leaves.all_behind (expr_leaves c.operands.head-1) operand_leaves c.operands.others.items _ ∙ ap (λ z. (expr_leaves c.operands.head-1 ++ all operand_leaves c.operands.others.items) ++ z) (leaves.of_operand _))
+      (on c.operands.invariant.placed (on (leaf_here (leaves.operator_says _ _ _ c.in-Some.ensures.0) c.in-Some.ensures.1 c.start-start.ensures) c.in_ok-value.ensures.placed));
+}
 
-pub expr::line-returns-then-is_empty : goal.expr::line-returns-then-is_empty
-expr::line-returns-then-is_empty i c = subst (λ z. Outcome (LineAt (line_kind c.args.kind)) c.args.levels c.args.levels c.args.cursor.now c.take_line_operator.new.self (Ok z)) (alone (expr_of c.operands.head-1) c.operands.others _ c.is_empty.ensures c.if-is_empty.true) (line_ends (line_kind c.args.kind) c.args.levels c.args.levels c.args.cursor.now c.operands.cursor c.take_line_operator.new.self (expr_of c.operands.head-1) (map operand_of c.operands.others.items) c.operands.invariant c.in_default.ensures)
+pub expr::line-returns-then-is_empty-clause-reads : goal.expr::line-returns-then-is_empty-clause-reads
+expr::line-returns-then-is_empty-clause-reads i c = subst (λ z. Outcome (LineAt (line_kind c.args.kind)) c.args.levels c.args.levels c.args.cursor.now c.take_line_operator.new.self (Ok z)) (alone (expr_of c.operands.head-1) c.operands.others _ c.is_empty.ensures c.if-is_empty.true) (line_ends (line_kind c.args.kind) c.args.levels c.args.levels c.args.cursor.now c.operands.cursor c.take_line_operator.new.self (expr_of c.operands.head-1) (map operand_of c.operands.others.items) c.operands.invariant.reads c.in_default.ensures)
 
-pub expr::line-returns-in_err-first : goal.expr::line-returns-in_err-first
-expr::line-returns-in_err-first i c = answers _ _ (search rules) (no_memory refl)
+pub expr::line-returns-then-is_empty-clause-placed : goal.expr::line-returns-then-is_empty-clause-placed
+expr::line-returns-then-is_empty-clause-placed i c = seen_as (sym (ap (λ xs. expr_leaves c.operands.head-1 ++ all operand_leaves xs) (no_operand c.operands.others _ c.is_empty.ensures c.if-is_empty.true) ∙ append-nil _)) (stays c.operands.invariant.placed c.in_default.ensures.1)
 
-pub expr::line-returns : goal.expr::line-returns
-expr::line-returns i c = subst (λ z. Outcome (LineAt (line_kind c.args.kind)) c.args.levels c.args.levels c.args.cursor.now c.take_line_operator.new.self (Ok z)) (ap (λ e. g.line (expr_of e) (g.operands (map operand_of c.operands.others.items))) (sym c.in_ok-first.ensures.ok) ∙ several _ c.operands.others _ c.is_empty.ensures c.if-is_empty.false ∙ sym (of_line _ _)) (line_ends (line_kind c.args.kind) c.args.levels c.args.levels c.args.cursor.now c.operands.cursor c.take_line_operator.new.self (expr_of c.operands.head-1) (map operand_of c.operands.others.items) c.operands.invariant c.in_default.ensures)
+pub expr::line-returns-in_err-first-clause-reads : goal.expr::line-returns-in_err-first-clause-reads
+expr::line-returns-in_err-first-clause-reads i c = answers _ _ (search rules) (no_memory refl)
 
-pub expr::operand-returns-in-Disjunction : goal.expr::operand-returns-in-Disjunction
-expr::operand-returns-in-Disjunction i c = rw c.in-Disjunction.is c.line.ensures
+pub expr::line-returns-clause-reads : goal.expr::line-returns-clause-reads
+expr::line-returns-clause-reads i c = subst (λ z. Outcome (LineAt (line_kind c.args.kind)) c.args.levels c.args.levels c.args.cursor.now c.take_line_operator.new.self (Ok z)) (ap (λ e. g.line (expr_of e) (g.operands (map operand_of c.operands.others.items))) (sym c.in_ok-first.ensures.ok) ∙ several _ c.operands.others _ c.is_empty.ensures c.if-is_empty.false ∙ sym (of_line _ _)) (line_ends (line_kind c.args.kind) c.args.levels c.args.levels c.args.cursor.now c.operands.cursor c.take_line_operator.new.self (expr_of c.operands.head-1) (map operand_of c.operands.others.items) c.operands.invariant.reads c.in_default.ensures)
 
-pub expr::operand-returns-in-Conjunction : goal.expr::operand-returns-in-Conjunction
-expr::operand-returns-in-Conjunction i c = rw c.in-Conjunction.is c.negation.ensures
+pub expr::line-returns-clause-placed : goal.expr::line-returns-clause-placed
+expr::line-returns-clause-placed i c = seen_as (leaves.of_line _ _ ∙ ap (λ z. expr_leaves z ++ all operand_leaves c.operands.others.items) c.in_ok-first.ensures.ok) (stays c.operands.invariant.placed c.in_default.ensures.1)
 
-pub expr::operand-returns-in-Sum : goal.expr::operand-returns-in-Sum
-expr::operand-returns-in-Sum i c = rw c.in-Sum.is c.line-in-Sum.ensures
+pub expr::operand-returns-in-Disjunction-clause-reads : goal.expr::operand-returns-in-Disjunction-clause-reads
+expr::operand-returns-in-Disjunction-clause-reads i c = rw c.in-Disjunction.is c.line.ensures.reads
 
-pub expr::operand-returns-in-Product : goal.expr::operand-returns-in-Product
-expr::operand-returns-in-Product i c = rw c.in-Product.is c.signed.ensures
+pub expr::operand-returns-in-Conjunction-clause-reads : goal.expr::operand-returns-in-Conjunction-clause-reads
+expr::operand-returns-in-Conjunction-clause-reads i c = rw c.in-Conjunction.is c.negation.ensures.reads
 
-pub expr::negation-returns-then-not-eat_word : goal.expr::negation-returns-then-not-eat_word
+pub expr::operand-returns-in-Sum-clause-reads : goal.expr::operand-returns-in-Sum-clause-reads
+expr::operand-returns-in-Sum-clause-reads i c = rw c.in-Sum.is c.line-in-Sum.ensures.reads
+
+pub expr::operand-returns-in-Product-clause-reads : goal.expr::operand-returns-in-Product-clause-reads
+expr::operand-returns-in-Product-clause-reads i c = rw c.in-Product.is c.signed.ensures.reads
+
+pub expr::negation-returns-then-not-eat_word-clause-reads : goal.expr::negation-returns-then-not-eat_word-clause-reads
 unfolding g.NegationOf
-expr::negation-returns-then-not-eat_word i c = misses_on c.if-not-eat_word.ensures c.test.ensures
+expr::negation-returns-then-not-eat_word-clause-reads i c = misses_on c.if-not-eat_word.ensures c.test.ensures.reads
 
-pub expr::negation-returns-in_err-below : goal.expr::negation-returns-in_err-below
+pub expr::negation-returns-then-not-eat_word-clause-placed : goal.expr::negation-returns-then-not-eat_word-clause-placed
+expr::negation-returns-then-not-eat_word-clause-placed i c = ok_then _ c.test.ensures.placed (λ e d. on (stays here c.if-not-eat_word.ensures.1) d)
+
+pub expr::negation-returns-in_err-below-clause-reads : goal.expr::negation-returns-in_err-below-clause-reads
 unfolding g.NegationOf
-expr::negation-returns-in_err-below i c = answers _ _ (search rules) (deep_if (λ us at. nowhere_first us at (nowhere_never us at)) refl c.if-not-eat_word.ensures c.in_err-below.ensures.deep)
+expr::negation-returns-in_err-below-clause-reads i c = answers _ _ (search rules) (deep_if (λ us at. nowhere_first us at (nowhere_never us at)) refl c.if-not-eat_word.ensures c.in_err-below.ensures.deep)
 
-pub expr::negation-returns-in_err-operand : goal.expr::negation-returns-in_err-operand
+pub expr::negation-returns-in_err-operand-clause-reads : goal.expr::negation-returns-in_err-operand-clause-reads
 unfolding g.NegationOf
-expr::negation-returns-in_err-operand i c = answers _ _ (search rules) (opens_if c.in_ok-below.ensures.ok refl c.if-not-eat_word.ensures (then_fails (inside (λ us at. nowhere_never us at) c.in_err-operand.ensures)))
+expr::negation-returns-in_err-operand-clause-reads i c = answers _ _ (search rules) (opens_if c.in_ok-below.ensures.ok refl c.if-not-eat_word.ensures (then_fails (inside (λ us at. nowhere_never us at) c.in_err-operand.ensures.reads)))
 
-pub expr::negation-returns-in_err-operand-2 : goal.expr::negation-returns-in_err-operand-2
-expr::negation-returns-in_err-operand-2 i c = answers _ _ (search rules) (no_memory refl)
+pub expr::negation-returns-in_err-operand-2-clause-reads : goal.expr::negation-returns-in_err-operand-2-clause-reads
+expr::negation-returns-in_err-operand-2-clause-reads i c = answers _ _ (search rules) (no_memory refl)
 
-pub expr::negation-returns : goal.expr::negation-returns
+pub expr::negation-returns-clause-reads : goal.expr::negation-returns-clause-reads
 unfolding g.NegationOf
-expr::negation-returns i c = opens_if c.in_ok-below.ensures.ok refl c.if-not-eat_word.ensures (then_on (λ m. (within_alike (suc c.in_ok-below.below) m).negation) (inside (λ us at. nowhere_never us at) c.in_ok-operand.ensures) (gives_as (of_not _ _ ∙ ap (λ z. tree.Not (expr_of z)) c.in_ok-operand-2.ensures.ok)))
+expr::negation-returns-clause-reads i c = opens_if c.in_ok-below.ensures.ok refl c.if-not-eat_word.ensures (then_on (λ m. (within_alike (suc c.in_ok-below.below) m).negation) (inside (λ us at. nowhere_never us at) c.in_ok-operand.ensures.reads) (gives_as (of_not _ _ ∙ ap (λ z. tree.Not (expr_of z)) c.in_ok-operand-2.ensures.ok)))
 
-pub expr::test-returns-in_err-value : goal.expr::test-returns-in_err-value
+pub expr::negation-returns-clause-placed : goal.expr::negation-returns-clause-placed
+expr::negation-returns-clause-placed i c = seen_as (leaves.of_not _ _ ∙ ap (λ z. one (Reserved words.Not) c.start-start.result ++ expr_leaves z) c.in_ok-operand-2.ensures.ok) (on (past_leaf here c.start-start.ensures c.if-not-eat_word.ensures) c.in_ok-operand.ensures.placed)
+
+pub expr::test-returns-in_err-value-clause-reads : goal.expr::test-returns-in_err-value-clause-reads
 unfolding g.TestOf
-expr::test-returns-in_err-value i c = answers _ _ (search rules) (then_fails c.in_err-value.ensures)
+expr::test-returns-in_err-value-clause-reads i c = answers _ _ (search rules) (then_fails c.in_err-value.ensures.reads)
 
-pub expr::test-returns : goal.expr::test-returns
+pub expr::test-returns-clause-reads : goal.expr::test-returns-clause-reads
 unfolding g.TestOf
-expr::test-returns i c = then_on (λ m. sum_alike (within_alike c.args.levels m)) c.in_ok-value.ensures c.tail.ensures
+expr::test-returns-clause-reads i c = then_on (λ m. sum_alike (within_alike c.args.levels m)) c.in_ok-value.ensures.reads c.tail.ensures.reads
 
-pub expr::tail-returns-in-Some : goal.expr::tail-returns-in-Some
+pub expr::test-returns-clause-placed : goal.expr::test-returns-clause-placed
+expr::test-returns-clause-placed i c = ok_behind _ _ _ c.tail.ensures.placed c.in_ok-value.ensures.placed
+
+pub expr::tail-returns-in-Some-clause-reads : goal.expr::tail-returns-in-Some-clause-reads
 unfolding g.TailOf
-expr::tail-returns-in-Some i c = reads_on c.in-Some.ensures c.compared.ensures
+expr::tail-returns-in-Some-clause-reads i c = reads_on c.in-Some.ensures c.compared.ensures.reads
 
-pub expr::tail-returns-then-eat_word_as : goal.expr::tail-returns-then-eat_word_as
+pub expr::tail-returns-in-Some-clause-placed : goal.expr::tail-returns-in-Some-clause-placed
+expr::tail-returns-in-Some-clause-placed i c = ok_goes_on _ _ _ c.compared.ensures.placed (λ from d. says_leaf leaves.op_says d c.start-start.ensures c.in-Some.ensures)
+
+pub expr::tail-returns-then-eat_word_as-clause-reads : goal.expr::tail-returns-then-eat_word_as-clause-reads
 unfolding g.TailOf
-expr::tail-returns-then-eat_word_as i c = reads_not_on c.in_default.ensures (if_on c.if-eat_word_as.ensures (c.null_test.ensures _ _))
+expr::tail-returns-then-eat_word_as-clause-reads i c = reads_not_on c.in_default.ensures (if_on c.if-eat_word_as.ensures (c.null_test.ensures.reads _ _))
 
-pub expr::tail-returns-then-eat_word_as-2 : goal.expr::tail-returns-then-eat_word_as-2
+pub expr::tail-returns-then-eat_word_as-clause-placed : goal.expr::tail-returns-then-eat_word_as-clause-placed
+expr::tail-returns-then-eat_word_as-clause-placed i c = ok_goes_on _ _ _ c.null_test.ensures.placed (λ from d. past_leaf (stays d c.in_default.ensures.1) (still c.start-start.ensures c.in_default.ensures.1) c.if-eat_word_as.ensures)
+
+pub expr::tail-returns-then-eat_word_as-2-clause-reads : goal.expr::tail-returns-then-eat_word_as-2-clause-reads
 unfolding g.TailOf
-expr::tail-returns-then-eat_word_as-2 i c = reads_not_on c.in_default.ensures (misses_on c.if-eat_word_as.ensures (if_on c.if-eat_word_as-2.ensures c.predicate.ensures))
+expr::tail-returns-then-eat_word_as-2-clause-reads i c = reads_not_on c.in_default.ensures (misses_on c.if-eat_word_as.ensures (if_on c.if-eat_word_as-2.ensures c.predicate.ensures.reads))
 
-pub expr::tail-returns-else-eat_word_as-2 : goal.expr::tail-returns-else-eat_word_as-2
+pub expr::tail-returns-then-eat_word_as-2-clause-placed : goal.expr::tail-returns-then-eat_word_as-2-clause-placed
+expr::tail-returns-then-eat_word_as-2-clause-placed i c = ok_goes_on _ _ _ c.predicate.ensures.placed (λ from d. past refl (stays (stays d c.in_default.ensures.1) c.if-eat_word_as.ensures.1) c.if-eat_word_as-2.ensures)
+
+pub expr::tail-returns-else-eat_word_as-2-clause-reads : goal.expr::tail-returns-else-eat_word_as-2-clause-reads
 unfolding g.TailOf
-expr::tail-returns-else-eat_word_as-2 i c = reads_not_on c.in_default.ensures (misses_on c.if-eat_word_as.ensures (misses_on c.if-eat_word_as-2.ensures c.predicate-else-eat_word_as-2.ensures))
+expr::tail-returns-else-eat_word_as-2-clause-reads i c = reads_not_on c.in_default.ensures (misses_on c.if-eat_word_as.ensures (misses_on c.if-eat_word_as-2.ensures c.predicate-else-eat_word_as-2.ensures.reads))
 
-pub expr::compared-returns-in_err-left : goal.expr::compared-returns-in_err-left
-expr::compared-returns-in_err-left i c = answers _ _ (search rules) (no_memory refl)
+pub expr::tail-returns-else-eat_word_as-2-clause-placed : goal.expr::tail-returns-else-eat_word_as-2-clause-placed
+expr::tail-returns-else-eat_word_as-2-clause-placed i c = ok_goes_on _ _ _ c.predicate-else-eat_word_as-2.ensures.placed (λ from d. stays (stays (stays d c.in_default.ensures.1) c.if-eat_word_as.ensures.1) c.if-eat_word_as-2.ensures.1)
 
-pub expr::compared-returns-in_err-right : goal.expr::compared-returns-in_err-right
+pub expr::compared-returns-in_err-left-clause-reads : goal.expr::compared-returns-in_err-left-clause-reads
+expr::compared-returns-in_err-left-clause-reads i c = answers _ _ (search rules) (no_memory refl)
+
+pub expr::compared-returns-in_err-right-clause-reads : goal.expr::compared-returns-in_err-right-clause-reads
 unfolding g.ComparedOf
-expr::compared-returns-in_err-right i c = answers _ _ (search rules) (reads_not_on c.in_default.ensures (then_fails c.in_err-right.ensures))
+expr::compared-returns-in_err-right-clause-reads i c = answers _ _ (search rules) (reads_not_on c.in_default.ensures (then_fails c.in_err-right.ensures.reads))
 
-pub expr::compared-returns-in_err-right-2 : goal.expr::compared-returns-in_err-right-2
-expr::compared-returns-in_err-right-2 i c = answers _ _ (search rules) (no_memory refl)
+pub expr::compared-returns-in_err-right-2-clause-reads : goal.expr::compared-returns-in_err-right-2-clause-reads
+expr::compared-returns-in_err-right-2-clause-reads i c = answers _ _ (search rules) (no_memory refl)
 
-pub expr::compared-returns-in_default : goal.expr::compared-returns-in_default
+pub expr::compared-returns-in_default-clause-reads : goal.expr::compared-returns-in_default-clause-reads
 unfolding g.ComparedOf
-expr::compared-returns-in_default i c = reads_not_on c.in_default.ensures (then_on (λ m. sum_alike (within_alike c.args.levels m)) c.in_ok-right.ensures (gives_as (of_compare _ _ _ _ ∙ ap₂ (λ x y. tree.Compare (op_of c.args.op) (expr_of x) (expr_of y)) c.in_ok-left.ensures.ok c.in_ok-right-2.ensures.ok)))
+expr::compared-returns-in_default-clause-reads i c = reads_not_on c.in_default.ensures (then_on (λ m. sum_alike (within_alike c.args.levels m)) c.in_ok-right.ensures.reads (gives_as (of_compare _ _ _ _ ∙ ap₂ (λ x y. tree.Compare (op_of c.args.op) (expr_of x) (expr_of y)) c.in_ok-left.ensures.ok c.in_ok-right-2.ensures.ok)))
 
-pub expr::compared-returns-in_err-expect_symbol : goal.expr::compared-returns-in_err-expect_symbol
+pub expr::compared-returns-in_default-clause-placed : goal.expr::compared-returns-in_default-clause-placed
+expr::compared-returns-in_default-clause-placed i c = λ from d. seen_as (leaves.of_compare _ _ _ _ ∙ ap₂ (λ x y. (expr_leaves x ++ one (op_leaf (op_of c.args.op)) c.args.start) ++ expr_leaves y) c.in_ok-left.ensures.ok c.in_ok-right-2.ensures.ok) (on (stays d c.in_default.ensures.1) c.in_ok-right.ensures.placed)
+
+pub expr::compared-returns-in_err-expect_symbol-clause-reads : goal.expr::compared-returns-in_err-expect_symbol-clause-reads
 unfolding g.ComparedOf
-expr::compared-returns-in_err-expect_symbol i c = answers _ _ (search rules) (reads_on c.in-Some.ensures (past_fails c.in_err-expect_symbol.ensures))
+expr::compared-returns-in_err-expect_symbol-clause-reads i c = answers _ _ (search rules) (reads_on c.in-Some.ensures (past_fails c.in_err-expect_symbol.ensures))
 
-pub expr::compared-returns-in_err-below : goal.expr::compared-returns-in_err-below
+pub expr::compared-returns-in_err-below-clause-reads : goal.expr::compared-returns-in_err-below-clause-reads
 unfolding g.ComparedOf
-expr::compared-returns-in_err-below i c = answers _ _ (search rules) (reads_on c.in-Some.ensures (deep_past (λ us at. nowhere_first us at (nowhere_never us at)) refl c.in_ok-expect_symbol.ensures c.in_err-below.ensures.deep))
+expr::compared-returns-in_err-below-clause-reads i c = answers _ _ (search rules) (reads_on c.in-Some.ensures (deep_past (λ us at. nowhere_first us at (nowhere_never us at)) refl c.in_ok-expect_symbol.ensures c.in_err-below.ensures.deep))
 
-pub expr::compared-returns-in_err-query : goal.expr::compared-returns-in_err-query
+pub expr::compared-returns-in_err-query-clause-reads : goal.expr::compared-returns-in_err-query-clause-reads
 unfolding g.ComparedOf
-expr::compared-returns-in_err-query i c = answers _ _ (search rules) (reads_on c.in-Some.ensures (opens_past c.in_ok-below.ensures.ok refl c.in_ok-expect_symbol.ensures (then_fails (inside (λ us at. nowhere_never us at) c.in_err-query.ensures))))
+expr::compared-returns-in_err-query-clause-reads i c = answers _ _ (search rules) (reads_on c.in-Some.ensures (opens_past c.in_ok-below.ensures.ok refl c.in_ok-expect_symbol.ensures (then_fails (inside (λ us at. nowhere_never us at) c.in_err-query.ensures.reads))))
 
-pub expr::compared-returns : goal.expr::compared-returns
+pub expr::compared-returns-clause-reads : goal.expr::compared-returns-clause-reads
 unfolding g.ComparedOf
-expr::compared-returns i c = reads_on c.in-Some.ensures (opens_past c.in_ok-below.ensures.ok refl c.in_ok-expect_symbol.ensures (then_on (λ m. (within_alike (suc c.in_ok-below.below) m).subquery) (inside (λ us at. nowhere_never us at) c.in_ok-query.ensures) (gives_as (of_compare_all _ _ _ _ _ ∙ ap (λ x. tree.CompareAll (op_of c.args.op) (quantifier_of c.in-Some.quantifier) (expr_of x) (block_of c.in_ok-query.query.value)) c.in_ok-left.ensures.ok))))
+expr::compared-returns-clause-reads i c = reads_on c.in-Some.ensures (opens_past c.in_ok-below.ensures.ok refl c.in_ok-expect_symbol.ensures (then_on (λ m. (within_alike (suc c.in_ok-below.below) m).subquery) (inside (λ us at. nowhere_never us at) c.in_ok-query.ensures.reads) (gives_as (of_compare_all _ _ _ _ _ ∙ ap (λ x. tree.CompareAll (op_of c.args.op) (quantifier_of c.in-Some.quantifier) (expr_of x) (block_of c.in_ok-query.query.value)) c.in_ok-left.ensures.ok))))
 
-pub expr::predicate-returns-then-eat_predicate : goal.expr::predicate-returns-then-eat_predicate
+pub expr::compared-returns-clause-placed : goal.expr::compared-returns-clause-placed
+expr::compared-returns-clause-placed i c = λ from d. seen_as (leaves.of_compare_all _ _ _ _ _ ∙ ap (λ x. (expr_leaves x ++ one (op_leaf (op_of c.args.op)) c.args.start) ++ block_leaves c.in_ok-query.query.value) c.in_ok-left.ensures.ok) (on (past refl (says_passed leaves.quantifier_passed d c.in-Some.ensures) c.in_ok-expect_symbol.ensures) c.in_ok-query.ensures.placed)
+
+pub expr::predicate-returns-then-eat_predicate-clause-reads : goal.expr::predicate-returns-then-eat_predicate-clause-reads
 unfolding g.PredicateOf
-expr::predicate-returns-then-eat_predicate i c = if_on c.if-eat_predicate.ensures c.between.ensures
+expr::predicate-returns-then-eat_predicate-clause-reads i c = if_on c.if-eat_predicate.ensures c.between.ensures.reads
 
-pub expr::predicate-returns-then-eat_predicate-2 : goal.expr::predicate-returns-then-eat_predicate-2
+pub expr::predicate-returns-then-eat_predicate-clause-placed : goal.expr::predicate-returns-then-eat_predicate-clause-placed
+expr::predicate-returns-then-eat_predicate-clause-placed i c = ok_goes_on _ _ _ c.between.ensures.placed (λ from d. past_leaf d c.start-start.ensures c.if-eat_predicate.ensures)
+
+pub expr::predicate-returns-then-eat_predicate-2-clause-reads : goal.expr::predicate-returns-then-eat_predicate-2-clause-reads
 unfolding g.PredicateOf
-expr::predicate-returns-then-eat_predicate-2 i c = misses_on c.if-eat_predicate.ensures (if_on c.if-eat_predicate-2.ensures (c.like.ensures _ _))
+expr::predicate-returns-then-eat_predicate-2-clause-reads i c = misses_on c.if-eat_predicate.ensures (if_on c.if-eat_predicate-2.ensures (c.like.ensures.reads _ _))
 
-pub expr::predicate-returns-in_err-expect_symbol : goal.expr::predicate-returns-in_err-expect_symbol
+pub expr::predicate-returns-then-eat_predicate-2-clause-placed : goal.expr::predicate-returns-then-eat_predicate-2-clause-placed
+expr::predicate-returns-then-eat_predicate-2-clause-placed i c = ok_goes_on _ _ _ c.like.ensures.placed (λ from d. past_leaf (stays d c.if-eat_predicate.ensures.1) (still c.start-start.ensures c.if-eat_predicate.ensures.1) c.if-eat_predicate-2.ensures)
+
+pub expr::predicate-returns-in_err-expect_symbol-clause-reads : goal.expr::predicate-returns-in_err-expect_symbol-clause-reads
 unfolding g.PredicateOf
-expr::predicate-returns-in_err-expect_symbol i c = answers _ _ (search rules) (misses_on c.if-eat_predicate.ensures (misses_on c.if-eat_predicate-2.ensures (if_on c.if-eat_predicate-3.ensures (past_fails c.in_err-expect_symbol.ensures))))
+expr::predicate-returns-in_err-expect_symbol-clause-reads i c = answers _ _ (search rules) (misses_on c.if-eat_predicate.ensures (misses_on c.if-eat_predicate-2.ensures (if_on c.if-eat_predicate-3.ensures (past_fails c.in_err-expect_symbol.ensures))))
 
-pub expr::predicate-returns-in_err-below : goal.expr::predicate-returns-in_err-below
+pub expr::predicate-returns-in_err-below-clause-reads : goal.expr::predicate-returns-in_err-below-clause-reads
 unfolding g.PredicateOf
-expr::predicate-returns-in_err-below i c = answers _ _ (search rules) (misses_on c.if-eat_predicate.ensures (misses_on c.if-eat_predicate-2.ensures (if_on c.if-eat_predicate-3.ensures (deep_past (λ us at. nowhere_never us at) refl c.in_ok-expect_symbol.ensures c.in_err-below.ensures.deep))))
+expr::predicate-returns-in_err-below-clause-reads i c = answers _ _ (search rules) (misses_on c.if-eat_predicate.ensures (misses_on c.if-eat_predicate-2.ensures (if_on c.if-eat_predicate-3.ensures (deep_past (λ us at. nowhere_never us at) refl c.in_ok-expect_symbol.ensures c.in_err-below.ensures.deep))))
 
-pub expr::predicate-returns-in_ok-below : goal.expr::predicate-returns-in_ok-below
+pub expr::predicate-returns-in_ok-below-clause-reads : goal.expr::predicate-returns-in_ok-below-clause-reads
 unfolding g.PredicateOf
-expr::predicate-returns-in_ok-below i c = misses_on c.if-eat_predicate.ensures (misses_on c.if-eat_predicate-2.ensures (if_on c.if-eat_predicate-3.ensures (opens_past c.in_ok-below.ensures.ok refl c.in_ok-expect_symbol.ensures (inside (λ us at. nowhere_never us at) c.in_list.ensures))))
+expr::predicate-returns-in_ok-below-clause-reads i c = misses_on c.if-eat_predicate.ensures (misses_on c.if-eat_predicate-2.ensures (if_on c.if-eat_predicate-3.ensures (opens_past c.in_ok-below.ensures.ok refl c.in_ok-expect_symbol.ensures (inside (λ us at. nowhere_never us at) c.in_list.ensures.reads))))
 
-pub expr::predicate-returns-then-negated : goal.expr::predicate-returns-then-negated
+pub expr::predicate-returns-in_ok-below-clause-placed : goal.expr::predicate-returns-in_ok-below-clause-placed
+expr::predicate-returns-in_ok-below-clause-placed i c = ok_goes_on _ _ _ c.in_list.ensures.placed (λ from d. past refl (past_leaf (stays (stays d c.if-eat_predicate.ensures.1) c.if-eat_predicate-2.ensures.1) (still (still c.start-start.ensures c.if-eat_predicate.ensures.1) c.if-eat_predicate-2.ensures.1) c.if-eat_predicate-3.ensures) c.in_ok-expect_symbol.ensures)
+
+pub expr::predicate-returns-then-negated-clause-reads : goal.expr::predicate-returns-then-negated-clause-reads
 unfolding g.PredicateOf
-expr::predicate-returns-then-negated i c = rw c.if-negated.true (misses_on c.if-eat_predicate.ensures (misses_on c.if-eat_predicate-2.ensures (misses_on c.if-eat_predicate-3.ensures (never_fails c.stop.ensures))))
+expr::predicate-returns-then-negated-clause-reads i c = rw c.if-negated.true (misses_on c.if-eat_predicate.ensures (misses_on c.if-eat_predicate-2.ensures (misses_on c.if-eat_predicate-3.ensures (never_fails c.stop.ensures))))
 
-pub expr::predicate-returns-else-negated : goal.expr::predicate-returns-else-negated
+pub expr::predicate-returns-else-negated-clause-reads : goal.expr::predicate-returns-else-negated-clause-reads
 unfolding g.PredicateOf
-expr::predicate-returns-else-negated i c = rw c.if-negated.false (misses_on c.if-eat_predicate.ensures (misses_on c.if-eat_predicate-2.ensures (misses_on c.if-eat_predicate-3.ensures gives)))
+expr::predicate-returns-else-negated-clause-reads i c = rw c.if-negated.false (misses_on c.if-eat_predicate.ensures (misses_on c.if-eat_predicate-2.ensures (misses_on c.if-eat_predicate-3.ensures gives)))
 
-pub expr::between-returns-in_err-low : goal.expr::between-returns-in_err-low
+pub expr::predicate-returns-else-negated-clause-placed : goal.expr::predicate-returns-else-negated-clause-placed
+expr::predicate-returns-else-negated-clause-placed i c = λ from d. stays (stays (stays d c.if-eat_predicate.ensures.1) c.if-eat_predicate-2.ensures.1) c.if-eat_predicate-3.ensures.1
+
+pub expr::between-returns-in_err-low-clause-reads : goal.expr::between-returns-in_err-low-clause-reads
 unfolding g.BetweenOf
-expr::between-returns-in_err-low i c = answers _ _ (search rules) (then_fails c.in_err-low.ensures)
+expr::between-returns-in_err-low-clause-reads i c = answers _ _ (search rules) (then_fails c.in_err-low.ensures.reads)
 
-pub expr::between-returns-in_err-expect_word : goal.expr::between-returns-in_err-expect_word
+pub expr::between-returns-in_err-expect_word-clause-reads : goal.expr::between-returns-in_err-expect_word-clause-reads
 unfolding g.BetweenOf
-expr::between-returns-in_err-expect_word i c = answers _ _ (search rules) (then_on (λ m. sum_alike (within_alike c.args.levels m)) c.in_ok-low.ensures (past_fails c.in_err-expect_word.ensures))
+expr::between-returns-in_err-expect_word-clause-reads i c = answers _ _ (search rules) (then_on (λ m. sum_alike (within_alike c.args.levels m)) c.in_ok-low.ensures.reads (past_fails c.in_err-expect_word.ensures))
 
-pub expr::between-returns-in_err-high : goal.expr::between-returns-in_err-high
+pub expr::between-returns-in_err-high-clause-reads : goal.expr::between-returns-in_err-high-clause-reads
 unfolding g.BetweenOf
-expr::between-returns-in_err-high i c = answers _ _ (search rules) (then_on (λ m. sum_alike (within_alike c.args.levels m)) c.in_ok-low.ensures (past_on c.in_ok-expect_word.ensures (then_fails c.in_err-high.ensures)))
+expr::between-returns-in_err-high-clause-reads i c = answers _ _ (search rules) (then_on (λ m. sum_alike (within_alike c.args.levels m)) c.in_ok-low.ensures.reads (past_on c.in_ok-expect_word.ensures (then_fails c.in_err-high.ensures.reads)))
 
-pub expr::between-returns-in_err-value : goal.expr::between-returns-in_err-value
-expr::between-returns-in_err-value i c = answers _ _ (search rules) (no_memory refl)
+pub expr::between-returns-in_err-value-clause-reads : goal.expr::between-returns-in_err-value-clause-reads
+expr::between-returns-in_err-value-clause-reads i c = answers _ _ (search rules) (no_memory refl)
 
-pub expr::between-returns-in_err-low-2 : goal.expr::between-returns-in_err-low-2
-expr::between-returns-in_err-low-2 i c = answers _ _ (search rules) (no_memory refl)
+pub expr::between-returns-in_err-low-2-clause-reads : goal.expr::between-returns-in_err-low-2-clause-reads
+expr::between-returns-in_err-low-2-clause-reads i c = answers _ _ (search rules) (no_memory refl)
 
-pub expr::between-returns-in_err-high-2 : goal.expr::between-returns-in_err-high-2
-expr::between-returns-in_err-high-2 i c = answers _ _ (search rules) (no_memory refl)
+pub expr::between-returns-in_err-high-2-clause-reads : goal.expr::between-returns-in_err-high-2-clause-reads
+expr::between-returns-in_err-high-2-clause-reads i c = answers _ _ (search rules) (no_memory refl)
 
-pub expr::between-returns : goal.expr::between-returns
+pub expr::between-returns-clause-reads : goal.expr::between-returns-clause-reads
 unfolding g.BetweenOf
-expr::between-returns i c = then_on (λ m. sum_alike (within_alike c.args.levels m)) c.in_ok-low.ensures (past_on c.in_ok-expect_word.ensures (then_on (λ m. sum_alike (within_alike c.args.levels m)) c.in_ok-high.ensures (gives_as (of_between _ _ _ _ _ ∙ ap₂ (λ x y. tree.Between c.args.negated (expr_of x) (expr_of y) (expr_of c.in_ok-high-2.high.value)) c.in_ok-value.ensures.ok c.in_ok-low-2.ensures.ok ∙ ap (λ x. tree.Between c.args.negated (expr_of c.args.value) (expr_of c.in_ok-low.low) (expr_of x)) c.in_ok-high-2.ensures.ok))))
+expr::between-returns-clause-reads i c = then_on (λ m. sum_alike (within_alike c.args.levels m)) c.in_ok-low.ensures.reads (past_on c.in_ok-expect_word.ensures (then_on (λ m. sum_alike (within_alike c.args.levels m)) c.in_ok-high.ensures.reads (gives_as (of_between _ _ _ _ _ ∙ ap₂ (λ x y. tree.Between c.args.negated (expr_of x) (expr_of y) (expr_of c.in_ok-high-2.high.value)) c.in_ok-value.ensures.ok c.in_ok-low-2.ensures.ok ∙ ap (λ x. tree.Between c.args.negated (expr_of c.args.value) (expr_of c.in_ok-low.low) (expr_of x)) c.in_ok-high-2.ensures.ok))))
 
-pub expr::in_list-returns-in_err-value : goal.expr::in_list-returns-in_err-value
-expr::in_list-returns-in_err-value i c = answers _ _ (search rules) (no_memory refl)
+pub expr::between-returns-clause-placed : goal.expr::between-returns-clause-placed
+expr::between-returns-clause-placed i c = λ from d. seen_as (leaves.of_between _ _ _ _ _ ∙ ap₂ (λ x y. ((expr_leaves x ++ one (Reserved words.Between) c.args.start) ++ expr_leaves y) ++ expr_leaves c.in_ok-high-2.high.value) c.in_ok-value.ensures.ok c.in_ok-low-2.ensures.ok ∙ ap (λ x. ((expr_leaves c.args.value ++ one (Reserved words.Between) c.args.start) ++ expr_leaves c.in_ok-low.low) ++ expr_leaves x) c.in_ok-high-2.ensures.ok) (on (past refl (on d c.in_ok-low.ensures.placed) c.in_ok-expect_word.ensures) c.in_ok-high.ensures.placed)
 
-pub expr::in_list-returns-in_err-query : goal.expr::in_list-returns-in_err-query
+pub expr::in_list-returns-in_err-value-clause-reads : goal.expr::in_list-returns-in_err-value-clause-reads
+expr::in_list-returns-in_err-value-clause-reads i c = answers _ _ (search rules) (no_memory refl)
+
+pub expr::in_list-returns-in_err-query-clause-reads : goal.expr::in_list-returns-in_err-query-clause-reads
 unfolding g.InListOf
-expr::in_list-returns-in_err-query i c = answers _ _ (search rules) (sees_on (c.sees_word.ensures.stands.0 c.if-sees_word.true) (begins c.sees_word.ensures.same (then_fails c.in_err-query.ensures)))
+expr::in_list-returns-in_err-query-clause-reads i c = answers _ _ (search rules) (sees_on (c.sees_word.ensures.stands.0 c.if-sees_word.true) (begins c.sees_word.ensures.same (then_fails c.in_err-query.ensures.reads)))
 
-pub expr::in_list-returns-then-sees_word : goal.expr::in_list-returns-then-sees_word
+pub expr::in_list-returns-then-sees_word-clause-reads : goal.expr::in_list-returns-then-sees_word-clause-reads
 unfolding g.InListOf
-expr::in_list-returns-then-sees_word i c = sees_on (c.sees_word.ensures.stands.0 c.if-sees_word.true) (begins c.sees_word.ensures.same (then_on (λ m. subquery_alike (within_alike c.args.levels m)) c.in_ok-query.ensures (gives_as (of_in_query _ _ _ _ ∙ ap (λ x. tree.InQuery c.args.negated (expr_of x) (block_of c.in_ok-query.query.value)) c.in_ok-value.ensures.ok))))
+expr::in_list-returns-then-sees_word-clause-reads i c = sees_on (c.sees_word.ensures.stands.0 c.if-sees_word.true) (begins c.sees_word.ensures.same (then_on (λ m. subquery_alike (within_alike c.args.levels m)) c.in_ok-query.ensures.reads (gives_as (of_in_query _ _ _ _ ∙ ap (λ x. tree.InQuery c.args.negated (expr_of x) (block_of c.in_ok-query.query.value)) c.in_ok-value.ensures.ok))))
 
-pub expr::in_list-returns-in_err-members : goal.expr::in_list-returns-in_err-members
+pub expr::in_list-returns-then-sees_word-clause-placed : goal.expr::in_list-returns-then-sees_word-clause-placed
+expr::in_list-returns-then-sees_word-clause-placed i c = λ from d. seen_as (leaves.of_in_query _ _ _ _ ∙ ap (λ x. (expr_leaves x ++ one (Reserved words.In) c.args.start) ++ block_leaves c.in_ok-query.query.value) c.in_ok-value.ensures.ok) (on (stays d c.sees_word.ensures.same) c.in_ok-query.ensures.placed)
+
+pub expr::in_list-returns-in_err-members-clause-reads : goal.expr::in_list-returns-in_err-members-clause-reads
 unfolding g.InListOf
-expr::in_list-returns-in_err-members i c = answers _ _ (search rules) (misses_on ((λ h. absurd (different (c.sees_word.ensures.stands.1 h) c.if-sees_word.false)), c.sees_word.ensures.same) (then_fails (then_fails c.in_err-members.ensures)))
+expr::in_list-returns-in_err-members-clause-reads i c = answers _ _ (search rules) (misses_on ((λ h. absurd (different (c.sees_word.ensures.stands.1 h) c.if-sees_word.false)), c.sees_word.ensures.same) (then_fails (then_fails c.in_err-members.ensures.reads)))
 
-pub expr::in_list-returns-in_err-expect_symbol : goal.expr::in_list-returns-in_err-expect_symbol
+pub expr::in_list-returns-in_err-expect_symbol-clause-reads : goal.expr::in_list-returns-in_err-expect_symbol-clause-reads
 unfolding g.InListOf
-expr::in_list-returns-in_err-expect_symbol i c = answers _ _ (search rules) (misses_on ((λ h. absurd (different (c.sees_word.ensures.stands.1 h) c.if-sees_word.false)), c.sees_word.ensures.same) (then_fails (then_on (λ m. list_alike (member_alike (within_alike c.args.levels m))) c.in_ok-members.ensures (past_fails c.in_err-expect_symbol.ensures))))
+expr::in_list-returns-in_err-expect_symbol-clause-reads i c = answers _ _ (search rules) (misses_on ((λ h. absurd (different (c.sees_word.ensures.stands.1 h) c.if-sees_word.false)), c.sees_word.ensures.same) (then_fails (then_on (λ m. list_alike (member_alike (within_alike c.args.levels m))) c.in_ok-members.ensures.reads (past_fails c.in_err-expect_symbol.ensures))))
 
-pub expr::in_list-returns : goal.expr::in_list-returns
+pub expr::in_list-returns-clause-reads : goal.expr::in_list-returns-clause-reads
 unfolding g.InListOf
-expr::in_list-returns i c = misses_on ((λ h. absurd (different (c.sees_word.ensures.stands.1 h) c.if-sees_word.false)), c.sees_word.ensures.same) (then_on {k = c.args.levels} (λ m. closed_alike (list_alike (member_alike (within_alike c.args.levels m)))) (then_on (λ m. list_alike (member_alike (within_alike c.args.levels m))) c.in_ok-members.ensures (past_on c.in_ok-expect_symbol.ensures gives)) (gives_as (of_in_list _ _ _ _ ∙ ap (λ x. tree.InList c.args.negated (expr_of x) (g.members (map member_of c.in_ok-members.members.items))) c.in_ok-value.ensures.ok)))
+expr::in_list-returns-clause-reads i c = misses_on ((λ h. absurd (different (c.sees_word.ensures.stands.1 h) c.if-sees_word.false)), c.sees_word.ensures.same) (then_on {k = c.args.levels} (λ m. closed_alike (list_alike (member_alike (within_alike c.args.levels m)))) (then_on (λ m. list_alike (member_alike (within_alike c.args.levels m))) c.in_ok-members.ensures.reads (past_on c.in_ok-expect_symbol.ensures gives)) (gives_as (of_in_list _ _ _ _ ∙ ap (λ x. tree.InList c.args.negated (expr_of x) (g.members (map member_of c.in_ok-members.members.items))) c.in_ok-value.ensures.ok)))
 
-pub expr::member-returns-then-eat_word : goal.expr::member-returns-then-eat_word
+pub expr::in_list-returns-clause-placed : goal.expr::in_list-returns-clause-placed
+expr::in_list-returns-clause-placed i c = λ from d. seen_as (leaves.of_in_list _ _ _ _ ∙ ap (λ x. (expr_leaves x ++ one (Reserved words.In) c.args.start) ++ all (if_there expr_leaves) c.in_ok-members.members.items) c.in_ok-value.ensures.ok) (past refl (on (stays d c.sees_word.ensures.same) c.in_ok-members.ensures.placed) c.in_ok-expect_symbol.ensures)
+
+pub expr::member-returns-then-eat_word-clause-reads : goal.expr::member-returns-then-eat_word-clause-reads
 unfolding g.MemberOf
-expr::member-returns-then-eat_word i c = if_on c.if-eat_word.ensures gives
+expr::member-returns-then-eat_word-clause-reads i c = if_on c.if-eat_word.ensures gives
 
-pub expr::member-returns-in_err-value : goal.expr::member-returns-in_err-value
+pub expr::member-returns-then-eat_word-clause-placed : goal.expr::member-returns-then-eat_word-clause-placed
+expr::member-returns-then-eat_word-clause-placed i c = past refl here c.if-eat_word.ensures
+
+pub expr::member-returns-in_err-value-clause-reads : goal.expr::member-returns-in_err-value-clause-reads
 unfolding g.MemberOf
-expr::member-returns-in_err-value i c = answers _ _ (search rules) (misses_on c.if-eat_word.ensures (then_fails c.in_err-value.ensures))
+expr::member-returns-in_err-value-clause-reads i c = answers _ _ (search rules) (misses_on c.if-eat_word.ensures (then_fails c.in_err-value.ensures.reads))
 
-pub expr::member-returns : goal.expr::member-returns
+pub expr::member-returns-clause-reads : goal.expr::member-returns-clause-reads
 unfolding g.MemberOf
-expr::member-returns i c = misses_on c.if-eat_word.ensures (then_on (λ m. sum_alike (within_alike c.args.levels m)) c.in_ok-value.ensures gives)
+expr::member-returns-clause-reads i c = misses_on c.if-eat_word.ensures (then_on (λ m. sum_alike (within_alike c.args.levels m)) c.in_ok-value.ensures.reads gives)
 
-pub expr::members-returns-in_err-first : goal.expr::members-returns-in_err-first
-expr::members-returns-in_err-first i c = answers _ _ (search rules) (then_fails c.in_err-first.ensures)
+pub expr::member-returns-clause-placed : goal.expr::member-returns-clause-placed
+expr::member-returns-clause-placed i c = on (stays here c.if-eat_word.ensures.1) c.in_ok-value.ensures.placed
 
-pub expr::members-returns-in_err-push : goal.expr::members-returns-in_err-push
-expr::members-returns-in_err-push i c = answers _ _ (search rules) (no_memory refl)
+pub expr::members-returns-in_err-first-clause-reads : goal.expr::members-returns-in_err-first-clause-reads
+expr::members-returns-in_err-first-clause-reads i c = answers _ _ (search rules) (then_fails c.in_err-first.ensures.reads)
+
+pub expr::members-returns-in_err-push-clause-reads : goal.expr::members-returns-in_err-push-clause-reads
+expr::members-returns-in_err-push-clause-reads i c = answers _ _ (search rules) (no_memory refl)
 
 pub expr::members-members-init : goal.expr::members-members-init
-expr::members-members-init i c = subst (λ xs. Lists (λ m. g.MemberOf (within m)) c.args.levels c.args.levels c.args.cursor.now c.member.new.cursor xs) (sym (ap (map member_of) (c.in_ok-push.ensures.items ∙ ap (λ ys. ys ++ c.in_ok-first.first ∷ []) c.new-members.ensures.items))) (list_begins (λ m. g.MemberOf (within m)) c.args.levels c.args.levels (λ m. member_alike (within_alike c.args.levels m)) c.args.cursor.now c.member.new.cursor (member_of c.in_ok-first.first) c.args.levels c.in_ok-first.ensures)
+expr::members-members-init i c = record {
+  reads = subst (λ xs. Lists (λ m. g.MemberOf (within m)) c.args.levels c.args.levels c.args.cursor.now c.member.new.cursor xs) (sym (ap (map member_of) (c.in_ok-push.ensures.items ∙ ap (λ ys. ys ++ c.in_ok-first.first ∷ []) c.new-members.ensures.items))) (list_begins (λ m. g.MemberOf (within m)) c.args.levels c.args.levels (λ m. member_alike (within_alike c.args.levels m)) c.args.cursor.now c.member.new.cursor (member_of c.in_ok-first.first) c.args.levels c.in_ok-first.ensures.reads);
+  placed = seen_as (ap (all (if_there expr_leaves)) (c.in_ok-push.ensures.items ∙ ap (λ ys. ys ++ c.in_ok-first.first ∷ []) c.new-members.ensures.items) ∙ leaves.all_push (if_there expr_leaves) [] _) c.in_ok-first.ensures.placed;
+}
 
-pub expr::members-returns-in_err-member : goal.expr::members-returns-in_err-member
-expr::members-returns-in_err-member i c = answers _ _ (search rules) (list_fails (λ m. g.MemberOf (within m)) c.args.levels c.args.levels (λ m. member_alike (within_alike c.args.levels m)) c.args.cursor.now c.members.cursor c.eat_symbol.new.self c.member-in-members.new.cursor (map member_of c.members.members.items) _ c.members.invariant c.if-not-eat_symbol.ensures c.in_err-member.ensures)
+pub expr::members-returns-in_err-member-clause-reads : goal.expr::members-returns-in_err-member-clause-reads
+expr::members-returns-in_err-member-clause-reads i c = answers _ _ (search rules) (list_fails (λ m. g.MemberOf (within m)) c.args.levels c.args.levels (λ m. member_alike (within_alike c.args.levels m)) c.args.cursor.now c.members.cursor c.eat_symbol.new.self c.member-in-members.new.cursor (map member_of c.members.members.items) _ c.members.invariant.reads c.if-not-eat_symbol.ensures c.in_err-member.ensures.reads)
 
 pub expr::members-members-smaller : goal.expr::members-members-smaller
-expr::members-members-smaller i c = lists.fewer (λ m. g.MemberOf (within m)) c.args.levels c.args.levels c.members.cursor c.eat_symbol.new.self c.member-in-members.new.cursor _ _ (member_alike (within_alike c.args.levels c.args.levels)) c.if-not-eat_symbol.ensures c.in_ok-member.ensures
+expr::members-members-smaller i c = lists.fewer (λ m. g.MemberOf (within m)) c.args.levels c.args.levels c.members.cursor c.eat_symbol.new.self c.member-in-members.new.cursor _ _ (member_alike (within_alike c.args.levels c.args.levels)) c.if-not-eat_symbol.ensures c.in_ok-member.ensures.reads
 
 pub expr::members-members-preserved : goal.expr::members-members-preserved
-expr::members-members-preserved i c = subst (λ xs. Lists (λ m. g.MemberOf (within m)) c.args.levels c.args.levels c.args.cursor.now c.member-in-members.new.cursor xs) (sym (ap (map member_of) c.in_ok-push-2.ensures.items ∙ map_push _ _ _)) (list_goes_on (λ m. g.MemberOf (within m)) c.args.levels c.args.levels (λ m. member_alike (within_alike c.args.levels m)) c.args.cursor.now c.members.cursor c.eat_symbol.new.self c.member-in-members.new.cursor (map member_of c.members.members.items) (member_of c.in_ok-member.member) c.args.levels c.members.invariant c.if-not-eat_symbol.ensures c.in_ok-member.ensures)
+expr::members-members-preserved i c = record {
+  reads = subst (λ xs. Lists (λ m. g.MemberOf (within m)) c.args.levels c.args.levels c.args.cursor.now c.member-in-members.new.cursor xs) (sym (ap (map member_of) c.in_ok-push-2.ensures.items ∙ map_push _ _ _)) (list_goes_on (λ m. g.MemberOf (within m)) c.args.levels c.args.levels (λ m. member_alike (within_alike c.args.levels m)) c.args.cursor.now c.members.cursor c.eat_symbol.new.self c.member-in-members.new.cursor (map member_of c.members.members.items) (member_of c.in_ok-member.member) c.args.levels c.members.invariant.reads c.if-not-eat_symbol.ensures c.in_ok-member.ensures.reads);
+  placed = seen_as (ap (all (if_there expr_leaves)) c.in_ok-push-2.ensures.items ∙ leaves.all_push (if_there expr_leaves) c.members.members.items c.in_ok-member.member) (on (past refl c.members.invariant.placed c.if-not-eat_symbol.ensures) c.in_ok-member.ensures.placed);
+}
 
-pub expr::members-returns-in_err-push-2 : goal.expr::members-returns-in_err-push-2
-expr::members-returns-in_err-push-2 i c = answers _ _ (search rules) (no_memory refl)
+pub expr::members-returns-in_err-push-2-clause-reads : goal.expr::members-returns-in_err-push-2-clause-reads
+expr::members-returns-in_err-push-2-clause-reads i c = answers _ _ (search rules) (no_memory refl)
 
-pub expr::members-returns : goal.expr::members-returns
-expr::members-returns i c = list_ends (λ m. g.MemberOf (within m)) c.args.levels c.args.levels (λ m. member_alike (within_alike c.args.levels m)) c.args.cursor.now c.members.cursor c.eat_symbol.new.self (map member_of c.members.members.items) c.members.invariant c.if-not-eat_symbol.ensures
+pub expr::members-returns-clause-reads : goal.expr::members-returns-clause-reads
+expr::members-returns-clause-reads i c = list_ends (λ m. g.MemberOf (within m)) c.args.levels c.args.levels (λ m. member_alike (within_alike c.args.levels m)) c.args.cursor.now c.members.cursor c.eat_symbol.new.self (map member_of c.members.members.items) c.members.invariant.reads c.if-not-eat_symbol.ensures
 
-pub query::items-returns-in_err-first : goal.query::items-returns-in_err-first
-query::items-returns-in_err-first i c = answers _ _ (search rules) (then_fails c.in_err-first.ensures)
+pub expr::members-returns-clause-placed : goal.expr::members-returns-clause-placed
+expr::members-returns-clause-placed i c = stays c.members.invariant.placed c.if-not-eat_symbol.ensures.1
 
-pub query::items-returns-in_err-push : goal.query::items-returns-in_err-push
-query::items-returns-in_err-push i c = answers _ _ (search rules) (no_memory refl)
+pub query::items-returns-in_err-first-clause-reads : goal.query::items-returns-in_err-first-clause-reads
+query::items-returns-in_err-first-clause-reads i c = answers _ _ (search rules) (then_fails c.in_err-first.ensures.reads)
+
+pub query::items-returns-in_err-push-clause-reads : goal.query::items-returns-in_err-push-clause-reads
+query::items-returns-in_err-push-clause-reads i c = answers _ _ (search rules) (no_memory refl)
 
 pub query::items-items-init : goal.query::items-items-init
-query::items-items-init i c = subst (λ xs. Lists (λ m. g.ItemOf (within m)) c.args.levels c.args.levels c.args.cursor.now c.item.new.cursor xs) (sym (ap (map item_of) (c.in_ok-push.ensures.items ∙ ap (λ ys. ys ++ c.in_ok-first.first ∷ []) c.new-items.ensures.items))) (list_begins (λ m. g.ItemOf (within m)) c.args.levels c.args.levels (λ m. item_alike (within_alike c.args.levels m)) c.args.cursor.now c.item.new.cursor (item_of c.in_ok-first.first) c.args.levels c.in_ok-first.ensures)
+query::items-items-init i c = record {
+  reads = subst (λ xs. Lists (λ m. g.ItemOf (within m)) c.args.levels c.args.levels c.args.cursor.now c.item.new.cursor xs) (sym (ap (map item_of) (c.in_ok-push.ensures.items ∙ ap (λ ys. ys ++ c.in_ok-first.first ∷ []) c.new-items.ensures.items))) (list_begins (λ m. g.ItemOf (within m)) c.args.levels c.args.levels (λ m. item_alike (within_alike c.args.levels m)) c.args.cursor.now c.item.new.cursor (item_of c.in_ok-first.first) c.args.levels c.in_ok-first.ensures.reads);
+  placed = seen_as (ap (all item_leaves) (c.in_ok-push.ensures.items ∙ ap (λ ys. ys ++ c.in_ok-first.first ∷ []) c.new-items.ensures.items) ∙ leaves.all_push item_leaves [] _) c.in_ok-first.ensures.placed;
+}
 
-pub query::items-returns-in_err-item : goal.query::items-returns-in_err-item
-query::items-returns-in_err-item i c = answers _ _ (search rules) (list_fails (λ m. g.ItemOf (within m)) c.args.levels c.args.levels (λ m. item_alike (within_alike c.args.levels m)) c.args.cursor.now c.items.cursor c.eat_symbol.new.self c.item-in-items.new.cursor (map item_of c.items.items.items) _ c.items.invariant c.if-not-eat_symbol.ensures c.in_err-item.ensures)
+pub query::items-returns-in_err-item-clause-reads : goal.query::items-returns-in_err-item-clause-reads
+query::items-returns-in_err-item-clause-reads i c = answers _ _ (search rules) (list_fails (λ m. g.ItemOf (within m)) c.args.levels c.args.levels (λ m. item_alike (within_alike c.args.levels m)) c.args.cursor.now c.items.cursor c.eat_symbol.new.self c.item-in-items.new.cursor (map item_of c.items.items.items) _ c.items.invariant.reads c.if-not-eat_symbol.ensures c.in_err-item.ensures.reads)
 
 pub query::items-items-smaller : goal.query::items-items-smaller
-query::items-items-smaller i c = lists.fewer (λ m. g.ItemOf (within m)) c.args.levels c.args.levels c.items.cursor c.eat_symbol.new.self c.item-in-items.new.cursor _ _ (item_alike (within_alike c.args.levels c.args.levels)) c.if-not-eat_symbol.ensures c.in_ok-item.ensures
+query::items-items-smaller i c = lists.fewer (λ m. g.ItemOf (within m)) c.args.levels c.args.levels c.items.cursor c.eat_symbol.new.self c.item-in-items.new.cursor _ _ (item_alike (within_alike c.args.levels c.args.levels)) c.if-not-eat_symbol.ensures c.in_ok-item.ensures.reads
 
 pub query::items-items-preserved : goal.query::items-items-preserved
-query::items-items-preserved i c = subst (λ xs. Lists (λ m. g.ItemOf (within m)) c.args.levels c.args.levels c.args.cursor.now c.item-in-items.new.cursor xs) (sym (ap (map item_of) c.in_ok-push-2.ensures.items ∙ map_push _ _ _)) (list_goes_on (λ m. g.ItemOf (within m)) c.args.levels c.args.levels (λ m. item_alike (within_alike c.args.levels m)) c.args.cursor.now c.items.cursor c.eat_symbol.new.self c.item-in-items.new.cursor (map item_of c.items.items.items) (item_of c.in_ok-item.item) c.args.levels c.items.invariant c.if-not-eat_symbol.ensures c.in_ok-item.ensures)
+query::items-items-preserved i c = record {
+  reads = subst (λ xs. Lists (λ m. g.ItemOf (within m)) c.args.levels c.args.levels c.args.cursor.now c.item-in-items.new.cursor xs) (sym (ap (map item_of) c.in_ok-push-2.ensures.items ∙ map_push _ _ _)) (list_goes_on (λ m. g.ItemOf (within m)) c.args.levels c.args.levels (λ m. item_alike (within_alike c.args.levels m)) c.args.cursor.now c.items.cursor c.eat_symbol.new.self c.item-in-items.new.cursor (map item_of c.items.items.items) (item_of c.in_ok-item.item) c.args.levels c.items.invariant.reads c.if-not-eat_symbol.ensures c.in_ok-item.ensures.reads);
+  placed = seen_as (ap (all item_leaves) c.in_ok-push-2.ensures.items ∙ leaves.all_push item_leaves _ _) (on (past refl c.items.invariant.placed c.if-not-eat_symbol.ensures) c.in_ok-item.ensures.placed);
+}
 
-pub query::items-returns-in_err-push-2 : goal.query::items-returns-in_err-push-2
-query::items-returns-in_err-push-2 i c = answers _ _ (search rules) (no_memory refl)
+pub query::items-returns-in_err-push-2-clause-reads : goal.query::items-returns-in_err-push-2-clause-reads
+query::items-returns-in_err-push-2-clause-reads i c = answers _ _ (search rules) (no_memory refl)
 
-pub query::items-returns : goal.query::items-returns
-query::items-returns i c = list_ends (λ m. g.ItemOf (within m)) c.args.levels c.args.levels (λ m. item_alike (within_alike c.args.levels m)) c.args.cursor.now c.items.cursor c.eat_symbol.new.self (map item_of c.items.items.items) c.items.invariant c.if-not-eat_symbol.ensures
+pub query::items-returns-clause-reads : goal.query::items-returns-clause-reads
+query::items-returns-clause-reads i c = list_ends (λ m. g.ItemOf (within m)) c.args.levels c.args.levels (λ m. item_alike (within_alike c.args.levels m)) c.args.cursor.now c.items.cursor c.eat_symbol.new.self (map item_of c.items.items.items) c.items.invariant.reads c.if-not-eat_symbol.ensures
 
-pub expr::signed-returns-in_default : goal.expr::signed-returns-in_default
+pub query::items-returns-clause-placed : goal.query::items-returns-clause-placed
+query::items-returns-clause-placed i c = stays c.items.invariant.placed c.if-not-eat_symbol.ensures.1
+
+pub expr::signed-returns-in_default-clause-reads : goal.expr::signed-returns-in_default-clause-reads
 unfolding g.SignOf
-expr::signed-returns-in_default i c = reads_not_on c.in_default.ensures c.primary.ensures
+expr::signed-returns-in_default-clause-reads i c = reads_not_on c.in_default.ensures c.primary.ensures.reads
 
-pub expr::signed-returns-in_err-below : goal.expr::signed-returns-in_err-below
+pub expr::signed-returns-in_default-clause-placed : goal.expr::signed-returns-in_default-clause-placed
+expr::signed-returns-in_default-clause-placed i c = ok_then _ c.primary.ensures.placed (λ e d. on (stays here c.in_default.ensures.1) d)
+
+pub expr::signed-returns-in_err-below-clause-reads : goal.expr::signed-returns-in_err-below-clause-reads
 unfolding g.SignOf
-expr::signed-returns-in_err-below i c = let o = sign_opens _ _ c.in-Some.ensures.0 in answers _ _ (search rules) (deep_reads o.0 o.1 (λ us at. nowhere_first us at (nowhere_never us at)) o.2 c.in-Some.ensures c.in_err-below.ensures.deep)
+expr::signed-returns-in_err-below-clause-reads i c = let o = sign_opens _ _ c.in-Some.ensures.0 in answers _ _ (search rules) (deep_reads o.0 o.1 (λ us at. nowhere_first us at (nowhere_never us at)) o.2 c.in-Some.ensures c.in_err-below.ensures.deep)
 
-pub expr::signed-returns-in_err-operand : goal.expr::signed-returns-in_err-operand
+pub expr::signed-returns-in_err-operand-clause-reads : goal.expr::signed-returns-in_err-operand-clause-reads
 unfolding g.SignOf
-expr::signed-returns-in_err-operand i c = let o = sign_opens _ _ c.in-Some.ensures.0 in answers _ _ (search rules) (opens_reads o.0 o.1 c.in_ok-below.ensures.ok o.2 c.in-Some.ensures (then_fails (inside (λ us at. nowhere_never us at) c.in_err-operand.ensures)))
+expr::signed-returns-in_err-operand-clause-reads i c = let o = sign_opens _ _ c.in-Some.ensures.0 in answers _ _ (search rules) (opens_reads o.0 o.1 c.in_ok-below.ensures.ok o.2 c.in-Some.ensures (then_fails (inside (λ us at. nowhere_never us at) c.in_err-operand.ensures.reads)))
 
-pub expr::signed-returns-in_err-operand-2 : goal.expr::signed-returns-in_err-operand-2
-expr::signed-returns-in_err-operand-2 i c = answers _ _ (search rules) (no_memory refl)
+pub expr::signed-returns-in_err-operand-2-clause-reads : goal.expr::signed-returns-in_err-operand-2-clause-reads
+expr::signed-returns-in_err-operand-2-clause-reads i c = answers _ _ (search rules) (no_memory refl)
 
-pub expr::signed-returns : goal.expr::signed-returns
+pub expr::signed-returns-clause-reads : goal.expr::signed-returns-clause-reads
 unfolding g.SignOf
-expr::signed-returns i c = let o = sign_opens _ _ c.in-Some.ensures.0 in opens_reads o.0 o.1 c.in_ok-below.ensures.ok o.2 c.in-Some.ensures (then_on (λ m. (within_alike (suc c.in_ok-below.below) m).sign) (inside (λ us at. nowhere_never us at) c.in_ok-operand.ensures) (gives_as (of_signed _ _ _ ∙ ap (λ z. tree.Signed c.in-Some.minus (expr_of z)) c.in_ok-operand-2.ensures.ok)))
+expr::signed-returns-clause-reads i c = let o = sign_opens _ _ c.in-Some.ensures.0 in opens_reads o.0 o.1 c.in_ok-below.ensures.ok o.2 c.in-Some.ensures (then_on (λ m. (within_alike (suc c.in_ok-below.below) m).sign) (inside (λ us at. nowhere_never us at) c.in_ok-operand.ensures.reads) (gives_as (of_signed _ _ _ ∙ ap (λ z. tree.Signed c.in-Some.minus (expr_of z)) c.in_ok-operand-2.ensures.ok)))
 
-pub expr::primary-returns-in-Some : goal.expr::primary-returns-in-Some
+pub expr::signed-returns-clause-placed : goal.expr::signed-returns-clause-placed
+expr::signed-returns-clause-placed i c = seen_as (leaves.of_signed _ _ _ ∙ ap (λ z. one (sign_leaf c.in-Some.minus) c.start-start.result ++ expr_leaves z) c.in_ok-operand-2.ensures.ok) (on (says_leaf leaves.sign_says here c.start-start.ensures c.in-Some.ensures) c.in_ok-operand.ensures.placed)
+
+pub expr::primary-returns-in-Some-clause-reads : goal.expr::primary-returns-in-Some-clause-reads
 unfolding g.PrimaryOf
-expr::primary-returns-in-Some i c = reads_on (c.in-Some.ensures.0.1, c.in-Some.ensures.1) (gives_as (of_numeral _ ∙ c.in-Some.ensures.0.2))
+expr::primary-returns-in-Some-clause-reads i c = reads_on (c.in-Some.ensures.taken.0.1, c.in-Some.ensures.taken.1) (gives_as (of_numeral _ ∙ c.in-Some.ensures.taken.0.2))
 
-pub expr::primary-returns-in_err-string : goal.expr::primary-returns-in_err-string
+pub expr::primary-returns-in-Some-clause-placed : goal.expr::primary-returns-in-Some-clause-placed
+expr::primary-returns-in-Some-clause-placed i c = seen_as (leaves.of_numeral _) c.in-Some.ensures.placed
+
+pub expr::primary-returns-in_err-string-clause-reads : goal.expr::primary-returns-in_err-string-clause-reads
 unfolding g.PrimaryOf
-expr::primary-returns-in_err-string i c = answers _ _ (search rules) (no_memory c.in_err-string.ensures.memory)
+expr::primary-returns-in_err-string-clause-reads i c = answers _ _ (search rules) (no_memory c.in_err-string.ensures.memory)
 
-pub expr::primary-returns-in-Some-2 : goal.expr::primary-returns-in-Some-2
+pub expr::primary-returns-in-Some-2-clause-reads : goal.expr::primary-returns-in-Some-2-clause-reads
 unfolding g.PrimaryOf
-expr::primary-returns-in-Some-2 i c = reads_not_on c.in_default.ensures (reads_on (rw c.in-Some-2.is at c.in_ok-string.ensures.ok) (gives_as (of_string _)))
+expr::primary-returns-in-Some-2-clause-reads i c = reads_not_on c.in_default.ensures.taken (reads_on (rw c.in-Some-2.is at c.in_ok-string.ensures.ok) (gives_as (of_string _)))
 
-pub expr::primary-returns-in_err-expect_symbol : goal.expr::primary-returns-in_err-expect_symbol
+pub expr::primary-returns-in-Some-2-clause-placed : goal.expr::primary-returns-in-Some-2-clause-placed
+expr::primary-returns-in-Some-2-clause-placed i c = seen_as (leaves.of_string _) (on c.in_default.ensures.placed (rw c.in-Some-2.is at c.in_ok-string.ensures.placed))
+
+pub expr::primary-returns-in_err-expect_symbol-clause-reads : goal.expr::primary-returns-in_err-expect_symbol-clause-reads
 unfolding g.PrimaryOf
-expr::primary-returns-in_err-expect_symbol i c = answers _ _ (search rules) (reads_not_on c.in_default.ensures (reads_not_on (rw c.in_default-2.is at c.in_ok-string.ensures.ok) (reads_on c.in-Some-take_set_function.ensures (past_fails c.in_err-expect_symbol.ensures))))
+expr::primary-returns-in_err-expect_symbol-clause-reads i c = answers _ _ (search rules) (reads_not_on c.in_default.ensures.taken (reads_not_on (rw c.in_default-2.is at c.in_ok-string.ensures.ok) (reads_on c.in-Some-take_set_function.ensures (past_fails c.in_err-expect_symbol.ensures))))
 
-pub expr::primary-returns-in_err-below : goal.expr::primary-returns-in_err-below
+pub expr::primary-returns-in_err-below-clause-reads : goal.expr::primary-returns-in_err-below-clause-reads
 unfolding g.PrimaryOf
-expr::primary-returns-in_err-below i c = answers _ _ (search rules) (reads_not_on c.in_default.ensures (reads_not_on (rw c.in_default-2.is at c.in_ok-string.ensures.ok) (reads_on c.in-Some-take_set_function.ensures (deep_past (λ us at. nowhere_never us at) refl c.in_ok-expect_symbol.ensures c.in_err-below.ensures.deep))))
+expr::primary-returns-in_err-below-clause-reads i c = answers _ _ (search rules) (reads_not_on c.in_default.ensures.taken (reads_not_on (rw c.in_default-2.is at c.in_ok-string.ensures.ok) (reads_on c.in-Some-take_set_function.ensures (deep_past (λ us at. nowhere_never us at) refl c.in_ok-expect_symbol.ensures c.in_err-below.ensures.deep))))
 
-pub expr::primary-returns-in_ok-below : goal.expr::primary-returns-in_ok-below
+pub expr::primary-returns-in_ok-below-clause-reads : goal.expr::primary-returns-in_ok-below-clause-reads
 unfolding g.PrimaryOf
-expr::primary-returns-in_ok-below i c = reads_not_on c.in_default.ensures (reads_not_on (rw c.in_default-2.is at c.in_ok-string.ensures.ok) (reads_on c.in-Some-take_set_function.ensures (opens_past c.in_ok-below.ensures.ok refl c.in_ok-expect_symbol.ensures (inside (λ us at. nowhere_never us at) c.argument.ensures))))
+expr::primary-returns-in_ok-below-clause-reads i c = reads_not_on c.in_default.ensures.taken (reads_not_on (rw c.in_default-2.is at c.in_ok-string.ensures.ok) (reads_on c.in-Some-take_set_function.ensures (opens_past c.in_ok-below.ensures.ok refl c.in_ok-expect_symbol.ensures (inside (λ us at. nowhere_never us at) c.argument.ensures.reads))))
 
-pub expr::primary-returns-in_default-take_set_function : goal.expr::primary-returns-in_default-take_set_function
+pub expr::primary-returns-in_ok-below-clause-placed : goal.expr::primary-returns-in_ok-below-clause-placed
+expr::primary-returns-in_ok-below-clause-placed i c = let e = (rw c.in_default-2.is at c.in_ok-string.ensures.ok).1 ∙ c.in_default.ensures.taken.1 in ok_behind _ _ _ c.argument.ensures.placed (past refl (says_leaf leaves.function_says (stays here e) (still c.start-start.ensures e) c.in-Some-take_set_function.ensures) c.in_ok-expect_symbol.ensures)
+
+pub expr::primary-returns-in_default-take_set_function-clause-reads : goal.expr::primary-returns-in_default-take_set_function-clause-reads
 unfolding g.PrimaryOf
-expr::primary-returns-in_default-take_set_function i c = reads_not_on c.in_default.ensures (reads_not_on (rw c.in_default-2.is at c.in_ok-string.ensures.ok) (reads_not_on c.in_default-take_set_function.ensures c.other_primary.ensures))
+expr::primary-returns-in_default-take_set_function-clause-reads i c = reads_not_on c.in_default.ensures.taken (reads_not_on (rw c.in_default-2.is at c.in_ok-string.ensures.ok) (reads_not_on c.in_default-take_set_function.ensures c.other_primary.ensures.reads))
 
-pub expr::other_primary-returns-in_err-expect_symbol : goal.expr::other_primary-returns-in_err-expect_symbol
+pub expr::primary-returns-in_default-take_set_function-clause-placed : goal.expr::primary-returns-in_default-take_set_function-clause-placed
+expr::primary-returns-in_default-take_set_function-clause-placed i c = let e = (rw c.in_default-2.is at c.in_ok-string.ensures.ok).1 ∙ c.in_default.ensures.taken.1 in ok_then _ c.other_primary.ensures.placed (λ x d. on (stays (stays here e) c.in_default-take_set_function.ensures.1) d)
+
+pub expr::other_primary-returns-in_err-expect_symbol-clause-reads : goal.expr::other_primary-returns-in_err-expect_symbol-clause-reads
 unfolding g.OtherPrimaryOf
-expr::other_primary-returns-in_err-expect_symbol i c = answers _ _ (search rules) (if_on c.if-eat_word_as.ensures (past_fails c.in_err-expect_symbol.ensures))
+expr::other_primary-returns-in_err-expect_symbol-clause-reads i c = answers _ _ (search rules) (if_on c.if-eat_word_as.ensures (past_fails c.in_err-expect_symbol.ensures))
 
-pub expr::other_primary-returns-in_err-below : goal.expr::other_primary-returns-in_err-below
+pub expr::other_primary-returns-in_err-below-clause-reads : goal.expr::other_primary-returns-in_err-below-clause-reads
 unfolding g.OtherPrimaryOf
-expr::other_primary-returns-in_err-below i c = answers _ _ (search rules) (if_on c.if-eat_word_as.ensures (deep_past (λ us at. nowhere_first us at (nowhere_never us at)) refl c.in_ok-expect_symbol.ensures c.in_err-below.ensures.deep))
+expr::other_primary-returns-in_err-below-clause-reads i c = answers _ _ (search rules) (if_on c.if-eat_word_as.ensures (deep_past (λ us at. nowhere_first us at (nowhere_never us at)) refl c.in_ok-expect_symbol.ensures c.in_err-below.ensures.deep))
 
-pub expr::other_primary-returns-in_err-query : goal.expr::other_primary-returns-in_err-query
+pub expr::other_primary-returns-in_err-query-clause-reads : goal.expr::other_primary-returns-in_err-query-clause-reads
 unfolding g.OtherPrimaryOf
-expr::other_primary-returns-in_err-query i c = answers _ _ (search rules) (if_on c.if-eat_word_as.ensures (opens_past c.in_ok-below.ensures.ok refl c.in_ok-expect_symbol.ensures (then_fails (inside (λ us at. nowhere_never us at) c.in_err-query.ensures))))
+expr::other_primary-returns-in_err-query-clause-reads i c = answers _ _ (search rules) (if_on c.if-eat_word_as.ensures (opens_past c.in_ok-below.ensures.ok refl c.in_ok-expect_symbol.ensures (then_fails (inside (λ us at. nowhere_never us at) c.in_err-query.ensures.reads))))
 
-pub expr::other_primary-returns-in_ok-query : goal.expr::other_primary-returns-in_ok-query
+pub expr::other_primary-returns-in_ok-query-clause-reads : goal.expr::other_primary-returns-in_ok-query-clause-reads
 unfolding g.OtherPrimaryOf
-expr::other_primary-returns-in_ok-query i c = if_on c.if-eat_word_as.ensures (opens_past c.in_ok-below.ensures.ok refl c.in_ok-expect_symbol.ensures (then_on (λ m. (within_alike (suc c.in_ok-below.below) m).subquery) (inside (λ us at. nowhere_never us at) c.in_ok-query.ensures) (gives_as (of_exists _ _))))
+expr::other_primary-returns-in_ok-query-clause-reads i c = if_on c.if-eat_word_as.ensures (opens_past c.in_ok-below.ensures.ok refl c.in_ok-expect_symbol.ensures (then_on (λ m. (within_alike (suc c.in_ok-below.below) m).subquery) (inside (λ us at. nowhere_never us at) c.in_ok-query.ensures.reads) (gives_as (of_exists _ _))))
 
-pub expr::other_primary-returns-in_err-below-2 : goal.expr::other_primary-returns-in_err-below-2
+pub expr::other_primary-returns-in_ok-query-clause-placed : goal.expr::other_primary-returns-in_ok-query-clause-placed
+expr::other_primary-returns-in_ok-query-clause-placed i c = seen_as (leaves.of_exists _ _) (on (past refl (past_leaf here c.start-start.ensures c.if-eat_word_as.ensures) c.in_ok-expect_symbol.ensures) c.in_ok-query.ensures.placed)
+
+pub expr::other_primary-returns-in_err-below-2-clause-reads : goal.expr::other_primary-returns-in_err-below-2-clause-reads
 unfolding g.OtherPrimaryOf
-expr::other_primary-returns-in_err-below-2 i c = answers _ _ (search rules) (misses_on c.if-eat_word_as.ensures (deep_if (λ us at. nowhere_never us at) refl c.if-eat_symbol_as.ensures c.in_err-below-2.ensures.deep))
+expr::other_primary-returns-in_err-below-2-clause-reads i c = answers _ _ (search rules) (misses_on c.if-eat_word_as.ensures (deep_if (λ us at. nowhere_never us at) refl c.if-eat_symbol_as.ensures c.in_err-below-2.ensures.deep))
 
-pub expr::other_primary-returns-in_ok-below-2 : goal.expr::other_primary-returns-in_ok-below-2
+pub expr::other_primary-returns-in_ok-below-2-clause-reads : goal.expr::other_primary-returns-in_ok-below-2-clause-reads
 unfolding g.OtherPrimaryOf
-expr::other_primary-returns-in_ok-below-2 i c = misses_on c.if-eat_word_as.ensures (opens_if c.in_ok-below-2.ensures.ok refl c.if-eat_symbol_as.ensures (inside (λ us at. nowhere_never us at) c.parenthesis.ensures))
+expr::other_primary-returns-in_ok-below-2-clause-reads i c = misses_on c.if-eat_word_as.ensures (opens_if c.in_ok-below-2.ensures.ok refl c.if-eat_symbol_as.ensures (inside (λ us at. nowhere_never us at) c.parenthesis.ensures.reads))
 
-pub expr::other_primary-returns-in_err-column : goal.expr::other_primary-returns-in_err-column
+pub expr::other_primary-returns-in_ok-below-2-clause-placed : goal.expr::other_primary-returns-in_ok-below-2-clause-placed
+expr::other_primary-returns-in_ok-below-2-clause-placed i c = ok_behind_either _ _ _ c.parenthesis.ensures.placed (past refl (stays here c.if-eat_word_as.ensures.1) c.if-eat_symbol_as.ensures) (past_leaf (stays here c.if-eat_word_as.ensures.1) (still c.start-start.ensures c.if-eat_word_as.ensures.1) c.if-eat_symbol_as.ensures)
+
+pub expr::other_primary-returns-in_err-column-clause-reads : goal.expr::other_primary-returns-in_err-column-clause-reads
 unfolding g.OtherPrimaryOf
-expr::other_primary-returns-in_err-column i c = answers _ _ (search rules) (misses_on c.if-eat_word_as.ensures (misses_on c.if-eat_symbol_as.ensures (then_fails (c.in_err-column.ensures _ _))))
+expr::other_primary-returns-in_err-column-clause-reads i c = answers _ _ (search rules) (misses_on c.if-eat_word_as.ensures (misses_on c.if-eat_symbol_as.ensures (then_fails (c.in_err-column.ensures.reads _ _))))
 
-pub expr::other_primary-returns-in_ok-column : goal.expr::other_primary-returns-in_ok-column
+pub expr::other_primary-returns-in_ok-column-clause-reads : goal.expr::other_primary-returns-in_ok-column-clause-reads
 unfolding g.OtherPrimaryOf
-expr::other_primary-returns-in_ok-column i c = misses_on c.if-eat_word_as.ensures (misses_on c.if-eat_symbol_as.ensures (flat_on reference_alike c.in_ok-column.ensures (gives_as (of_column _))))
+expr::other_primary-returns-in_ok-column-clause-reads i c = misses_on c.if-eat_word_as.ensures (misses_on c.if-eat_symbol_as.ensures (flat_on reference_alike c.in_ok-column.ensures.reads (gives_as (of_column _))))
 
-pub expr::parenthesis-returns-in_err-query : goal.expr::parenthesis-returns-in_err-query
+pub expr::other_primary-returns-in_ok-column-clause-placed : goal.expr::other_primary-returns-in_ok-column-clause-placed
+expr::other_primary-returns-in_ok-column-clause-placed i c = seen_as (leaves.of_column _) (on (stays (stays here c.if-eat_word_as.ensures.1) c.if-eat_symbol_as.ensures.1) c.in_ok-column.ensures.placed)
+
+pub expr::parenthesis-returns-in_err-query-clause-reads : goal.expr::parenthesis-returns-in_err-query-clause-reads
 unfolding g.ParenthesisOf
-expr::parenthesis-returns-in_err-query i c = answers _ _ (search rules) (sees_on (c.sees_word.ensures.stands.0 c.if-sees_word.true) (begins c.sees_word.ensures.same (then_fails c.in_err-query.ensures)))
+expr::parenthesis-returns-in_err-query-clause-reads i c = answers _ _ (search rules) (sees_on (c.sees_word.ensures.stands.0 c.if-sees_word.true) (begins c.sees_word.ensures.same (then_fails c.in_err-query.ensures.reads)))
 
-pub expr::parenthesis-returns-then-sees_word : goal.expr::parenthesis-returns-then-sees_word
+pub expr::parenthesis-returns-then-sees_word-clause-reads : goal.expr::parenthesis-returns-then-sees_word-clause-reads
 unfolding g.ParenthesisOf
-expr::parenthesis-returns-then-sees_word i c = sees_on (c.sees_word.ensures.stands.0 c.if-sees_word.true) (begins c.sees_word.ensures.same (then_on (λ m. subquery_alike (within_alike c.args.levels m)) c.in_ok-query.ensures (gives_as (of_scalar _ _))))
+expr::parenthesis-returns-then-sees_word-clause-reads i c = sees_on (c.sees_word.ensures.stands.0 c.if-sees_word.true) (begins c.sees_word.ensures.same (then_on (λ m. subquery_alike (within_alike c.args.levels m)) c.in_ok-query.ensures.reads (gives_as (of_scalar _ _))))
 
-pub expr::parenthesis-returns-in_err-inner : goal.expr::parenthesis-returns-in_err-inner
+pub expr::parenthesis-returns-then-sees_word-clause-placed : goal.expr::parenthesis-returns-then-sees_word-clause-placed
+expr::parenthesis-returns-then-sees_word-clause-placed i c = λ from d f. seen_as (leaves.of_scalar _ _) (on (stays f c.sees_word.ensures.same) c.in_ok-query.ensures.placed)
+
+pub expr::parenthesis-returns-in_err-inner-clause-reads : goal.expr::parenthesis-returns-in_err-inner-clause-reads
 unfolding g.ParenthesisOf
-expr::parenthesis-returns-in_err-inner i c = answers _ _ (search rules) (misses_on ((λ h. absurd (different (c.sees_word.ensures.stands.1 h) c.if-sees_word.false)), c.sees_word.ensures.same) (then_fails c.in_err-inner.ensures))
+expr::parenthesis-returns-in_err-inner-clause-reads i c = answers _ _ (search rules) (misses_on ((λ h. absurd (different (c.sees_word.ensures.stands.1 h) c.if-sees_word.false)), c.sees_word.ensures.same) (then_fails c.in_err-inner.ensures.reads))
 
-pub expr::parenthesis-returns-in_err-expect_symbol : goal.expr::parenthesis-returns-in_err-expect_symbol
+pub expr::parenthesis-returns-in_err-expect_symbol-clause-reads : goal.expr::parenthesis-returns-in_err-expect_symbol-clause-reads
 unfolding g.ParenthesisOf
-expr::parenthesis-returns-in_err-expect_symbol i c = answers _ _ (search rules) (misses_on ((λ h. absurd (different (c.sees_word.ensures.stands.1 h) c.if-sees_word.false)), c.sees_word.ensures.same) (then_on (λ m. expr_alike (within_alike c.args.levels m)) c.in_ok-inner.ensures (past_fails c.in_err-expect_symbol.ensures)))
+expr::parenthesis-returns-in_err-expect_symbol-clause-reads i c = answers _ _ (search rules) (misses_on ((λ h. absurd (different (c.sees_word.ensures.stands.1 h) c.if-sees_word.false)), c.sees_word.ensures.same) (then_on (λ m. expr_alike (within_alike c.args.levels m)) c.in_ok-inner.ensures.reads (past_fails c.in_err-expect_symbol.ensures)))
 
-pub expr::parenthesis-returns : goal.expr::parenthesis-returns
+pub expr::parenthesis-returns-clause-reads : goal.expr::parenthesis-returns-clause-reads
 unfolding g.ParenthesisOf
-expr::parenthesis-returns i c = misses_on ((λ h. absurd (different (c.sees_word.ensures.stands.1 h) c.if-sees_word.false)), c.sees_word.ensures.same) (then_on (λ m. expr_alike (within_alike c.args.levels m)) c.in_ok-inner.ensures (past_on c.in_ok-expect_symbol.ensures gives))
+expr::parenthesis-returns-clause-reads i c = misses_on ((λ h. absurd (different (c.sees_word.ensures.stands.1 h) c.if-sees_word.false)), c.sees_word.ensures.same) (then_on (λ m. expr_alike (within_alike c.args.levels m)) c.in_ok-inner.ensures.reads (past_on c.in_ok-expect_symbol.ensures gives))
 
-pub expr::subquery-returns-in_err-query : goal.expr::subquery-returns-in_err-query
+pub expr::parenthesis-returns-clause-placed : goal.expr::parenthesis-returns-clause-placed
+expr::parenthesis-returns-clause-placed i c = λ from d f. past refl (on (stays d c.sees_word.ensures.same) c.in_ok-inner.ensures.placed) c.in_ok-expect_symbol.ensures
+
+pub expr::subquery-returns-in_err-query-clause-reads : goal.expr::subquery-returns-in_err-query-clause-reads
 unfolding g.SubqueryOf
-expr::subquery-returns-in_err-query i c = answers _ _ (search rules) (then_fails c.in_err-query.ensures)
+expr::subquery-returns-in_err-query-clause-reads i c = answers _ _ (search rules) (then_fails c.in_err-query.ensures.reads)
 
-pub expr::subquery-returns-in_err-expect_symbol : goal.expr::subquery-returns-in_err-expect_symbol
+pub expr::subquery-returns-in_err-expect_symbol-clause-reads : goal.expr::subquery-returns-in_err-expect_symbol-clause-reads
 unfolding g.SubqueryOf
-expr::subquery-returns-in_err-expect_symbol i c = answers _ _ (search rules) (then_on (λ m. block_alike (within_alike c.args.levels m)) c.in_ok-query.ensures (past_fails c.in_err-expect_symbol.ensures))
+expr::subquery-returns-in_err-expect_symbol-clause-reads i c = answers _ _ (search rules) (then_on (λ m. block_alike (within_alike c.args.levels m)) c.in_ok-query.ensures.reads (past_fails c.in_err-expect_symbol.ensures))
 
-pub expr::subquery-returns-in_err-query-2 : goal.expr::subquery-returns-in_err-query-2
-expr::subquery-returns-in_err-query-2 i c = answers _ _ (search rules) (no_memory refl)
+pub expr::subquery-returns-in_err-query-2-clause-reads : goal.expr::subquery-returns-in_err-query-2-clause-reads
+expr::subquery-returns-in_err-query-2-clause-reads i c = answers _ _ (search rules) (no_memory refl)
 
-pub expr::subquery-returns : goal.expr::subquery-returns
+pub expr::subquery-returns-clause-reads : goal.expr::subquery-returns-clause-reads
 unfolding g.SubqueryOf
-expr::subquery-returns i c = then_on (λ m. block_alike (within_alike c.args.levels m)) c.in_ok-query.ensures (past_on c.in_ok-expect_symbol.ensures (gives_as (ap block_of c.in_ok-query-2.ensures.ok)))
+expr::subquery-returns-clause-reads i c = then_on (λ m. block_alike (within_alike c.args.levels m)) c.in_ok-query.ensures.reads (past_on c.in_ok-expect_symbol.ensures (gives_as (ap block_of c.in_ok-query-2.ensures.ok)))
 
-pub expr::argument-returns-in_err-expect_symbol : goal.expr::argument-returns-in_err-expect_symbol
+pub expr::subquery-returns-clause-placed : goal.expr::subquery-returns-clause-placed
+expr::subquery-returns-clause-placed i c = seen_as (ap block_leaves c.in_ok-query-2.ensures.ok) (past refl c.in_ok-query.ensures.placed c.in_ok-expect_symbol.ensures)
+
+pub expr::argument-returns-in_err-expect_symbol-clause-reads : goal.expr::argument-returns-in_err-expect_symbol-clause-reads
 unfolding g.ArgumentOf
-expr::argument-returns-in_err-expect_symbol i c = answers _ _ (search rules) (starred _ c.if-eat_asterisk.ensures (past_fails c.in_err-expect_symbol.ensures))
+expr::argument-returns-in_err-expect_symbol-clause-reads i c = answers _ _ (search rules) (starred _ c.if-eat_asterisk.ensures (past_fails c.in_err-expect_symbol.ensures))
 
-pub expr::argument-returns-then-eat_asterisk : goal.expr::argument-returns-then-eat_asterisk
+pub expr::argument-returns-then-eat_asterisk-clause-reads : goal.expr::argument-returns-then-eat_asterisk-clause-reads
 unfolding g.ArgumentOf
-expr::argument-returns-then-eat_asterisk i c = starred _ c.if-eat_asterisk.ensures (past_on c.in_ok-expect_symbol.ensures (gives_as (of_count_rows _)))
+expr::argument-returns-then-eat_asterisk-clause-reads i c = starred _ c.if-eat_asterisk.ensures (past_on c.in_ok-expect_symbol.ensures (gives_as (of_count_rows _)))
 
-pub expr::argument-returns-in_err-argument : goal.expr::argument-returns-in_err-argument
+pub expr::argument-returns-then-eat_asterisk-clause-placed : goal.expr::argument-returns-then-eat_asterisk-clause-placed
+expr::argument-returns-then-eat_asterisk-clause-placed i c = λ from d. seen_as (leaves.of_count_rows _ ∙ ap (λ l. one l c.args.start) (sym (leaves.is_count _ _ _ c.if-eat_asterisk.ensures))) (past refl (leaves.asterisk_past _ _ d c.if-eat_asterisk.ensures) c.in_ok-expect_symbol.ensures)
+
+pub expr::argument-returns-in_err-argument-clause-reads : goal.expr::argument-returns-in_err-argument-clause-reads
 unfolding g.ArgumentOf
-expr::argument-returns-in_err-argument i c = answers _ _ (search rules) (unstarred _ c.if-eat_asterisk.ensures (flat_on distinct_alike c.distinct-distinct.ensures (then_fails (then_fails c.in_err-argument.ensures))))
+expr::argument-returns-in_err-argument-clause-reads i c = answers _ _ (search rules) (unstarred _ c.if-eat_asterisk.ensures (flat_on distinct_alike c.distinct-distinct.ensures.reads (then_fails (then_fails c.in_err-argument.ensures.reads))))
 
-pub expr::argument-returns-in_err-expect_symbol-2 : goal.expr::argument-returns-in_err-expect_symbol-2
+pub expr::argument-returns-in_err-expect_symbol-2-clause-reads : goal.expr::argument-returns-in_err-expect_symbol-2-clause-reads
 unfolding g.ArgumentOf
-expr::argument-returns-in_err-expect_symbol-2 i c = answers _ _ (search rules) (unstarred _ c.if-eat_asterisk.ensures (flat_on distinct_alike c.distinct-distinct.ensures (then_fails (then_on (λ m. expr_alike (within_alike c.args.levels m)) c.in_ok-argument.ensures (past_fails c.in_err-expect_symbol-2.ensures)))))
+expr::argument-returns-in_err-expect_symbol-2-clause-reads i c = answers _ _ (search rules) (unstarred _ c.if-eat_asterisk.ensures (flat_on distinct_alike c.distinct-distinct.ensures.reads (then_fails (then_on (λ m. expr_alike (within_alike c.args.levels m)) c.in_ok-argument.ensures.reads (past_fails c.in_err-expect_symbol-2.ensures)))))
 
-pub expr::argument-returns : goal.expr::argument-returns
+pub expr::argument-returns-clause-reads : goal.expr::argument-returns-clause-reads
 unfolding g.ArgumentOf
-expr::argument-returns i c = unstarred _ c.if-eat_asterisk.ensures (flat_on distinct_alike c.distinct-distinct.ensures (then_on {k = c.args.levels} (λ m. closed_alike (expr_alike (within_alike c.args.levels m))) (then_on (λ m. expr_alike (within_alike c.args.levels m)) c.in_ok-argument.ensures (past_on c.in_ok-expect_symbol-2.ensures gives)) (gives_as (of_function _ _ _ _ ∙ ap (λ z. tree.Function (function_of c.args.function) c.distinct-distinct.result (expr_of z)) c.in_ok-argument-2.ensures.ok))))
+expr::argument-returns-clause-reads i c = unstarred _ c.if-eat_asterisk.ensures (flat_on distinct_alike c.distinct-distinct.ensures.reads (then_on {k = c.args.levels} (λ m. closed_alike (expr_alike (within_alike c.args.levels m))) (then_on (λ m. expr_alike (within_alike c.args.levels m)) c.in_ok-argument.ensures.reads (past_on c.in_ok-expect_symbol-2.ensures gives)) (gives_as (of_function _ _ _ _ ∙ ap (λ z. tree.Function (function_of c.args.function) c.distinct-distinct.result (expr_of z)) c.in_ok-argument-2.ensures.ok))))
 
-pub expr::argument-returns-in_err-argument-2 : goal.expr::argument-returns-in_err-argument-2
-expr::argument-returns-in_err-argument-2 i c = answers _ _ (search rules) (no_memory refl)
+pub expr::argument-returns-clause-placed : goal.expr::argument-returns-clause-placed
+expr::argument-returns-clause-placed i c = λ from d. seen_as (leaves.of_function _ _ _ _ ∙ ap (λ z. one (function_leaf (function_of c.args.function)) c.args.start ++ expr_leaves z) c.in_ok-argument-2.ensures.ok) (past refl (on (no_more (leaves.asterisk_past _ _ d c.if-eat_asterisk.ensures) c.distinct-distinct.ensures.placed) c.in_ok-argument.ensures.placed) c.in_ok-expect_symbol-2.ensures)
 
-pub query::block-returns-in_err-expect_word : goal.query::block-returns-in_err-expect_word
+pub expr::argument-returns-in_err-argument-2-clause-reads : goal.expr::argument-returns-in_err-argument-2-clause-reads
+expr::argument-returns-in_err-argument-2-clause-reads i c = answers _ _ (search rules) (no_memory refl)
+
+pub query::block-returns-in_err-expect_word-clause-reads : goal.query::block-returns-in_err-expect_word-clause-reads
 unfolding g.BlockOf
-query::block-returns-in_err-expect_word i c = answers _ _ (search rules) (past_fails c.in_err-expect_word.ensures)
+query::block-returns-in_err-expect_word-clause-reads i c = answers _ _ (search rules) (past_fails c.in_err-expect_word.ensures)
 
-pub query::block-returns-in_err-list : goal.query::block-returns-in_err-list
+pub query::block-returns-in_err-list-clause-reads : goal.query::block-returns-in_err-list-clause-reads
 unfolding g.BlockOf
-query::block-returns-in_err-list i c = answers _ _ (search rules) (past_on c.in_ok-expect_word.ensures (flat_on distinct_alike c.distinct-distinct.ensures (then_fails c.in_err-list.ensures)))
+query::block-returns-in_err-list-clause-reads i c = answers _ _ (search rules) (past_on c.in_ok-expect_word.ensures (flat_on distinct_alike c.distinct-distinct.ensures.reads (then_fails c.in_err-list.ensures.reads)))
 
-pub query::block-returns-in_err-expect_word-2 : goal.query::block-returns-in_err-expect_word-2
+pub query::block-returns-in_err-expect_word-2-clause-reads : goal.query::block-returns-in_err-expect_word-2-clause-reads
 unfolding g.BlockOf
-query::block-returns-in_err-expect_word-2 i c = answers _ _ (search rules) (past_on c.in_ok-expect_word.ensures (flat_on distinct_alike c.distinct-distinct.ensures (then_on (λ m. select_list_alike (within_alike c.args.levels m)) c.in_ok-list.ensures (past_fails c.in_err-expect_word-2.ensures))))
+query::block-returns-in_err-expect_word-2-clause-reads i c = answers _ _ (search rules) (past_on c.in_ok-expect_word.ensures (flat_on distinct_alike c.distinct-distinct.ensures.reads (then_on (λ m. select_list_alike (within_alike c.args.levels m)) c.in_ok-list.ensures.reads (past_fails c.in_err-expect_word-2.ensures))))
 
-pub query::block-returns-in_err-tables : goal.query::block-returns-in_err-tables
+pub query::block-returns-in_err-tables-clause-reads : goal.query::block-returns-in_err-tables-clause-reads
 unfolding g.BlockOf
-query::block-returns-in_err-tables i c = answers _ _ (search rules) (past_on c.in_ok-expect_word.ensures (flat_on distinct_alike c.distinct-distinct.ensures (then_on (λ m. select_list_alike (within_alike c.args.levels m)) c.in_ok-list.ensures (past_on c.in_ok-expect_word-2.ensures (then_fails (c.in_err-tables.ensures.reads _ _))))))
+query::block-returns-in_err-tables-clause-reads i c = answers _ _ (search rules) (past_on c.in_ok-expect_word.ensures (flat_on distinct_alike c.distinct-distinct.ensures.reads (then_on (λ m. select_list_alike (within_alike c.args.levels m)) c.in_ok-list.ensures.reads (past_on c.in_ok-expect_word-2.ensures (then_fails (c.in_err-tables.ensures.reads _ _))))))
 
-pub query::block-returns-in_err-condition : goal.query::block-returns-in_err-condition
+pub query::block-returns-in_err-condition-clause-reads : goal.query::block-returns-in_err-condition-clause-reads
 unfolding g.BlockOf
-query::block-returns-in_err-condition i c = answers _ _ (search rules) (past_on c.in_ok-expect_word.ensures (flat_on distinct_alike c.distinct-distinct.ensures (then_on (λ m. select_list_alike (within_alike c.args.levels m)) c.in_ok-list.ensures (past_on c.in_ok-expect_word-2.ensures (flat_on (list_alike source_alike) c.in_ok-tables.ensures.reads (then_fails c.in_err-condition.ensures))))))
+query::block-returns-in_err-condition-clause-reads i c = answers _ _ (search rules) (past_on c.in_ok-expect_word.ensures (flat_on distinct_alike c.distinct-distinct.ensures.reads (then_on (λ m. select_list_alike (within_alike c.args.levels m)) c.in_ok-list.ensures.reads (past_on c.in_ok-expect_word-2.ensures (flat_on (list_alike source_alike) c.in_ok-tables.ensures.reads (then_fails c.in_err-condition.ensures.reads))))))
 
-pub query::block-returns-in_err-groups : goal.query::block-returns-in_err-groups
+pub query::block-returns-in_err-groups-clause-reads : goal.query::block-returns-in_err-groups-clause-reads
 unfolding g.BlockOf
-query::block-returns-in_err-groups i c = answers _ _ (search rules) (past_on c.in_ok-expect_word.ensures (flat_on distinct_alike c.distinct-distinct.ensures (then_on (λ m. select_list_alike (within_alike c.args.levels m)) c.in_ok-list.ensures (past_on c.in_ok-expect_word-2.ensures (flat_on (list_alike source_alike) c.in_ok-tables.ensures.reads (then_on (λ m. condition_alike (within_alike c.args.levels m) _) c.in_ok-condition.ensures (then_fails (c.in_err-groups.ensures _ _))))))))
+query::block-returns-in_err-groups-clause-reads i c = answers _ _ (search rules) (past_on c.in_ok-expect_word.ensures (flat_on distinct_alike c.distinct-distinct.ensures.reads (then_on (λ m. select_list_alike (within_alike c.args.levels m)) c.in_ok-list.ensures.reads (past_on c.in_ok-expect_word-2.ensures (flat_on (list_alike source_alike) c.in_ok-tables.ensures.reads (then_on (λ m. condition_alike (within_alike c.args.levels m) _) c.in_ok-condition.ensures.reads (then_fails (c.in_err-groups.ensures.reads _ _))))))))
 
-pub query::block-returns-in_err-having : goal.query::block-returns-in_err-having
+pub query::block-returns-in_err-having-clause-reads : goal.query::block-returns-in_err-having-clause-reads
 unfolding g.BlockOf
-query::block-returns-in_err-having i c = answers _ _ (search rules) (past_on c.in_ok-expect_word.ensures (flat_on distinct_alike c.distinct-distinct.ensures (then_on (λ m. select_list_alike (within_alike c.args.levels m)) c.in_ok-list.ensures (past_on c.in_ok-expect_word-2.ensures (flat_on (list_alike source_alike) c.in_ok-tables.ensures.reads (then_on (λ m. condition_alike (within_alike c.args.levels m) _) c.in_ok-condition.ensures (flat_on groups_alike c.in_ok-groups.ensures (then_fails c.in_err-having.ensures))))))))
+query::block-returns-in_err-having-clause-reads i c = answers _ _ (search rules) (past_on c.in_ok-expect_word.ensures (flat_on distinct_alike c.distinct-distinct.ensures.reads (then_on (λ m. select_list_alike (within_alike c.args.levels m)) c.in_ok-list.ensures.reads (past_on c.in_ok-expect_word-2.ensures (flat_on (list_alike source_alike) c.in_ok-tables.ensures.reads (then_on (λ m. condition_alike (within_alike c.args.levels m) _) c.in_ok-condition.ensures.reads (flat_on groups_alike c.in_ok-groups.ensures.reads (then_fails c.in_err-having.ensures.reads))))))))
 
-pub query::block-returns : goal.query::block-returns
+pub query::block-returns-clause-reads : goal.query::block-returns-clause-reads
 unfolding g.BlockOf
-query::block-returns i c = past_on c.in_ok-expect_word.ensures (flat_on distinct_alike c.distinct-distinct.ensures (then_on (λ m. select_list_alike (within_alike c.args.levels m)) c.in_ok-list.ensures (past_on c.in_ok-expect_word-2.ensures (flat_on (list_alike source_alike) c.in_ok-tables.ensures.reads (then_on (λ m. condition_alike (within_alike c.args.levels m) _) c.in_ok-condition.ensures (flat_on groups_alike c.in_ok-groups.ensures (then_on (λ m. condition_alike (within_alike c.args.levels m) _) c.in_ok-having.ensures (gives_as (of_block _)))))))))
+query::block-returns-clause-reads i c = past_on c.in_ok-expect_word.ensures (flat_on distinct_alike c.distinct-distinct.ensures.reads (then_on (λ m. select_list_alike (within_alike c.args.levels m)) c.in_ok-list.ensures.reads (past_on c.in_ok-expect_word-2.ensures (flat_on (list_alike source_alike) c.in_ok-tables.ensures.reads (then_on (λ m. condition_alike (within_alike c.args.levels m) _) c.in_ok-condition.ensures.reads (flat_on groups_alike c.in_ok-groups.ensures.reads (then_on (λ m. condition_alike (within_alike c.args.levels m) _) c.in_ok-having.ensures.reads (gives_as (of_block _)))))))))
 
-pub query::select_list-returns-then-eat_symbol : goal.query::select_list-returns-then-eat_symbol
+pub query::block-returns-clause-placed : goal.query::block-returns-clause-placed
+query::block-returns-clause-placed i c = seen_as (leaves.of_block _) (on (on (on (on (past refl (on (no_more (past_leaf here c.start-start.ensures c.in_ok-expect_word.ensures) c.distinct-distinct.ensures.placed) c.in_ok-list.ensures.placed) c.in_ok-expect_word-2.ensures) c.in_ok-tables.ensures.placed) (c.in_ok-condition.ensures.placed refl)) c.in_ok-groups.ensures.placed) (c.in_ok-having.ensures.placed refl))
+
+pub query::select_list-returns-then-eat_symbol-clause-reads : goal.query::select_list-returns-then-eat_symbol-clause-reads
 unfolding g.SelectListOf
-query::select_list-returns-then-eat_symbol i c = if_on c.if-eat_symbol.ensures (gives_as (of_asterisk _))
+query::select_list-returns-then-eat_symbol-clause-reads i c = if_on c.if-eat_symbol.ensures (gives_as (of_asterisk _))
 
-pub query::select_list-returns-in_err-items : goal.query::select_list-returns-in_err-items
+pub query::select_list-returns-then-eat_symbol-clause-placed : goal.query::select_list-returns-then-eat_symbol-clause-placed
+query::select_list-returns-then-eat_symbol-clause-placed i c = seen_as (leaves.of_asterisk _) (past_leaf here c.start-start.ensures c.if-eat_symbol.ensures)
+
+pub query::select_list-returns-in_err-items-clause-reads : goal.query::select_list-returns-in_err-items-clause-reads
 unfolding g.SelectListOf
-query::select_list-returns-in_err-items i c = answers _ _ (search rules) (misses_on c.if-eat_symbol.ensures (then_fails c.in_err-items.ensures))
+query::select_list-returns-in_err-items-clause-reads i c = answers _ _ (search rules) (misses_on c.if-eat_symbol.ensures (then_fails c.in_err-items.ensures.reads))
 
-pub query::select_list-returns : goal.query::select_list-returns
+pub query::select_list-returns-clause-reads : goal.query::select_list-returns-clause-reads
 unfolding g.SelectListOf
-query::select_list-returns i c = misses_on c.if-eat_symbol.ensures (then_on (λ m. list_alike (item_alike (within_alike c.args.levels m))) c.in_ok-items.ensures (gives_as (of_items _)))
+query::select_list-returns-clause-reads i c = misses_on c.if-eat_symbol.ensures (then_on (λ m. list_alike (item_alike (within_alike c.args.levels m))) c.in_ok-items.ensures.reads (gives_as (of_items _)))
 
-pub query::item-returns-in_err-value : goal.query::item-returns-in_err-value
+pub query::select_list-returns-clause-placed : goal.query::select_list-returns-clause-placed
+query::select_list-returns-clause-placed i c = seen_as (leaves.of_items _) (on (stays here c.if-eat_symbol.ensures.1) c.in_ok-items.ensures.placed)
+
+pub query::item-returns-in_err-value-clause-reads : goal.query::item-returns-in_err-value-clause-reads
 unfolding g.ItemOf
-query::item-returns-in_err-value i c = answers _ _ (search rules) (then_fails c.in_err-value.ensures)
+query::item-returns-in_err-value-clause-reads i c = answers _ _ (search rules) (then_fails c.in_err-value.ensures.reads)
 
-pub query::item-returns-in_err-alias : goal.query::item-returns-in_err-alias
+pub query::item-returns-in_err-alias-clause-reads : goal.query::item-returns-in_err-alias-clause-reads
 unfolding g.ItemOf
-query::item-returns-in_err-alias i c = answers _ _ (search rules) (then_on (λ m. expr_alike (within_alike c.args.levels m)) c.in_ok-value.ensures (then_fails (c.in_err-alias.ensures _ _)))
+query::item-returns-in_err-alias-clause-reads i c = answers _ _ (search rules) (then_on (λ m. expr_alike (within_alike c.args.levels m)) c.in_ok-value.ensures.reads (then_fails (c.in_err-alias.ensures.reads _ _)))
 
-pub query::item-returns : goal.query::item-returns
+pub query::item-returns-clause-reads : goal.query::item-returns-clause-reads
 unfolding g.ItemOf
-query::item-returns i c = then_on (λ m. expr_alike (within_alike c.args.levels m)) c.in_ok-value.ensures (flat_on (optional_alike _ name_alike) c.in_ok-alias.ensures (gives_as (of_item _)))
+query::item-returns-clause-reads i c = then_on (λ m. expr_alike (within_alike c.args.levels m)) c.in_ok-value.ensures.reads (flat_on (optional_alike _ name_alike) c.in_ok-alias.ensures.reads (gives_as (of_item _)))
 
-pub query::condition_behind-returns-then-not-eat_word : goal.query::condition_behind-returns-then-not-eat_word
-unfolding g.ConditionOf
-query::condition_behind-returns-then-not-eat_word i c = misses_on c.if-not-eat_word.ensures gives
+pub query::item-returns-clause-placed : goal.query::item-returns-clause-placed
+query::item-returns-clause-placed i c = seen_as (leaves.of_item _) (on c.in_ok-value.ensures.placed c.in_ok-alias.ensures.placed)
 
-pub query::condition_behind-returns-in_err-condition : goal.query::condition_behind-returns-in_err-condition
+pub query::condition_behind-returns-then-not-eat_word-clause-reads : goal.query::condition_behind-returns-then-not-eat_word-clause-reads
 unfolding g.ConditionOf
-query::condition_behind-returns-in_err-condition i c = answers _ _ (search rules) (if_on c.if-not-eat_word.ensures (then_fails c.in_err-condition.ensures))
+query::condition_behind-returns-then-not-eat_word-clause-reads i c = misses_on c.if-not-eat_word.ensures gives
 
-pub query::condition_behind-returns : goal.query::condition_behind-returns
+pub query::condition_behind-returns-then-not-eat_word-clause-placed : goal.query::condition_behind-returns-then-not-eat_word-clause-placed
+query::condition_behind-returns-then-not-eat_word-clause-placed i c = λ h. stays here c.if-not-eat_word.ensures.1
+
+pub query::condition_behind-returns-in_err-condition-clause-reads : goal.query::condition_behind-returns-in_err-condition-clause-reads
 unfolding g.ConditionOf
-query::condition_behind-returns i c = if_on c.if-not-eat_word.ensures (then_on (λ m. expr_alike (within_alike c.args.levels m)) c.in_ok-condition.ensures gives)
+query::condition_behind-returns-in_err-condition-clause-reads i c = answers _ _ (search rules) (if_on c.if-not-eat_word.ensures (then_fails c.in_err-condition.ensures.reads))
+
+pub query::condition_behind-returns-clause-reads : goal.query::condition_behind-returns-clause-reads
+unfolding g.ConditionOf
+query::condition_behind-returns-clause-reads i c = if_on c.if-not-eat_word.ensures (then_on (λ m. expr_alike (within_alike c.args.levels m)) c.in_ok-condition.ensures.reads gives)
+
+pub query::condition_behind-returns-clause-placed : goal.query::condition_behind-returns-clause-placed
+query::condition_behind-returns-clause-placed i c = λ h. on (past h here c.if-not-eat_word.ensures) c.in_ok-condition.ensures.placed

@@ -1,9 +1,11 @@
-use Rattle.std.proofs.Common.{◌+◌, ◌*◌, ◌-◌, length, map}
+use Rattle.std.proofs.Common.{◌+◌, ◌*◌, ◌-◌, ◌++◌, length, map}
 use Rattle.definitions.specs.Grammar as g
 use Rattle.definitions.specs.Grammar.{within}
 use Rattle.trees.specs.Trees.{expr_of, item_of, member_of, operand_of}
 use Rattle.cursor.specs.Leaves.{line_kind}
+use Rattle.cursor.specs.Places.{Stands, if_there}
 use Rattle.cursor.proofs.Lists.{Lists}
+use Rattle.syntax.specs.Places.{all, expr_leaves, item_leaves, operand_leaves}
 use Rattle.syntax.proofs.Lines.{rank, Lines}
 use Rattle.syntax.proofs.+expressions.Given as goal
 
@@ -74,19 +76,28 @@ abbrev pub decreases-expr::argument : goal.decreases-expr::argument
 decreases-expr::argument l = 32 * l.levels + 21
 
 abbrev pub invariant-expr::line-operands : goal.invariant-expr::line-operands
-invariant-expr::line-operands l = Lines (line_kind l.kind) l.levels l.levels l.fn.cursor l.cursor (expr_of l.head) (map operand_of l.others.items)
+invariant-expr::line-operands l = record {
+  reads : Lines (line_kind l.kind) l.levels l.levels l.fn.cursor l.cursor (expr_of l.head) (map operand_of l.others.items);
+  placed : Stands l.fn.cursor l.cursor (expr_leaves l.head ++ all operand_leaves l.others.items);
+}
 
 abbrev pub decreases-expr::line-operands : goal.decreases-expr::line-operands
 decreases-expr::line-operands l = length l.cursor.tokens - l.cursor.at
 
 abbrev pub invariant-expr::members-members : goal.invariant-expr::members-members
-invariant-expr::members-members l = Lists (λ m. g.MemberOf (within m)) l.levels l.levels l.fn.cursor l.cursor (map member_of l.members.items)
+invariant-expr::members-members l = record {
+  reads : Lists (λ m. g.MemberOf (within m)) l.levels l.levels l.fn.cursor l.cursor (map member_of l.members.items);
+  placed : Stands l.fn.cursor l.cursor (all (if_there expr_leaves) l.members.items);
+}
 
 abbrev pub decreases-expr::members-members : goal.decreases-expr::members-members
 decreases-expr::members-members l = length l.cursor.tokens - l.cursor.at
 
 abbrev pub invariant-query::items-items : goal.invariant-query::items-items
-invariant-query::items-items l = Lists (λ m. g.ItemOf (within m)) l.levels l.levels l.fn.cursor l.cursor (map item_of l.items.items)
+invariant-query::items-items l = record {
+  reads : Lists (λ m. g.ItemOf (within m)) l.levels l.levels l.fn.cursor l.cursor (map item_of l.items.items);
+  placed : Stands l.fn.cursor l.cursor (all item_leaves l.items.items);
+}
 
 abbrev pub decreases-query::items-items : goal.decreases-query::items-items
 decreases-query::items-items l = length l.cursor.tokens - l.cursor.at

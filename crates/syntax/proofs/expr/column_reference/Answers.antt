@@ -2,20 +2,28 @@ use Rattle.std.proofs.Common.{rules}
 use Rattle.definitions.specs.Grammar as g
 use Rattle.definitions.proofs.Grammar.{name_alike}
 use Rattle.cursor.proofs.Outcomes.{flat_on, misses_on, if_on, gives, then_fails, answers}
+use Rattle.cursor.proofs.Places.{on, stays, past}
+use Rattle.std.proofs.Common.{refl}
 use Rattle.syntax.proofs.expr.column_reference.Goals as goal
 
-pub returns-in_err-first : goal.returns-in_err-first
+pub returns-in_err-first-clause-reads : goal.returns-in_err-first-clause-reads
 unfolding g.ReferenceAt
-returns-in_err-first c l k = answers _ _ (search rules) (then_fails (c.in_err-first.ensures l k))
+returns-in_err-first-clause-reads c l k = answers _ _ (search rules) (then_fails (c.in_err-first.ensures.reads l k))
 
-pub returns-then-not-eat_symbol : goal.returns-then-not-eat_symbol
+pub returns-then-not-eat_symbol-clause-reads : goal.returns-then-not-eat_symbol-clause-reads
 unfolding g.ReferenceAt
-returns-then-not-eat_symbol c l k = flat_on name_alike c.in_ok-first.ensures (misses_on c.if-not-eat_symbol.ensures gives)
+returns-then-not-eat_symbol-clause-reads c l k = flat_on name_alike c.in_ok-first.ensures.reads (misses_on c.if-not-eat_symbol.ensures gives)
 
-pub returns-in_err-name : goal.returns-in_err-name
-unfolding g.ReferenceAt
-returns-in_err-name c l k = answers _ _ (search rules) (flat_on name_alike c.in_ok-first.ensures (if_on c.if-not-eat_symbol.ensures (then_fails (c.in_err-name.ensures l k))))
+pub returns-then-not-eat_symbol-clause-placed : goal.returns-then-not-eat_symbol-clause-placed
+returns-then-not-eat_symbol-clause-placed c = stays c.in_ok-first.ensures.placed c.if-not-eat_symbol.ensures.1
 
-pub returns : goal.returns
+pub returns-in_err-name-clause-reads : goal.returns-in_err-name-clause-reads
 unfolding g.ReferenceAt
-returns c l k = flat_on name_alike c.in_ok-first.ensures (if_on c.if-not-eat_symbol.ensures (flat_on name_alike c.in_ok-name.ensures gives))
+returns-in_err-name-clause-reads c l k = answers _ _ (search rules) (flat_on name_alike c.in_ok-first.ensures.reads (if_on c.if-not-eat_symbol.ensures (then_fails (c.in_err-name.ensures.reads l k))))
+
+pub returns-clause-reads : goal.returns-clause-reads
+unfolding g.ReferenceAt
+returns-clause-reads c l k = flat_on name_alike c.in_ok-first.ensures.reads (if_on c.if-not-eat_symbol.ensures (flat_on name_alike c.in_ok-name.ensures.reads gives))
+
+pub returns-clause-placed : goal.returns-clause-placed
+returns-clause-placed c = on (past refl c.in_ok-first.ensures.placed c.if-not-eat_symbol.ensures) c.in_ok-name.ensures.placed

@@ -3,25 +3,37 @@ use Rattle.std.proofs.Common.{map}
 use Rattle.trees.specs.Trees.{statement_of}
 use Rattle.cursor.proofs.Lists.{map_push}
 use Rattle.syntax.proofs.Scripts.{Scripts, script_begins, script_goes_on, script_ends, script_fails_at, statement_fails, semicolon_fails, fewer, answered, for_memory}
+use Rattle.cursor.proofs.Places.{here, on, seen_as, past}
+use Rattle.syntax.proofs.Places as leaves
+use Rattle.syntax.specs.Places.{all, statement_leaves}
 use Rattle.syntax.proofs.parser.script.Goals as goal
 
 pub statements-init : goal.statements-init
-statements-init c = subst (λ xs. Scripts c.args.cursor.now c.args.cursor.now xs) (sym (ap (λ xs. map statement_of xs) c.new-statements.ensures.items)) (script_begins c.args.cursor.now)
+statements-init c = record {
+  reads = subst (λ xs. Scripts c.args.cursor.now c.args.cursor.now xs) (sym (ap (λ xs. map statement_of xs) c.new-statements.ensures.items)) (script_begins c.args.cursor.now);
+  placed = seen_as (ap (all statement_leaves) c.new-statements.ensures.items) here;
+}
 
-pub returns : goal.returns
-returns c = script_ends c.args.cursor.now c.statements.cursor (map statement_of c.statements.statements.items) c.statements.invariant c.statements-test.ensures.end
+pub returns-clause-reads : goal.returns-clause-reads
+returns-clause-reads c = script_ends c.args.cursor.now c.statements.cursor (map statement_of c.statements.statements.items) c.statements.invariant.reads c.statements-test.ensures.end
+
+pub returns-clause-placed : goal.returns-clause-placed
+returns-clause-placed c = leaves.ended _ _ _ c.statements.invariant.placed c.statements-test.ensures.end
 
 pub statements-preserved : goal.statements-preserved
-statements-preserved c = subst (λ xs. Scripts c.args.cursor.now c.expect_symbol.new.self xs) (sym (ap (λ xs. map statement_of xs) c.in_ok-push.ensures.items ∙ map_push _ _ _)) (script_goes_on c.args.cursor.now c.statements.cursor c.statement.new.cursor c.expect_symbol.new.self (map statement_of c.statements.statements.items) (statement_of c.in_ok-statement.statement) c.statements.invariant c.statements-test.ensures.before c.in_ok-statement.ensures c.in_ok-expect_symbol.ensures)
+statements-preserved c = record {
+  reads = subst (λ xs. Scripts c.args.cursor.now c.expect_symbol.new.self xs) (sym (ap (λ xs. map statement_of xs) c.in_ok-push.ensures.items ∙ map_push _ _ _)) (script_goes_on c.args.cursor.now c.statements.cursor c.statement.new.cursor c.expect_symbol.new.self (map statement_of c.statements.statements.items) (statement_of c.in_ok-statement.statement) c.statements.invariant.reads c.statements-test.ensures.before c.in_ok-statement.ensures.reads c.in_ok-expect_symbol.ensures);
+  placed = seen_as (ap (all statement_leaves) c.in_ok-push.ensures.items ∙ leaves.all_push statement_leaves _ _) (past refl (on c.statements.invariant.placed c.in_ok-statement.ensures.placed) c.in_ok-expect_symbol.ensures);
+}
 
 pub statements-smaller : goal.statements-smaller
-statements-smaller c = fewer c.statements.cursor c.statement.new.cursor c.expect_symbol.new.self (statement_of c.in_ok-statement.statement) c.statements-test.ensures.before c.in_ok-statement.ensures c.in_ok-expect_symbol.ensures
+statements-smaller c = fewer c.statements.cursor c.statement.new.cursor c.expect_symbol.new.self (statement_of c.in_ok-statement.statement) c.statements-test.ensures.before c.in_ok-statement.ensures.reads c.in_ok-expect_symbol.ensures
 
-pub returns-in_err-statement : goal.returns-in_err-statement
-returns-in_err-statement c = answered _ _ _ _ (search rules) (script_fails_at c.args.cursor.now c.statements.cursor _ _ c.statements.invariant (statement_fails c.statements.cursor c.statement.new.cursor _ c.statements-test.ensures.before c.in_err-statement.ensures))
+pub returns-in_err-statement-clause-reads : goal.returns-in_err-statement-clause-reads
+returns-in_err-statement-clause-reads c = answered c.args.cursor.now _ _ _ (search rules) (script_fails_at c.args.cursor.now c.statements.cursor _ _ c.statements.invariant.reads (statement_fails c.statements.cursor c.statement.new.cursor _ c.statements-test.ensures.before c.in_err-statement.ensures.reads))
 
-pub returns-in_err-push : goal.returns-in_err-push
-returns-in_err-push c = answered _ _ _ _ (search rules) (for_memory _ _ refl)
+pub returns-in_err-push-clause-reads : goal.returns-in_err-push-clause-reads
+returns-in_err-push-clause-reads c = answered c.args.cursor.now _ _ _ (search rules) (for_memory c.args.cursor.now _ refl)
 
-pub returns-in_err-expect_symbol : goal.returns-in_err-expect_symbol
-returns-in_err-expect_symbol c = answered _ _ _ _ (search rules) (script_fails_at c.args.cursor.now c.statements.cursor _ _ c.statements.invariant (semicolon_fails c.statements.cursor c.statement.new.cursor c.expect_symbol.new.self (statement_of c.in_ok-statement.statement) _ c.statements-test.ensures.before c.in_ok-statement.ensures c.in_err-expect_symbol.ensures))
+pub returns-in_err-expect_symbol-clause-reads : goal.returns-in_err-expect_symbol-clause-reads
+returns-in_err-expect_symbol-clause-reads c = answered c.args.cursor.now _ _ _ (search rules) (script_fails_at c.args.cursor.now c.statements.cursor _ _ c.statements.invariant.reads (semicolon_fails c.statements.cursor c.statement.new.cursor c.expect_symbol.new.self (statement_of c.in_ok-statement.statement) _ c.statements-test.ensures.before c.in_ok-statement.ensures.reads c.in_err-expect_symbol.ensures))

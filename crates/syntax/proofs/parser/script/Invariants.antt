@@ -1,10 +1,15 @@
 use Rattle.std.proofs.Common.{◌-◌, length, map}
 use Rattle.trees.specs.Trees.{statement_of}
+use Rattle.cursor.specs.Places.{Stands}
+use Rattle.syntax.specs.Places.{all, statement_leaves}
 use Rattle.syntax.proofs.Scripts.{Scripts}
 use Rattle.syntax.proofs.parser.script.Given as goal
 
 abbrev pub invariant-statements : goal.invariant-statements
-invariant-statements l = Scripts l.fn.cursor l.cursor (map statement_of l.statements.items)
+invariant-statements l = record {
+  reads : Scripts l.fn.cursor l.cursor (map statement_of l.statements.items);
+  placed : Stands l.fn.cursor l.cursor (all statement_leaves l.statements.items);
+}
 
 abbrev pub decreases-statements : goal.decreases-statements
 decreases-statements l = length l.cursor.tokens - l.cursor.at

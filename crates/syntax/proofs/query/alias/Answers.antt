@@ -1,13 +1,21 @@
 use Rattle.std.proofs.Common.{rules}
 use Rattle.definitions.proofs.Grammar.{name_alike}
 use Rattle.cursor.proofs.Outcomes.{flat_on, misses_on, if_on, gives, then_fails, answers}
+use Rattle.cursor.proofs.Places.{here, on, stays, past}
+use Rattle.std.proofs.Common.{refl}
 use Rattle.syntax.proofs.query.alias.Goals as goal
 
-pub returns-then-not-eat_word : goal.returns-then-not-eat_word
-returns-then-not-eat_word c l k = misses_on c.if-not-eat_word.ensures gives
+pub returns-then-not-eat_word-clause-reads : goal.returns-then-not-eat_word-clause-reads
+returns-then-not-eat_word-clause-reads c l k = misses_on c.if-not-eat_word.ensures gives
 
-pub returns-in_err-name : goal.returns-in_err-name
-returns-in_err-name c l k = answers _ _ (search rules) (if_on c.if-not-eat_word.ensures (then_fails (c.in_err-name.ensures l k)))
+pub returns-then-not-eat_word-clause-placed : goal.returns-then-not-eat_word-clause-placed
+returns-then-not-eat_word-clause-placed c = stays here c.if-not-eat_word.ensures.1
 
-pub returns : goal.returns
-returns c l k = if_on c.if-not-eat_word.ensures (flat_on name_alike c.in_ok-name.ensures gives)
+pub returns-in_err-name-clause-reads : goal.returns-in_err-name-clause-reads
+returns-in_err-name-clause-reads c l k = answers _ _ (search rules) (if_on c.if-not-eat_word.ensures (then_fails (c.in_err-name.ensures.reads l k)))
+
+pub returns-clause-reads : goal.returns-clause-reads
+returns-clause-reads c l k = if_on c.if-not-eat_word.ensures (flat_on name_alike c.in_ok-name.ensures.reads gives)
+
+pub returns-clause-placed : goal.returns-clause-placed
+returns-clause-placed c = on (past refl here c.if-not-eat_word.ensures) c.in_ok-name.ensures.placed

@@ -1,11 +1,20 @@
 use Rattle.definitions.specs.Grammar as g
 use Rattle.cursor.proofs.Outcomes.{misses_on, if_on, gives, maybe}
+use Rattle.cursor.proofs.Places.{here, stays, past}
+use Rattle.syntax.proofs.Places as leaves
+use Rattle.std.proofs.Common.{refl}
 use Rattle.syntax.proofs.query.distinct.Goals as goal
 
-pub returns-then-eat_word : goal.returns-then-eat_word
+pub returns-then-eat_word-clause-reads : goal.returns-then-eat_word-clause-reads
 unfolding g.DistinctAt
-returns-then-eat_word c l k = if_on c.if-eat_word.ensures gives
+returns-then-eat_word-clause-reads c l k = if_on c.if-eat_word.ensures gives
 
-pub returns : goal.returns
+pub returns-then-eat_word-clause-placed : goal.returns-then-eat_word-clause-placed
+returns-then-eat_word-clause-placed c = past refl here c.if-eat_word.ensures
+
+pub returns-clause-reads : goal.returns-clause-reads
 unfolding g.DistinctAt
-returns c l k = misses_on c.if-eat_word.ensures (maybe _ c.eat_word-2.ensures l k)
+returns-clause-reads c l k = misses_on c.if-eat_word.ensures (maybe _ c.eat_word-2.ensures l k)
+
+pub returns-clause-placed : goal.returns-clause-placed
+returns-clause-placed c = leaves.maybe_past _ _ refl (stays here c.if-eat_word.ensures.1) c.eat_word-2.ensures

@@ -2,19 +2,26 @@ use Rattle.std.proofs.Common.{rules}
 use Rattle.definitions.specs.Grammar as g
 use Rattle.definitions.proofs.Grammar.{count_alike}
 use Rattle.cursor.proofs.Outcomes.{flat_on, reads_on, reads_not_on, gives, then_fails, no_memory, answers}
+use Rattle.cursor.proofs.Places.{on}
 use Rattle.syntax.proofs.query.key_name.Goals as goal
 
-pub returns-in_err-name : goal.returns-in_err-name
-returns-in_err-name c l k = answers _ _ (search rules) (no_memory c.in_err-name.ensures.memory)
+pub returns-in_err-name-clause-reads : goal.returns-in_err-name-clause-reads
+returns-in_err-name-clause-reads c l k = answers _ _ (search rules) (no_memory c.in_err-name.ensures.memory)
 
-pub returns-in-Some : goal.returns-in-Some
+pub returns-in-Some-clause-reads : goal.returns-in-Some-clause-reads
 unfolding g.KeyNameAt
-returns-in-Some c l k = reads_on (rw c.in-Some.is at c.in_ok-name.ensures.ok) gives
+returns-in-Some-clause-reads c l k = reads_on (rw c.in-Some.is at c.in_ok-name.ensures.ok) gives
 
-pub returns-in_err-position : goal.returns-in_err-position
-unfolding g.KeyNameAt
-returns-in_err-position c l k = answers _ _ (search rules) (reads_not_on (rw c.in_default.is at c.in_ok-name.ensures.ok) (then_fails (c.in_err-position.ensures l k)))
+pub returns-in-Some-clause-placed : goal.returns-in-Some-clause-placed
+returns-in-Some-clause-placed c = rw c.in-Some.is at c.in_ok-name.ensures.placed
 
-pub returns : goal.returns
+pub returns-in_err-position-clause-reads : goal.returns-in_err-position-clause-reads
 unfolding g.KeyNameAt
-returns c l k = reads_not_on (rw c.in_default.is at c.in_ok-name.ensures.ok) (flat_on count_alike c.in_ok-position.ensures gives)
+returns-in_err-position-clause-reads c l k = answers _ _ (search rules) (reads_not_on (rw c.in_default.is at c.in_ok-name.ensures.ok) (then_fails (c.in_err-position.ensures.reads l k)))
+
+pub returns-clause-reads : goal.returns-clause-reads
+unfolding g.KeyNameAt
+returns-clause-reads c l k = reads_not_on (rw c.in_default.is at c.in_ok-name.ensures.ok) (flat_on count_alike c.in_ok-position.ensures.reads gives)
+
+pub returns-clause-placed : goal.returns-clause-placed
+returns-clause-placed c = on (rw c.in_default.is at c.in_ok-name.ensures.placed) c.in_ok-position.ensures.placed

@@ -2,16 +2,20 @@ use Rattle.std.proofs.Common.{rules}
 use Rattle.definitions.specs.Grammar as g
 use Rattle.definitions.proofs.Grammar.{block_alike, within_alike, order_alike}
 use Rattle.cursor.proofs.Outcomes.{then_on, flat_on, gives, then_fails, answers}
+use Rattle.cursor.proofs.Places.{on}
 use Rattle.syntax.proofs.query.select.Goals as goal
 
-pub returns-in_err-block : goal.returns-in_err-block
+pub returns-in_err-block-clause-reads : goal.returns-in_err-block-clause-reads
 unfolding g.SelectOf
-returns-in_err-block c = answers _ _ (search rules) (then_fails c.in_err-block.ensures)
+returns-in_err-block-clause-reads c = answers _ _ (search rules) (then_fails c.in_err-block.ensures.reads)
 
-pub returns-in_err-order : goal.returns-in_err-order
+pub returns-in_err-order-clause-reads : goal.returns-in_err-order-clause-reads
 unfolding g.SelectOf
-returns-in_err-order c = answers _ _ (search rules) (then_on (λ m. block_alike (within_alike c.args.levels m)) c.in_ok-block.ensures (then_fails (c.in_err-order.ensures _ _)))
+returns-in_err-order-clause-reads c = answers _ _ (search rules) (then_on (λ m. block_alike (within_alike c.args.levels m)) c.in_ok-block.ensures.reads (then_fails (c.in_err-order.ensures.reads _ _)))
 
-pub returns : goal.returns
+pub returns-clause-reads : goal.returns-clause-reads
 unfolding g.SelectOf
-returns c = then_on (λ m. block_alike (within_alike c.args.levels m)) c.in_ok-block.ensures (flat_on order_alike c.in_ok-order.ensures gives)
+returns-clause-reads c = then_on (λ m. block_alike (within_alike c.args.levels m)) c.in_ok-block.ensures.reads (flat_on order_alike c.in_ok-order.ensures.reads gives)
+
+pub returns-clause-placed : goal.returns-clause-placed
+returns-clause-placed c = on c.in_ok-block.ensures.placed c.in_ok-order.ensures.placed

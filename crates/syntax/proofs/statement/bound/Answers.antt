@@ -6,6 +6,8 @@ use Rattle.cursor.specs.declared.stop.Stop.{Stop}
 use Rattle.cursor.specs.Reading.{Place, Takes, Outcome}
 use Rattle.definitions.specs.Grammar as g
 use Rattle.cursor.proofs.Outcomes.{gives_as, reads_on, reads_not_on, says_not, begins}
+use Rattle.cursor.proofs.Places.{here, on}
+use Rattle.syntax.proofs.Places as leaves
 use Rattle.syntax.proofs.statement.bound.Goals as goal
 
 signed : {p q t : Place} {l k : ℕ} {out : Result tree.Bound Stop} (o : Option Bool) → Takes g.sign_in (λ minus. minus) p q o → Outcome (λ m. g.UnsignedAt (unwrap_or o false)) l k q t out → Outcome (λ m. Reads g.sign_in (λ minus. g.UnsignedAt minus) (g.UnsignedAt false)) l k p t out
@@ -16,10 +18,13 @@ bound_from : Bool → tree.Expr → tree.Bound
 bound_from minus (tree.Numeral units digits scale) = record { minus = minus; units = units; digits = digits; scale = scale }
 bound_from minus _ = record { minus = minus; units = 0; digits = 0; scale = 0 }
 
-pub returns-in_default : goal.returns-in_default
+pub returns-in_default-clause-reads : goal.returns-in_default-clause-reads
 unfolding g.BoundAt
-returns-in_default c l k = signed c.take_sign.result c.take_sign.ensures (begins c.in_default.ensures.1 (says_not (rw c.in_default.ensures.1 c.in_default.ensures.0) c.stop.ensures))
+returns-in_default-clause-reads c l k = signed c.take_sign.result c.take_sign.ensures (begins c.in_default.ensures.taken.1 (says_not (rw c.in_default.ensures.taken.1 c.in_default.ensures.taken.0) c.stop.ensures))
 
-pub returns : goal.returns
+pub returns-clause-reads : goal.returns-clause-reads
 unfolding g.BoundAt bound_from
-returns c l k = signed c.take_sign.result c.take_sign.ensures (reads_on (c.in-Some.ensures.0.1, c.in-Some.ensures.1) (gives_as (ap₂ bound_from c.unwrap_or-minus.ensures c.in-Some.ensures.0.2)))
+returns-clause-reads c l k = signed c.take_sign.result c.take_sign.ensures (reads_on (c.in-Some.ensures.taken.0.1, c.in-Some.ensures.taken.1) (gives_as (ap₂ bound_from c.unwrap_or-minus.ensures c.in-Some.ensures.taken.0.2)))
+
+pub returns-clause-placed : goal.returns-clause-placed
+returns-clause-placed c = on (leaves.maybe_sign _ here c.take_sign.ensures) c.in-Some.ensures.placed

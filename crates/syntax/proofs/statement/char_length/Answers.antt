@@ -2,20 +2,29 @@ use Rattle.std.proofs.Common.{rules}
 use Rattle.definitions.specs.Grammar as g
 use Rattle.definitions.proofs.Grammar.{count_alike}
 use Rattle.cursor.proofs.Outcomes.{flat_on, past_on, misses_on, if_on, gives, past_fails, then_fails, answers}
+use Rattle.cursor.proofs.Places.{here, stays, no_more, past}
+use Rattle.syntax.proofs.Places as leaves
+use Rattle.std.proofs.Common.{refl}
 use Rattle.syntax.proofs.statement.char_length.Goals as goal
 
-pub returns-then-not-eat_symbol : goal.returns-then-not-eat_symbol
+pub returns-then-not-eat_symbol-clause-reads : goal.returns-then-not-eat_symbol-clause-reads
 unfolding g.LengthAt
-returns-then-not-eat_symbol c l k = misses_on c.if-not-eat_symbol.ensures gives
+returns-then-not-eat_symbol-clause-reads c l k = misses_on c.if-not-eat_symbol.ensures gives
 
-pub returns-in_err-length : goal.returns-in_err-length
-unfolding g.LengthAt
-returns-in_err-length c l k = answers _ _ (search rules) (if_on c.if-not-eat_symbol.ensures (then_fails (c.in_err-length.ensures l k)))
+pub returns-then-not-eat_symbol-clause-placed : goal.returns-then-not-eat_symbol-clause-placed
+returns-then-not-eat_symbol-clause-placed c = stays here c.if-not-eat_symbol.ensures.1
 
-pub returns-in_err-expect_symbol : goal.returns-in_err-expect_symbol
+pub returns-in_err-length-clause-reads : goal.returns-in_err-length-clause-reads
 unfolding g.LengthAt
-returns-in_err-expect_symbol c l k = answers _ _ (search rules) (if_on c.if-not-eat_symbol.ensures (flat_on count_alike c.in_ok-length.ensures (past_fails c.in_err-expect_symbol.ensures)))
+returns-in_err-length-clause-reads c l k = answers _ _ (search rules) (if_on c.if-not-eat_symbol.ensures (then_fails (c.in_err-length.ensures.reads l k)))
 
-pub returns : goal.returns
+pub returns-in_err-expect_symbol-clause-reads : goal.returns-in_err-expect_symbol-clause-reads
 unfolding g.LengthAt
-returns c l k = if_on c.if-not-eat_symbol.ensures (flat_on count_alike c.in_ok-length.ensures (past_on c.in_ok-expect_symbol.ensures gives))
+returns-in_err-expect_symbol-clause-reads c l k = answers _ _ (search rules) (if_on c.if-not-eat_symbol.ensures (flat_on count_alike c.in_ok-length.ensures.reads (past_fails c.in_err-expect_symbol.ensures)))
+
+pub returns-clause-reads : goal.returns-clause-reads
+unfolding g.LengthAt
+returns-clause-reads c l k = if_on c.if-not-eat_symbol.ensures (flat_on count_alike c.in_ok-length.ensures.reads (past_on c.in_ok-expect_symbol.ensures gives))
+
+pub returns-clause-placed : goal.returns-clause-placed
+returns-clause-placed c = past refl (no_more (past refl here c.if-not-eat_symbol.ensures) (leaves.without_leaf refl c.in_ok-length.ensures.placed)) c.in_ok-expect_symbol.ensures

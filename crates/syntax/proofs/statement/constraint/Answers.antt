@@ -1,28 +1,42 @@
 use Rattle.std.proofs.Common.{rules}
 use Rattle.definitions.specs.Grammar as g
 use Rattle.cursor.proofs.Outcomes.{past_on, misses_on, if_on, gives, past_fails, answers}
+use Rattle.cursor.proofs.Places.{here, stays, past}
+use Rattle.std.proofs.Common.{refl}
 use Rattle.syntax.proofs.statement.constraint.Goals as goal
 
-pub returns-then-not-eat_word : goal.returns-then-not-eat_word
+pub returns-then-not-eat_word-clause-reads : goal.returns-then-not-eat_word-clause-reads
 unfolding g.ConstraintAt
-returns-then-not-eat_word c l k = misses_on c.if-not-eat_word.ensures gives
+returns-then-not-eat_word-clause-reads c l k = misses_on c.if-not-eat_word.ensures gives
 
-pub returns-in_err-expect_word : goal.returns-in_err-expect_word
-unfolding g.ConstraintAt
-returns-in_err-expect_word c l k = answers _ _ (search rules) (if_on c.if-not-eat_word.ensures (past_fails c.in_err-expect_word.ensures))
+pub returns-then-not-eat_word-clause-placed : goal.returns-then-not-eat_word-clause-placed
+returns-then-not-eat_word-clause-placed c = stays here c.if-not-eat_word.ensures.1
 
-pub returns-then-eat_word : goal.returns-then-eat_word
+pub returns-in_err-expect_word-clause-reads : goal.returns-in_err-expect_word-clause-reads
 unfolding g.ConstraintAt
-returns-then-eat_word c l k = if_on c.if-not-eat_word.ensures (past_on c.in_ok-expect_word.ensures (if_on c.if-eat_word.ensures gives))
+returns-in_err-expect_word-clause-reads c l k = answers _ _ (search rules) (if_on c.if-not-eat_word.ensures (past_fails c.in_err-expect_word.ensures))
 
-pub returns-then-not-eat_word-2 : goal.returns-then-not-eat_word-2
+pub returns-then-eat_word-clause-reads : goal.returns-then-eat_word-clause-reads
 unfolding g.ConstraintAt
-returns-then-not-eat_word-2 c l k = if_on c.if-not-eat_word.ensures (past_on c.in_ok-expect_word.ensures (misses_on c.if-eat_word.ensures (misses_on c.if-not-eat_word-2.ensures gives)))
+returns-then-eat_word-clause-reads c l k = if_on c.if-not-eat_word.ensures (past_on c.in_ok-expect_word.ensures (if_on c.if-eat_word.ensures gives))
 
-pub returns-in_err-expect_word-2 : goal.returns-in_err-expect_word-2
-unfolding g.ConstraintAt
-returns-in_err-expect_word-2 c l k = answers _ _ (search rules) (if_on c.if-not-eat_word.ensures (past_on c.in_ok-expect_word.ensures (misses_on c.if-eat_word.ensures (if_on c.if-not-eat_word-2.ensures (past_fails c.in_err-expect_word-2.ensures)))))
+pub returns-then-eat_word-clause-placed : goal.returns-then-eat_word-clause-placed
+returns-then-eat_word-clause-placed c = past refl (past refl (past refl here c.if-not-eat_word.ensures) c.in_ok-expect_word.ensures) c.if-eat_word.ensures
 
-pub returns : goal.returns
+pub returns-then-not-eat_word-2-clause-reads : goal.returns-then-not-eat_word-2-clause-reads
 unfolding g.ConstraintAt
-returns c l k = if_on c.if-not-eat_word.ensures (past_on c.in_ok-expect_word.ensures (misses_on c.if-eat_word.ensures (if_on c.if-not-eat_word-2.ensures (past_on c.in_ok-expect_word-2.ensures gives))))
+returns-then-not-eat_word-2-clause-reads c l k = if_on c.if-not-eat_word.ensures (past_on c.in_ok-expect_word.ensures (misses_on c.if-eat_word.ensures (misses_on c.if-not-eat_word-2.ensures gives)))
+
+pub returns-then-not-eat_word-2-clause-placed : goal.returns-then-not-eat_word-2-clause-placed
+returns-then-not-eat_word-2-clause-placed c = stays (stays (past refl (past refl here c.if-not-eat_word.ensures) c.in_ok-expect_word.ensures) c.if-eat_word.ensures.1) c.if-not-eat_word-2.ensures.1
+
+pub returns-in_err-expect_word-2-clause-reads : goal.returns-in_err-expect_word-2-clause-reads
+unfolding g.ConstraintAt
+returns-in_err-expect_word-2-clause-reads c l k = answers _ _ (search rules) (if_on c.if-not-eat_word.ensures (past_on c.in_ok-expect_word.ensures (misses_on c.if-eat_word.ensures (if_on c.if-not-eat_word-2.ensures (past_fails c.in_err-expect_word-2.ensures)))))
+
+pub returns-clause-reads : goal.returns-clause-reads
+unfolding g.ConstraintAt
+returns-clause-reads c l k = if_on c.if-not-eat_word.ensures (past_on c.in_ok-expect_word.ensures (misses_on c.if-eat_word.ensures (if_on c.if-not-eat_word-2.ensures (past_on c.in_ok-expect_word-2.ensures gives))))
+
+pub returns-clause-placed : goal.returns-clause-placed
+returns-clause-placed c = past refl (past refl (stays (past refl (past refl here c.if-not-eat_word.ensures) c.in_ok-expect_word.ensures) c.if-eat_word.ensures.1) c.if-not-eat_word-2.ensures) c.in_ok-expect_word-2.ensures

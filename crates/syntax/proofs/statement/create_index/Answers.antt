@@ -2,24 +2,30 @@ use Rattle.std.proofs.Common.{rules}
 use Rattle.definitions.specs.Grammar as g
 use Rattle.definitions.proofs.Grammar.{maybe_alike, name_alike, names_alike}
 use Rattle.cursor.proofs.Outcomes.{flat_on, past_on, gives, past_fails, then_fails, maybe, answers}
+use Rattle.cursor.proofs.Places.{here, on, past}
+use Rattle.syntax.proofs.Places as leaves
+use Rattle.std.proofs.Common.{refl}
 use Rattle.syntax.proofs.statement.create_index.Goals as goal
 
-pub returns-in_err-expect_word : goal.returns-in_err-expect_word
+pub returns-in_err-expect_word-clause-reads : goal.returns-in_err-expect_word-clause-reads
 unfolding g.IndexAt
-returns-in_err-expect_word c l k = answers _ _ (search rules) (flat_on (maybe_alike _) (maybe _ c.eat_word-unique.ensures) (past_fails c.in_err-expect_word.ensures))
+returns-in_err-expect_word-clause-reads c l k = answers _ _ (search rules) (flat_on (maybe_alike _) (maybe _ c.eat_word-unique.ensures) (past_fails c.in_err-expect_word.ensures))
 
-pub returns-in_err-expect_word-2 : goal.returns-in_err-expect_word-2
+pub returns-in_err-expect_word-2-clause-reads : goal.returns-in_err-expect_word-2-clause-reads
 unfolding g.IndexAt
-returns-in_err-expect_word-2 c l k = answers _ _ (search rules) (flat_on (maybe_alike _) (maybe _ c.eat_word-unique.ensures) (past_on c.in_ok-expect_word.ensures (past_fails c.in_err-expect_word-2.ensures)))
+returns-in_err-expect_word-2-clause-reads c l k = answers _ _ (search rules) (flat_on (maybe_alike _) (maybe _ c.eat_word-unique.ensures) (past_on c.in_ok-expect_word.ensures (past_fails c.in_err-expect_word-2.ensures)))
 
-pub returns-in_err-table : goal.returns-in_err-table
+pub returns-in_err-table-clause-reads : goal.returns-in_err-table-clause-reads
 unfolding g.IndexAt
-returns-in_err-table c l k = answers _ _ (search rules) (flat_on (maybe_alike _) (maybe _ c.eat_word-unique.ensures) (past_on c.in_ok-expect_word.ensures (past_on c.in_ok-expect_word-2.ensures (then_fails (c.in_err-table.ensures l k)))))
+returns-in_err-table-clause-reads c l k = answers _ _ (search rules) (flat_on (maybe_alike _) (maybe _ c.eat_word-unique.ensures) (past_on c.in_ok-expect_word.ensures (past_on c.in_ok-expect_word-2.ensures (then_fails (c.in_err-table.ensures.reads l k)))))
 
-pub returns-in_err-columns : goal.returns-in_err-columns
+pub returns-in_err-columns-clause-reads : goal.returns-in_err-columns-clause-reads
 unfolding g.IndexAt
-returns-in_err-columns c l k = answers _ _ (search rules) (flat_on (maybe_alike _) (maybe _ c.eat_word-unique.ensures) (past_on c.in_ok-expect_word.ensures (past_on c.in_ok-expect_word-2.ensures (flat_on name_alike c.in_ok-table.ensures (then_fails (c.in_err-columns.ensures l k))))))
+returns-in_err-columns-clause-reads c l k = answers _ _ (search rules) (flat_on (maybe_alike _) (maybe _ c.eat_word-unique.ensures) (past_on c.in_ok-expect_word.ensures (past_on c.in_ok-expect_word-2.ensures (flat_on name_alike c.in_ok-table.ensures.reads (then_fails (c.in_err-columns.ensures.reads l k))))))
 
-pub returns : goal.returns
+pub returns-clause-reads : goal.returns-clause-reads
 unfolding g.IndexAt
-returns c l k = flat_on (maybe_alike _) (maybe _ c.eat_word-unique.ensures) (past_on c.in_ok-expect_word.ensures (past_on c.in_ok-expect_word-2.ensures (flat_on name_alike c.in_ok-table.ensures (flat_on names_alike c.in_ok-columns.ensures gives))))
+returns-clause-reads c l k = flat_on (maybe_alike _) (maybe _ c.eat_word-unique.ensures) (past_on c.in_ok-expect_word.ensures (past_on c.in_ok-expect_word-2.ensures (flat_on name_alike c.in_ok-table.ensures.reads (flat_on names_alike c.in_ok-columns.ensures.reads gives))))
+
+pub returns-clause-placed : goal.returns-clause-placed
+returns-clause-placed c = on (on (past refl (past refl (leaves.maybe_past _ _ refl here c.eat_word-unique.ensures) c.in_ok-expect_word.ensures) c.in_ok-expect_word-2.ensures) c.in_ok-table.ensures.placed) c.in_ok-columns.ensures.placed

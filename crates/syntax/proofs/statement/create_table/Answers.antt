@@ -2,24 +2,29 @@ use Rattle.std.proofs.Common.{rules}
 use Rattle.definitions.specs.Grammar as g
 use Rattle.definitions.proofs.Grammar.{enclosed_alike, list_alike, name_alike, column_alike}
 use Rattle.cursor.proofs.Outcomes.{then_on, flat_on, past_on, gives, past_fails, then_fails, answers}
+use Rattle.cursor.proofs.Places.{on, past}
+use Rattle.std.proofs.Common.{refl}
 use Rattle.syntax.proofs.statement.create_table.Goals as goal
 
-pub returns-in_err-name : goal.returns-in_err-name
+pub returns-in_err-name-clause-reads : goal.returns-in_err-name-clause-reads
 unfolding g.TableAt
-returns-in_err-name c l k = answers _ _ (search rules) (then_fails (c.in_err-name.ensures l k))
+returns-in_err-name-clause-reads c l k = answers _ _ (search rules) (then_fails (c.in_err-name.ensures.reads l k))
 
-pub returns-in_err-expect_symbol : goal.returns-in_err-expect_symbol
+pub returns-in_err-expect_symbol-clause-reads : goal.returns-in_err-expect_symbol-clause-reads
 unfolding g.TableAt
-returns-in_err-expect_symbol c l k = answers _ _ (search rules) (flat_on name_alike c.in_ok-name.ensures (then_fails (past_fails c.in_err-expect_symbol.ensures)))
+returns-in_err-expect_symbol-clause-reads c l k = answers _ _ (search rules) (flat_on name_alike c.in_ok-name.ensures.reads (then_fails (past_fails c.in_err-expect_symbol.ensures)))
 
-pub returns-in_err-columns : goal.returns-in_err-columns
+pub returns-in_err-columns-clause-reads : goal.returns-in_err-columns-clause-reads
 unfolding g.TableAt
-returns-in_err-columns c l k = answers _ _ (search rules) (flat_on name_alike c.in_ok-name.ensures (then_fails (past_on c.in_ok-expect_symbol.ensures (then_fails (c.in_err-columns.ensures.reads l k)))))
+returns-in_err-columns-clause-reads c l k = answers _ _ (search rules) (flat_on name_alike c.in_ok-name.ensures.reads (then_fails (past_on c.in_ok-expect_symbol.ensures (then_fails (c.in_err-columns.ensures.reads l k)))))
 
-pub returns-in_err-expect_symbol-2 : goal.returns-in_err-expect_symbol-2
+pub returns-in_err-expect_symbol-2-clause-reads : goal.returns-in_err-expect_symbol-2-clause-reads
 unfolding g.TableAt
-returns-in_err-expect_symbol-2 c l k = answers _ _ (search rules) (flat_on name_alike c.in_ok-name.ensures (then_fails (past_on c.in_ok-expect_symbol.ensures (flat_on (list_alike column_alike) c.in_ok-columns.ensures.reads (past_fails c.in_err-expect_symbol-2.ensures)))))
+returns-in_err-expect_symbol-2-clause-reads c l k = answers _ _ (search rules) (flat_on name_alike c.in_ok-name.ensures.reads (then_fails (past_on c.in_ok-expect_symbol.ensures (flat_on (list_alike column_alike) c.in_ok-columns.ensures.reads (past_fails c.in_err-expect_symbol-2.ensures)))))
 
-pub returns : goal.returns
+pub returns-clause-reads : goal.returns-clause-reads
 unfolding g.TableAt
-returns c l k = flat_on name_alike c.in_ok-name.ensures (then_on {k = 0} (λ m. enclosed_alike (list_alike column_alike)) (past_on c.in_ok-expect_symbol.ensures (flat_on (list_alike column_alike) c.in_ok-columns.ensures.reads (past_on c.in_ok-expect_symbol-2.ensures gives))) (gives))
+returns-clause-reads c l k = flat_on name_alike c.in_ok-name.ensures.reads (then_on {k = 0} (λ m. enclosed_alike (list_alike column_alike)) (past_on c.in_ok-expect_symbol.ensures (flat_on (list_alike column_alike) c.in_ok-columns.ensures.reads (past_on c.in_ok-expect_symbol-2.ensures gives))) (gives))
+
+pub returns-clause-placed : goal.returns-clause-placed
+returns-clause-placed c = past refl (on (past refl c.in_ok-name.ensures.placed c.in_ok-expect_symbol.ensures) c.in_ok-columns.ensures.placed) c.in_ok-expect_symbol-2.ensures

@@ -2,28 +2,34 @@ use Rattle.std.proofs.Common.{rules}
 use Rattle.definitions.specs.Grammar as g
 use Rattle.definitions.proofs.Grammar.{maybe_alike, count_alike, range_alike}
 use Rattle.cursor.proofs.Outcomes.{flat_on, past_on, gives, past_fails, then_fails, maybe, answers}
+use Rattle.cursor.proofs.Places.{here, on, past}
+use Rattle.syntax.proofs.Places as leaves
+use Rattle.std.proofs.Common.{refl}
 use Rattle.syntax.proofs.statement.index_figures.Goals as goal
 
-pub returns-in_err-expect_word : goal.returns-in_err-expect_word
+pub returns-in_err-expect_word-clause-reads : goal.returns-in_err-expect_word-clause-reads
 unfolding g.FiguresAt
-returns-in_err-expect_word c l k = answers _ _ (search rules) (past_fails c.in_err-expect_word.ensures)
+returns-in_err-expect_word-clause-reads c l k = answers _ _ (search rules) (past_fails c.in_err-expect_word.ensures)
 
-pub returns-in_err-keys : goal.returns-in_err-keys
+pub returns-in_err-keys-clause-reads : goal.returns-in_err-keys-clause-reads
 unfolding g.FiguresAt
-returns-in_err-keys c l k = answers _ _ (search rules) (past_on c.in_ok-expect_word.ensures (then_fails (c.in_err-keys.ensures l k)))
+returns-in_err-keys-clause-reads c l k = answers _ _ (search rules) (past_on c.in_ok-expect_word.ensures (then_fails (c.in_err-keys.ensures.reads l k)))
 
-pub returns-in_err-expect_word-2 : goal.returns-in_err-expect_word-2
+pub returns-in_err-expect_word-2-clause-reads : goal.returns-in_err-expect_word-2-clause-reads
 unfolding g.FiguresAt
-returns-in_err-expect_word-2 c l k = answers _ _ (search rules) (past_on c.in_ok-expect_word.ensures (flat_on count_alike c.in_ok-keys.ensures (past_fails c.in_err-expect_word-2.ensures)))
+returns-in_err-expect_word-2-clause-reads c l k = answers _ _ (search rules) (past_on c.in_ok-expect_word.ensures (flat_on count_alike c.in_ok-keys.ensures.reads (past_fails c.in_err-expect_word-2.ensures)))
 
-pub returns-in_err-pages : goal.returns-in_err-pages
+pub returns-in_err-pages-clause-reads : goal.returns-in_err-pages-clause-reads
 unfolding g.FiguresAt
-returns-in_err-pages c l k = answers _ _ (search rules) (past_on c.in_ok-expect_word.ensures (flat_on count_alike c.in_ok-keys.ensures (past_on c.in_ok-expect_word-2.ensures (then_fails (c.in_err-pages.ensures l k)))))
+returns-in_err-pages-clause-reads c l k = answers _ _ (search rules) (past_on c.in_ok-expect_word.ensures (flat_on count_alike c.in_ok-keys.ensures.reads (past_on c.in_ok-expect_word-2.ensures (then_fails (c.in_err-pages.ensures.reads l k)))))
 
-pub returns-in_err-range : goal.returns-in_err-range
+pub returns-in_err-range-clause-reads : goal.returns-in_err-range-clause-reads
 unfolding g.FiguresAt
-returns-in_err-range c l k = answers _ _ (search rules) (past_on c.in_ok-expect_word.ensures (flat_on count_alike c.in_ok-keys.ensures (past_on c.in_ok-expect_word-2.ensures (flat_on count_alike c.in_ok-pages.ensures (flat_on (maybe_alike _) (maybe _ c.eat_word-clustered.ensures) (then_fails (c.in_err-range.ensures l k)))))))
+returns-in_err-range-clause-reads c l k = answers _ _ (search rules) (past_on c.in_ok-expect_word.ensures (flat_on count_alike c.in_ok-keys.ensures.reads (past_on c.in_ok-expect_word-2.ensures (flat_on count_alike c.in_ok-pages.ensures.reads (flat_on (maybe_alike _) (maybe _ c.eat_word-clustered.ensures) (then_fails (c.in_err-range.ensures.reads l k)))))))
 
-pub returns : goal.returns
+pub returns-clause-reads : goal.returns-clause-reads
 unfolding g.FiguresAt
-returns c l k = past_on c.in_ok-expect_word.ensures (flat_on count_alike c.in_ok-keys.ensures (past_on c.in_ok-expect_word-2.ensures (flat_on count_alike c.in_ok-pages.ensures (flat_on (maybe_alike _) (maybe _ c.eat_word-clustered.ensures) (flat_on range_alike c.in_ok-range.ensures gives)))))
+returns-clause-reads c l k = past_on c.in_ok-expect_word.ensures (flat_on count_alike c.in_ok-keys.ensures.reads (past_on c.in_ok-expect_word-2.ensures (flat_on count_alike c.in_ok-pages.ensures.reads (flat_on (maybe_alike _) (maybe _ c.eat_word-clustered.ensures) (flat_on range_alike c.in_ok-range.ensures.reads gives)))))
+
+pub returns-clause-placed : goal.returns-clause-placed
+returns-clause-placed c = on (leaves.maybe_past _ _ refl (on (past refl (on (past refl here c.in_ok-expect_word.ensures) c.in_ok-keys.ensures.placed) c.in_ok-expect_word-2.ensures) c.in_ok-pages.ensures.placed) c.eat_word-clustered.ensures) c.in_ok-range.ensures.placed

@@ -2,20 +2,25 @@ use Rattle.std.proofs.Common.{rules}
 use Rattle.definitions.specs.Grammar as g
 use Rattle.definitions.proofs.Grammar.{list_alike, name_alike}
 use Rattle.cursor.proofs.Outcomes.{flat_on, past_on, gives, past_fails, then_fails, answers}
+use Rattle.cursor.proofs.Places.{here, on, past}
+use Rattle.std.proofs.Common.{refl}
 use Rattle.syntax.proofs.statement.names.Goals as goal
 
-pub returns-in_err-expect_symbol : goal.returns-in_err-expect_symbol
+pub returns-in_err-expect_symbol-clause-reads : goal.returns-in_err-expect_symbol-clause-reads
 unfolding g.NamesAt
-returns-in_err-expect_symbol c l k = answers _ _ (search rules) (past_fails c.in_err-expect_symbol.ensures)
+returns-in_err-expect_symbol-clause-reads c l k = answers _ _ (search rules) (past_fails c.in_err-expect_symbol.ensures)
 
-pub returns-in_err-names : goal.returns-in_err-names
+pub returns-in_err-names-clause-reads : goal.returns-in_err-names-clause-reads
 unfolding g.NamesAt
-returns-in_err-names c l k = answers _ _ (search rules) (past_on c.in_ok-expect_symbol.ensures (then_fails (c.in_err-names.ensures.reads l k)))
+returns-in_err-names-clause-reads c l k = answers _ _ (search rules) (past_on c.in_ok-expect_symbol.ensures (then_fails (c.in_err-names.ensures.reads l k)))
 
-pub returns-in_err-expect_symbol-2 : goal.returns-in_err-expect_symbol-2
+pub returns-in_err-expect_symbol-2-clause-reads : goal.returns-in_err-expect_symbol-2-clause-reads
 unfolding g.NamesAt
-returns-in_err-expect_symbol-2 c l k = answers _ _ (search rules) (past_on c.in_ok-expect_symbol.ensures (flat_on (list_alike name_alike) c.in_ok-names.ensures.reads (past_fails c.in_err-expect_symbol-2.ensures)))
+returns-in_err-expect_symbol-2-clause-reads c l k = answers _ _ (search rules) (past_on c.in_ok-expect_symbol.ensures (flat_on (list_alike name_alike) c.in_ok-names.ensures.reads (past_fails c.in_err-expect_symbol-2.ensures)))
 
-pub returns : goal.returns
+pub returns-clause-reads : goal.returns-clause-reads
 unfolding g.NamesAt
-returns c l k = past_on c.in_ok-expect_symbol.ensures (flat_on (list_alike name_alike) c.in_ok-names.ensures.reads (past_on c.in_ok-expect_symbol-2.ensures gives))
+returns-clause-reads c l k = past_on c.in_ok-expect_symbol.ensures (flat_on (list_alike name_alike) c.in_ok-names.ensures.reads (past_on c.in_ok-expect_symbol-2.ensures gives))
+
+pub returns-clause-placed : goal.returns-clause-placed
+returns-clause-placed c = past refl (on (past refl here c.in_ok-expect_symbol.ensures) c.in_ok-names.ensures.placed) c.in_ok-expect_symbol-2.ensures

@@ -7,6 +7,8 @@ use Rattle.definitions.proofs.Alike.{Alike, gives_alike, past_alike, then_alike}
 use Rattle.definitions.specs.Grammar as g
 use Rattle.definitions.proofs.Grammar.{bound_alike}
 use Rattle.cursor.proofs.Outcomes.{then_on, flat_on, past_on, misses_on, if_on, gives, past_fails, then_fails, answers}
+use Rattle.cursor.proofs.Places.{here, on, stays, past}
+use Rattle.std.proofs.Common.{refl}
 use Rattle.syntax.proofs.statement.range.Goals as goal
 
 abbrev bounds : Rule Range
@@ -15,22 +17,28 @@ bounds = Then g.BoundAt (λ low. Past (Reserved w.High) (Then g.BoundAt (λ high
 inner : Alike bounds bounds
 inner = then_alike bound_alike (λ low. past_alike _ (then_alike bound_alike (λ high. gives_alike _)))
 
-pub returns-then-not-eat_word : goal.returns-then-not-eat_word
+pub returns-then-not-eat_word-clause-reads : goal.returns-then-not-eat_word-clause-reads
 unfolding g.RangeAt
-returns-then-not-eat_word c l k = misses_on c.if-not-eat_word.ensures gives
+returns-then-not-eat_word-clause-reads c l k = misses_on c.if-not-eat_word.ensures gives
 
-pub returns-in_err-low : goal.returns-in_err-low
-unfolding g.RangeAt
-returns-in_err-low c l k = answers _ _ (search rules) (if_on c.if-not-eat_word.ensures (then_fails (then_fails (c.in_err-low.ensures l k))))
+pub returns-then-not-eat_word-clause-placed : goal.returns-then-not-eat_word-clause-placed
+returns-then-not-eat_word-clause-placed c = stays here c.if-not-eat_word.ensures.1
 
-pub returns-in_err-expect_word : goal.returns-in_err-expect_word
+pub returns-in_err-low-clause-reads : goal.returns-in_err-low-clause-reads
 unfolding g.RangeAt
-returns-in_err-expect_word c l k = answers _ _ (search rules) (if_on c.if-not-eat_word.ensures (then_fails (flat_on bound_alike c.in_ok-low.ensures (past_fails c.in_err-expect_word.ensures))))
+returns-in_err-low-clause-reads c l k = answers _ _ (search rules) (if_on c.if-not-eat_word.ensures (then_fails (then_fails (c.in_err-low.ensures.reads l k))))
 
-pub returns-in_err-high : goal.returns-in_err-high
+pub returns-in_err-expect_word-clause-reads : goal.returns-in_err-expect_word-clause-reads
 unfolding g.RangeAt
-returns-in_err-high c l k = answers _ _ (search rules) (if_on c.if-not-eat_word.ensures (then_fails (flat_on bound_alike c.in_ok-low.ensures (past_on c.in_ok-expect_word.ensures (then_fails (c.in_err-high.ensures l k))))))
+returns-in_err-expect_word-clause-reads c l k = answers _ _ (search rules) (if_on c.if-not-eat_word.ensures (then_fails (flat_on bound_alike c.in_ok-low.ensures.reads (past_fails c.in_err-expect_word.ensures))))
 
-pub returns : goal.returns
+pub returns-in_err-high-clause-reads : goal.returns-in_err-high-clause-reads
 unfolding g.RangeAt
-returns c l k = if_on c.if-not-eat_word.ensures (then_on {k = 0} (λ m. inner) (flat_on bound_alike c.in_ok-low.ensures (past_on c.in_ok-expect_word.ensures (flat_on bound_alike c.in_ok-high.ensures gives))) gives)
+returns-in_err-high-clause-reads c l k = answers _ _ (search rules) (if_on c.if-not-eat_word.ensures (then_fails (flat_on bound_alike c.in_ok-low.ensures.reads (past_on c.in_ok-expect_word.ensures (then_fails (c.in_err-high.ensures.reads l k))))))
+
+pub returns-clause-reads : goal.returns-clause-reads
+unfolding g.RangeAt
+returns-clause-reads c l k = if_on c.if-not-eat_word.ensures (then_on {k = 0} (λ m. inner) (flat_on bound_alike c.in_ok-low.ensures.reads (past_on c.in_ok-expect_word.ensures (flat_on bound_alike c.in_ok-high.ensures.reads gives))) gives)
+
+pub returns-clause-placed : goal.returns-clause-placed
+returns-clause-placed c = on (past refl (on (past refl here c.if-not-eat_word.ensures) c.in_ok-low.ensures.placed) c.in_ok-expect_word.ensures) c.in_ok-high.ensures.placed

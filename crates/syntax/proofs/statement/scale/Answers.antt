@@ -1,16 +1,25 @@
 use Rattle.std.proofs.Common.{rules}
 use Rattle.definitions.specs.Grammar as g
 use Rattle.cursor.proofs.Outcomes.{misses_on, if_on, gives, answers}
+use Rattle.cursor.proofs.Places.{here, stays, no_more, past}
+use Rattle.syntax.proofs.Places as leaves
+use Rattle.std.proofs.Common.{refl}
 use Rattle.syntax.proofs.statement.scale.Goals as goal
 
-pub returns-then-not-eat_symbol : goal.returns-then-not-eat_symbol
+pub returns-then-not-eat_symbol-clause-reads : goal.returns-then-not-eat_symbol-clause-reads
 unfolding g.ScaleAt
-returns-then-not-eat_symbol c l k = misses_on c.if-not-eat_symbol.ensures gives
+returns-then-not-eat_symbol-clause-reads c l k = misses_on c.if-not-eat_symbol.ensures gives
 
-pub returns-in_err-scale : goal.returns-in_err-scale
-unfolding g.ScaleAt
-returns-in_err-scale c l k = answers _ _ (search rules) (if_on c.if-not-eat_symbol.ensures (c.in_err-scale.ensures l k))
+pub returns-then-not-eat_symbol-clause-placed : goal.returns-then-not-eat_symbol-clause-placed
+returns-then-not-eat_symbol-clause-placed c = stays here c.if-not-eat_symbol.ensures.1
 
-pub returns : goal.returns
+pub returns-in_err-scale-clause-reads : goal.returns-in_err-scale-clause-reads
 unfolding g.ScaleAt
-returns c l k = if_on c.if-not-eat_symbol.ensures (c.in_ok-scale.ensures l k)
+returns-in_err-scale-clause-reads c l k = answers _ _ (search rules) (if_on c.if-not-eat_symbol.ensures (c.in_err-scale.ensures.reads l k))
+
+pub returns-clause-reads : goal.returns-clause-reads
+unfolding g.ScaleAt
+returns-clause-reads c l k = if_on c.if-not-eat_symbol.ensures (c.in_ok-scale.ensures.reads l k)
+
+pub returns-clause-placed : goal.returns-clause-placed
+returns-clause-placed c = no_more (past refl here c.if-not-eat_symbol.ensures) (leaves.without_leaf refl c.in_ok-scale.ensures.placed)

@@ -2,40 +2,48 @@ use Rattle.std.proofs.Common.{rules}
 use Rattle.definitions.specs.Grammar as g
 use Rattle.definitions.proofs.Grammar.{name_alike, count_alike, names_alike, figures_alike}
 use Rattle.cursor.proofs.Outcomes.{flat_on, past_on, misses_on, if_on, gives, past_fails, then_fails, answers}
+use Rattle.cursor.proofs.Places.{here, on, stays, past}
+use Rattle.std.proofs.Common.{refl}
 use Rattle.syntax.proofs.statement.set_statistics.Goals as goal
 
-pub returns-in_err-expect_word : goal.returns-in_err-expect_word
+pub returns-in_err-expect_word-clause-reads : goal.returns-in_err-expect_word-clause-reads
 unfolding g.SetAt
-returns-in_err-expect_word c l k = answers _ _ (search rules) (past_fails c.in_err-expect_word.ensures)
+returns-in_err-expect_word-clause-reads c l k = answers _ _ (search rules) (past_fails c.in_err-expect_word.ensures)
 
-pub returns-in_err-table : goal.returns-in_err-table
+pub returns-in_err-table-clause-reads : goal.returns-in_err-table-clause-reads
 unfolding g.SetAt
-returns-in_err-table c l k = answers _ _ (search rules) (past_on c.in_ok-expect_word.ensures (then_fails (c.in_err-table.ensures l k)))
+returns-in_err-table-clause-reads c l k = answers _ _ (search rules) (past_on c.in_ok-expect_word.ensures (then_fails (c.in_err-table.ensures.reads l k)))
 
-pub returns-in_err-rows : goal.returns-in_err-rows
+pub returns-in_err-rows-clause-reads : goal.returns-in_err-rows-clause-reads
 unfolding g.SetAt
-returns-in_err-rows c l k = answers _ _ (search rules) (past_on c.in_ok-expect_word.ensures (flat_on name_alike c.in_ok-table.ensures (if_on c.if-eat_word.ensures (then_fails (c.in_err-rows.ensures l k)))))
+returns-in_err-rows-clause-reads c l k = answers _ _ (search rules) (past_on c.in_ok-expect_word.ensures (flat_on name_alike c.in_ok-table.ensures.reads (if_on c.if-eat_word.ensures (then_fails (c.in_err-rows.ensures.reads l k)))))
 
-pub returns-in_err-expect_word-2 : goal.returns-in_err-expect_word-2
+pub returns-in_err-expect_word-2-clause-reads : goal.returns-in_err-expect_word-2-clause-reads
 unfolding g.SetAt
-returns-in_err-expect_word-2 c l k = answers _ _ (search rules) (past_on c.in_ok-expect_word.ensures (flat_on name_alike c.in_ok-table.ensures (if_on c.if-eat_word.ensures (flat_on count_alike c.in_ok-rows.ensures (past_fails c.in_err-expect_word-2.ensures)))))
+returns-in_err-expect_word-2-clause-reads c l k = answers _ _ (search rules) (past_on c.in_ok-expect_word.ensures (flat_on name_alike c.in_ok-table.ensures.reads (if_on c.if-eat_word.ensures (flat_on count_alike c.in_ok-rows.ensures.reads (past_fails c.in_err-expect_word-2.ensures)))))
 
-pub returns-in_err-pages : goal.returns-in_err-pages
+pub returns-in_err-pages-clause-reads : goal.returns-in_err-pages-clause-reads
 unfolding g.SetAt
-returns-in_err-pages c l k = answers _ _ (search rules) (past_on c.in_ok-expect_word.ensures (flat_on name_alike c.in_ok-table.ensures (if_on c.if-eat_word.ensures (flat_on count_alike c.in_ok-rows.ensures (past_on c.in_ok-expect_word-2.ensures (then_fails (c.in_err-pages.ensures l k)))))))
+returns-in_err-pages-clause-reads c l k = answers _ _ (search rules) (past_on c.in_ok-expect_word.ensures (flat_on name_alike c.in_ok-table.ensures.reads (if_on c.if-eat_word.ensures (flat_on count_alike c.in_ok-rows.ensures.reads (past_on c.in_ok-expect_word-2.ensures (then_fails (c.in_err-pages.ensures.reads l k)))))))
 
-pub returns-then-eat_word : goal.returns-then-eat_word
+pub returns-then-eat_word-clause-reads : goal.returns-then-eat_word-clause-reads
 unfolding g.SetAt
-returns-then-eat_word c l k = past_on c.in_ok-expect_word.ensures (flat_on name_alike c.in_ok-table.ensures (if_on c.if-eat_word.ensures (flat_on count_alike c.in_ok-rows.ensures (past_on c.in_ok-expect_word-2.ensures (flat_on count_alike c.in_ok-pages.ensures gives)))))
+returns-then-eat_word-clause-reads c l k = past_on c.in_ok-expect_word.ensures (flat_on name_alike c.in_ok-table.ensures.reads (if_on c.if-eat_word.ensures (flat_on count_alike c.in_ok-rows.ensures.reads (past_on c.in_ok-expect_word-2.ensures (flat_on count_alike c.in_ok-pages.ensures.reads gives)))))
 
-pub returns-in_err-columns : goal.returns-in_err-columns
-unfolding g.SetAt
-returns-in_err-columns c l k = answers _ _ (search rules) (past_on c.in_ok-expect_word.ensures (flat_on name_alike c.in_ok-table.ensures (misses_on c.if-eat_word.ensures (then_fails (c.in_err-columns.ensures l k)))))
+pub returns-then-eat_word-clause-placed : goal.returns-then-eat_word-clause-placed
+returns-then-eat_word-clause-placed c = on (past refl (on (past refl (on (past refl here c.in_ok-expect_word.ensures) c.in_ok-table.ensures.placed) c.if-eat_word.ensures) c.in_ok-rows.ensures.placed) c.in_ok-expect_word-2.ensures) c.in_ok-pages.ensures.placed
 
-pub returns-in_err-figures : goal.returns-in_err-figures
+pub returns-in_err-columns-clause-reads : goal.returns-in_err-columns-clause-reads
 unfolding g.SetAt
-returns-in_err-figures c l k = answers _ _ (search rules) (past_on c.in_ok-expect_word.ensures (flat_on name_alike c.in_ok-table.ensures (misses_on c.if-eat_word.ensures (flat_on names_alike c.in_ok-columns.ensures (then_fails (c.in_err-figures.ensures l k))))))
+returns-in_err-columns-clause-reads c l k = answers _ _ (search rules) (past_on c.in_ok-expect_word.ensures (flat_on name_alike c.in_ok-table.ensures.reads (misses_on c.if-eat_word.ensures (then_fails (c.in_err-columns.ensures.reads l k)))))
 
-pub returns : goal.returns
+pub returns-in_err-figures-clause-reads : goal.returns-in_err-figures-clause-reads
 unfolding g.SetAt
-returns c l k = past_on c.in_ok-expect_word.ensures (flat_on name_alike c.in_ok-table.ensures (misses_on c.if-eat_word.ensures (flat_on names_alike c.in_ok-columns.ensures (flat_on figures_alike c.in_ok-figures.ensures gives))))
+returns-in_err-figures-clause-reads c l k = answers _ _ (search rules) (past_on c.in_ok-expect_word.ensures (flat_on name_alike c.in_ok-table.ensures.reads (misses_on c.if-eat_word.ensures (flat_on names_alike c.in_ok-columns.ensures.reads (then_fails (c.in_err-figures.ensures.reads l k))))))
+
+pub returns-clause-reads : goal.returns-clause-reads
+unfolding g.SetAt
+returns-clause-reads c l k = past_on c.in_ok-expect_word.ensures (flat_on name_alike c.in_ok-table.ensures.reads (misses_on c.if-eat_word.ensures (flat_on names_alike c.in_ok-columns.ensures.reads (flat_on figures_alike c.in_ok-figures.ensures.reads gives))))
+
+pub returns-clause-placed : goal.returns-clause-placed
+returns-clause-placed c = on (on (stays (on (past refl here c.in_ok-expect_word.ensures) c.in_ok-table.ensures.placed) c.if-eat_word.ensures.1) c.in_ok-columns.ensures.placed) c.in_ok-figures.ensures.placed

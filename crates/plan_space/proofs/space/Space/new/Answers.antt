@@ -7,7 +7,8 @@ use Rattle.bound.specs.declared.block.Block.{Block}
 use Rattle.plans.specs.Plans.{order_of}
 use Rattle.plan_orders.specs.Versions.{version_of}
 use Rattle.plan_space.specs.Planned.{space_in}
-use Rattle.plan_space.proofs.Facts.{lawful, some_orders}
+use Rattle.definitions.proofs.EstimateTheory.Complete.{complete}
+use Rattle.plan_space.proofs.Facts.{some_orders}
 use Rattle.plan_space.proofs.space.Space.new.Goals as goal
 
 pub invariant_of-result : goal.invariant_of-result
@@ -20,7 +21,7 @@ invariant_of-result c =
     let uses = c.in_ok-uses.ensures.exact space (sym c.table_count-tables.ensures.exact) (sym c.conjuncts.ensures.exact)
     (sym c.in_ok-orders.ensures ∙ sym c.all.ensures) (ap (λ (b : Block). required_of (block_of b)) (sym c.block.ensures) ∙ sym c.in_ok-required.ensures ∙ ap order_of (sym c.deref-2.ensures.value)) in
     record {
-      lawful = lawful version db block c.requires;
+      complete = complete version db block c.requires;
       count = refl;
       few = omega (arith, c.table_count-tables.ensures.exact, c.table_count-tables.ensures.few);
       orders = c.in_ok-orders.ensures;

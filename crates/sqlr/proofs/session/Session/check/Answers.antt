@@ -1,4 +1,5 @@
 use Rattle.sqlr.proofs.CheckingRuns.{fault_put, fault_begun, nothing_read}
+use Rattle.sqlr.proofs.Running.{line_unasked}
 use Rattle.sqlr.proofs.session.Session.check.Goals as goal
 
 pub returns-in-Ok-clause-checks : goal.returns-in-Ok-clause-checks
@@ -11,7 +12,13 @@ pub returns-in-Err-Refused-clause-checks : goal.returns-in-Err-Refused-clause-ch
 returns-in-Err-Refused-clause-checks g c = fault_put _ _ _ _ _ _ _ _ (rw c.in-Err-Refused.field-0-is at c.in-Err-Refused.ensures.fault) (rw c.explain.ensures.taken at c.put_fault.ensures.prints)
 
 pub returns-in-Err-Refused-clause-breaks : goal.returns-in-Err-Refused-clause-breaks
-returns-in-Err-Refused-clause-breaks g c = fault_begun _ _ _ _ _ _ _ _ (rw c.in-Err-Refused.field-0-is at c.in-Err-Refused.ensures.fault) (rw c.explain.ensures.taken at c.put_fault.ensures.breaks)
+returns-in-Err-Refused-clause-breaks g c = fault_begun _ _ _ _ _ _ _ _ _ (rw c.in-Err-Refused.field-0-is at c.in-Err-Refused.ensures.fault) (rw c.explain.ensures.taken at c.put_fault.ensures.breaks)
 
 pub returns-in-Err-Memory-clause-breaks : goal.returns-in-Err-Memory-clause-breaks
-returns-in-Err-Memory-clause-breaks g c = nothing_read _ _ _ _ _ 0
+returns-in-Err-Memory-clause-breaks g c = nothing_read _ _ _ _ _ _ 0
+
+pub returns-in-Err-Refused-clause-library : goal.returns-in-Err-Refused-clause-library
+returns-in-Err-Refused-clause-library g c = line_unasked _ _ _ _ _ c.put_fault.ensures.breaks
+
+pub returns-in-Err-Refused-clause-sink : goal.returns-in-Err-Refused-clause-sink
+returns-in-Err-Refused-clause-sink g c = rw c.explain.ensures.counted at c.put_fault.ensures.blamed

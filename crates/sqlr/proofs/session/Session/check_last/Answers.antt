@@ -4,6 +4,7 @@ use Rattle.trees.specs.Trees.{select_of}
 use Rattle.sqlr.proofs.CheckingRuns.{binds_of, refused_put, refused_begun, told_put, told_begun}
 use Rattle.sqlr.proofs.Explained.{blocks_formed}
 use Rattle.sqlr.proofs.Written.{written}
+use Rattle.sqlr.proofs.CheckingRuns.{sink_blamed}
 use Rattle.sqlr.proofs.session.Session.check_last.Goals as goal
 
 pub explain_certificates-requires : goal.explain_certificates-requires
@@ -26,3 +27,13 @@ returns-in-Ok-Told-clause-checks g c =
 pub returns-in-Ok-Told-clause-breaks : goal.returns-in-Ok-Told-clause-breaks
 returns-in-Ok-Told-clause-breaks g c =
     rw (sym c.self.view_is) (told_begun _ _ _ _ _ (select_of c.in-Some.query.now) c.in-Ok-Told.checked c.put_text-in-Ok-Told.result c.in-Some.ensures (rw c.in-Ok-Told.field-0-is at c.in-Ok-Told.ensures.checked) c.put_text-in-Ok-Told.ensures.fault (rw (c.deref.ensures.value, c.explain_certificates.ensures.taken) at c.put_text-in-Ok-Told.ensures.begun))
+
+pub returns-in_default-clause-sink : goal.returns-in_default-clause-sink
+returns-in_default-clause-sink g c = sink_blamed _ _ c.put_text.result c.put_text.ensures.fault c.put_text.ensures.failed c.put_text.ensures.unfailed
+
+pub returns-in-Ok-Refused-clause-sink : goal.returns-in-Ok-Refused-clause-sink
+returns-in-Ok-Refused-clause-sink g c = sink_blamed _ _ c.put_refused.result c.put_refused.ensures.fault c.put_refused.ensures.failed c.put_refused.ensures.unfailed
+
+pub returns-in-Ok-Told-clause-sink : goal.returns-in-Ok-Told-clause-sink
+returns-in-Ok-Told-clause-sink g c =
+    rw c.explain_certificates.ensures.counted at (sink_blamed _ _ c.put_text-in-Ok-Told.result c.put_text-in-Ok-Told.ensures.fault c.put_text-in-Ok-Told.ensures.failed c.put_text-in-Ok-Told.ensures.unfailed)

@@ -2,12 +2,16 @@ use Rattle.std.proofs.Common.{rules}
 use Rattle.definitions.specs.Grammar as g
 use Rattle.definitions.proofs.Grammar.{key_name_alike, direction_alike}
 use Rattle.cursor.proofs.Outcomes.{flat_on, gives, then_fails, answers}
+use Rattle.cursor.proofs.Places.{no_more}
 use Rattle.syntax.proofs.query.KeyElement.read.Goals as goal
 
-pub returns-in_err-name : goal.returns-in_err-name
+pub returns-in_err-name-clause-reads : goal.returns-in_err-name-clause-reads
 unfolding g.KeyAt
-returns-in_err-name c l k = answers _ _ (search rules) (then_fails (c.in_err-name.ensures l k))
+returns-in_err-name-clause-reads c l k = answers _ _ (search rules) (then_fails (c.in_err-name.ensures.reads l k))
 
-pub returns : goal.returns
+pub returns-clause-reads : goal.returns-clause-reads
 unfolding g.KeyAt
-returns c l k = flat_on key_name_alike c.in_ok-name.ensures (flat_on direction_alike c.descending-descending.ensures gives)
+returns-clause-reads c l k = flat_on key_name_alike c.in_ok-name.ensures.reads (flat_on direction_alike c.descending-descending.ensures.reads gives)
+
+pub returns-clause-placed : goal.returns-clause-placed
+returns-clause-placed c = no_more c.in_ok-name.ensures.placed c.descending-descending.ensures.placed

@@ -3,16 +3,20 @@ use Rattle.trees.specs.Trees.{name_of}
 use Rattle.definitions.specs.Grammar as g
 use Rattle.definitions.proofs.Grammar.{name_alike}
 use Rattle.cursor.proofs.Outcomes.{maybe_says, flat_on, then_fails, no_memory, answers}
+use Rattle.cursor.proofs.Places.{on}
 use Rattle.syntax.proofs.query.SourceElement.read.Goals as goal
 
-pub returns-in_err-table : goal.returns-in_err-table
+pub returns-in_err-table-clause-reads : goal.returns-in_err-table-clause-reads
 unfolding g.SourceAt
-returns-in_err-table c l k = answers _ _ (search rules) (then_fails (c.in_err-table.ensures l k))
+returns-in_err-table-clause-reads c l k = answers _ _ (search rules) (then_fails (c.in_err-table.ensures.reads l k))
 
-pub returns-in_err-correlation : goal.returns-in_err-correlation
+pub returns-in_err-correlation-clause-reads : goal.returns-in_err-correlation-clause-reads
 unfolding g.SourceAt
-returns-in_err-correlation c l k = answers _ _ (search rules) (no_memory c.in_err-correlation.ensures.memory)
+returns-in_err-correlation-clause-reads c l k = answers _ _ (search rules) (no_memory c.in_err-correlation.ensures.memory)
 
-pub returns : goal.returns
+pub returns-clause-reads : goal.returns-clause-reads
 unfolding g.SourceAt
-returns c l k = flat_on name_alike c.in_ok-table.ensures (maybe_says name_of (λ o. record { table = name_of c.in_ok-table.table; correlation = o }) c.in_ok-correlation.correlation c.in_ok-correlation.ensures.ok)
+returns-clause-reads c l k = flat_on name_alike c.in_ok-table.ensures.reads (maybe_says name_of (λ o. record { table = name_of c.in_ok-table.table; correlation = o }) c.in_ok-correlation.correlation c.in_ok-correlation.ensures.ok)
+
+pub returns-clause-placed : goal.returns-clause-placed
+returns-clause-placed c = on c.in_ok-table.ensures.placed c.in_ok-correlation.ensures.placed

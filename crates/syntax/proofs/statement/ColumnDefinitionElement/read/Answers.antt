@@ -2,20 +2,24 @@ use Rattle.std.proofs.Common.{rules}
 use Rattle.definitions.specs.Grammar as g
 use Rattle.definitions.proofs.Grammar.{name_alike, type_alike, constraint_alike}
 use Rattle.cursor.proofs.Outcomes.{flat_on, gives, then_fails, answers}
+use Rattle.cursor.proofs.Places.{no_more}
 use Rattle.syntax.proofs.statement.ColumnDefinitionElement.read.Goals as goal
 
-pub returns-in_err-name : goal.returns-in_err-name
+pub returns-in_err-name-clause-reads : goal.returns-in_err-name-clause-reads
 unfolding g.ColumnAt
-returns-in_err-name c l k = answers _ _ (search rules) (then_fails (c.in_err-name.ensures l k))
+returns-in_err-name-clause-reads c l k = answers _ _ (search rules) (then_fails (c.in_err-name.ensures.reads l k))
 
-pub returns-in_err-declared : goal.returns-in_err-declared
+pub returns-in_err-declared-clause-reads : goal.returns-in_err-declared-clause-reads
 unfolding g.ColumnAt
-returns-in_err-declared c l k = answers _ _ (search rules) (flat_on name_alike c.in_ok-name.ensures (then_fails (c.in_err-declared.ensures l k)))
+returns-in_err-declared-clause-reads c l k = answers _ _ (search rules) (flat_on name_alike c.in_ok-name.ensures.reads (then_fails (c.in_err-declared.ensures.reads l k)))
 
-pub returns-in_err-constraint : goal.returns-in_err-constraint
+pub returns-in_err-constraint-clause-reads : goal.returns-in_err-constraint-clause-reads
 unfolding g.ColumnAt
-returns-in_err-constraint c l k = answers _ _ (search rules) (flat_on name_alike c.in_ok-name.ensures (flat_on type_alike c.in_ok-declared.ensures (then_fails (c.in_err-constraint.ensures l k))))
+returns-in_err-constraint-clause-reads c l k = answers _ _ (search rules) (flat_on name_alike c.in_ok-name.ensures.reads (flat_on type_alike c.in_ok-declared.ensures.reads (then_fails (c.in_err-constraint.ensures.reads l k))))
 
-pub returns : goal.returns
+pub returns-clause-reads : goal.returns-clause-reads
 unfolding g.ColumnAt
-returns c l k = flat_on name_alike c.in_ok-name.ensures (flat_on type_alike c.in_ok-declared.ensures (flat_on constraint_alike c.in_ok-constraint.ensures gives))
+returns-clause-reads c l k = flat_on name_alike c.in_ok-name.ensures.reads (flat_on type_alike c.in_ok-declared.ensures.reads (flat_on constraint_alike c.in_ok-constraint.ensures.reads gives))
+
+pub returns-clause-placed : goal.returns-clause-placed
+returns-clause-placed c = no_more (no_more c.in_ok-name.ensures.placed c.in_ok-declared.ensures.placed) c.in_ok-constraint.ensures.placed

@@ -1,0 +1,5 @@
+use Rattle.sqlr.proofs.EndAlike.{runs_end_alike}
+use Rattle.sqlr.proofs.laws.runs_end_alike.Goals as goal
+
+pub returns : goal.returns
+returns g c = runs_end_alike g.L.Library.answers c.file_loads_once.ensures.outcome

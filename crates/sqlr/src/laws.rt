@@ -1,0 +1,30 @@
+//! What holds of statements and scripts over every library (the laws of `definitions/specs/RunLaws`, and worked examples of scripts), each
+//! proved as the contract of a function that does nothing.
+
+ghost use Rattle.definitions.specs.RunLaws.{StepKeepsDatabase, FaultsChangeNothing, SelectPrintsAnswer, RunsEndAlike};
+ghost use Rattle.definitions.specs.Examples.Runs.{ScriptsRun};
+
+use crate::library::Library;
+
+/// Each statement keeps a database a database, and one that ends badly leaves it as it was.
+pub fn statements_keep_databases<L: Library>()
+    ensures kept { StepKeepsDatabase L.answers }
+    ensures unchanged { FaultsChangeNothing L.answers }
+{}
+
+/// What is printed for a query that is not refused, and raises no exception, is its answer.
+pub fn select_prints_answer<L: Library>()
+    ensures { SelectPrintsAnswer L.answers }
+{}
+
+/// Two runs of a script over a library that gives one answer to a request end alike: in one state, and both well or both badly.
+pub fn runs_end_alike<L: Library>()
+    ensures { RunsEndAlike L.answers }
+{
+    definitions::file_loads_once();
+}
+
+/// Small scripts and what they print.
+pub fn scripts_run<L: Library>()
+    ensures { ScriptsRun L.answers }
+{}

@@ -1,0 +1,129 @@
+#!/usr/bin/env python3
+"""Changes the theory of plans, one definition at a time, in a copy of crates/definitions, and checks that its laws and worked examples
+then no longer all prove. A law over definitions has no code that an edit could make wrong, so the definitions themselves are changed; what
+each change makes false stands in docs/DECISIONS.md. That a proof fails is not yet that its law is false: the list there says which are refuted.
+
+Usage: tools/changed_definitions.py [NUMBER ..]. It takes some half a minute a change and stands outside the gate. The status is 1 where a
+change is still proved, or where its text doesn't stand in its file just once.
+"""
+import pathlib
+import shutil
+import subprocess
+import sys
+import tempfile
+
+CRATE = pathlib.Path(__file__).resolve().parent.parent / "crates/definitions"
+
+# What the change says, the file below specs/Plans, the text and what stands in its place.
+CHANGES = [
+    ("a sort keeps the order of its input", "PlanSpace", "order_of (Sort input order) = order\n", "order_of (Sort input order) = order_of input\n"),
+    (
+        "folding forgets an order that a later merge needs",
+        "Folding",
+        "      ⊎ OpensMerge tables (order_at space order)",
+        "      ⊎ (OpensMerge tables (order_at space order) × ⊥)",
+    ),
+    (
+        "a merge takes columns as one class that are so only under all tables",
+        "PlanSpace",
+        "Satisfies space tables (order_at space order) (ascending x) × IsInner y inner",
+        "Satisfies space (whole space) (order_at space order) (ascending x) × IsInner y inner",
+    ),
+    (
+        "a table may come next anywhere",
+        "PlanSpace",
+        "((space.free_products ≡ true) ⊎ Links",
+        "((space.table_count ≡ space.table_count) ⊎ Links",
+    ),
+    (
+        "a merge without the order of its inner side",
+        "PlanSpace",
+        "Satisfies space tables (order_at space order) (ascending x) × IsInner y inner",
+        "Satisfies space tables (order_at space order) (ascending x) × IsPath no_tables inner.path",
+    ),
+    ("costs do not stop at 10^18", "Cost", "saturated n = min n limit", "saturated n = n"),
+    (
+        "the rule on sorts is left out",
+        "Validity",
+        "    pub sorts : SortsHold\n",
+        "    pub sorts : 0 ≤ 0\n",
+    ),
+    ("the rule on merges is left out", "Validity", "JoinsHold = LoopsHold × MergesHold", "JoinsHold = LoopsHold × (0 ≤ 0)"),
+    (
+        "the rule on accesses is left out",
+        "Validity",
+        "    pub accesses : AccessesHold\n",
+        "    pub accesses : 0 ≤ 0\n",
+    ),
+    (
+        "a state that isn't listed bounds nothing",
+        "Certificate",
+        "listed_or certificate.target certificate.states tables order",
+        "listed_or 0 certificate.states tables order",
+    ),
+    (
+        "the target is believed",
+        "Validity",
+        "IsMet plan = InSpace space plan × GivesRequired space plan × (cost_of space plan ≡ certificate.target)",
+        "IsMet plan = InSpace space plan × GivesRequired space plan",
+    ),
+    (
+        "a listed state may have all tables and the required order",
+        "Validity",
+        "TargetHolds plan = NoneFinal × IsMet plan",
+        "TargetHolds plan = IsMet plan",
+    ),
+    (
+        "a sort into an order over other tables",
+        "PlanSpace",
+        "CanSort tables order = (order ≢ 0) × IsOver space tables order",
+        "CanSort tables order = (order ≢ 0) × IsOver space (whole space) order",
+    ),
+    (
+        "directions of keys are not compared",
+        "ColumnClass",
+        "(key.descending ≡ wanted.descending) × SameClass",
+        "(key.descending ≡ key.descending) × SameClass",
+    ),
+    (
+        "an order that is listed already is numbered again",
+        "Numbering",
+        "without_repeats (order ∷ orders) = order ∷ filter (λ other. not (same_order order other)) (without_repeats orders)",
+        "without_repeats (order ∷ orders) = order ∷ without_repeats orders",
+    ),
+]
+
+
+def is_refused(folder, name, old, new):
+    """Whether the crate in a folder is no longer proved once a text of a file is replaced; the file is put back."""
+    path = folder / f"specs/Plans/{name}.antt"
+    text = path.read_text()
+    if text.count(old) != 1:
+        sys.exit(f"the text stands {text.count(old)} times in {path.name}: {old}")
+    path.write_text(text.replace(old, new))
+    try:
+        ran = subprocess.run(["rt", "check"], cwd=folder, capture_output=True, text=True, errors="replace")
+    finally:
+        path.write_text(text)
+    return "logic=proved" not in ran.stdout + ran.stderr
+
+
+def main():
+    chosen = [int(word) for word in sys.argv[1:]] or range(1, len(CHANGES) + 1)
+    kept = 0
+    with tempfile.TemporaryDirectory() as room:
+        top = pathlib.Path(room)
+        (top / "crates.txt").write_text("definitions: csv\n")
+        folder = top / "crates/definitions"
+        for part in ("src", "specs", "proofs"):
+            shutil.copytree(CRATE / part, folder / part)
+        for number in chosen:
+            what, *change = CHANGES[number - 1]
+            refused = is_refused(folder, *change)
+            kept += not refused
+            print(f"{number:2} {what}: {'refused' if refused else 'STILL PROVED'}", flush=True)
+    sys.exit(1 if kept else 0)
+
+
+if __name__ == "__main__":
+    main()
