@@ -68,6 +68,22 @@ NAME|WORTH
 2 rows
 """
 
+ORDERS = b"""OK
+OK
+OK
+5 rows loaded
+5 rows loaded
+CUSTOMER|NAME|AMOUNT
+'Olsen   '|'Bolt M8         '|24.00
+1 rows
+CUSTOMER|NAME|STOCK
+'Meyer   '|'Driver''s mate   '|12
+1 rows
+CUSTOMER|CUSTOMER|NAME
+'Kim     '|'Olsen   '|'Bolt M8         '
+1 rows
+"""
+
 FAULTS = b"""OK
 OK
 OK
@@ -126,6 +142,7 @@ def cases(folder, full, closed):
     device.write_text("CREATE TABLE T (A INTEGER);\nLOAD T FROM 'examples';\nSELECT A FROM T;\n")
     parts, missing = "examples/parts.sql", "examples/missing.sql"
     yield Case("parts", ["run", parts], 0, PARTS)
+    yield Case("orders", ["run", "examples/orders.sql"], 0, ORDERS)
     first_told = b"examples/faults.sql:5:14: error E07 42000: there is a table T already\n"
     yield Case("faults", ["run", "examples/faults.sql"], 1, FAULTS, first_told)
     for name, (line, told) in FAULTY.items():

@@ -28,7 +28,7 @@ use Rattle.definitions.proofs.BindingTheory.WorkedBindings.{faultless_is_accepte
 
 -- SELECT X FROM T WHERE X = 1 prints the header, the one row and the count
 plain : CanAnswer (bound_form t_and_u faultless)
-plain = record { table = 0; tables = refl; distinct = refl; groups = refl; having = refl; functions = refl; order = refl }
+plain = record { distinct = refl; groups = refl; having = refl; functions = refl; order = refl }
 
 accepted : IsAccepted t_and_u (Query faultless)
 accepted r (faults.query q r' h) = faultless_is_accepted r' h

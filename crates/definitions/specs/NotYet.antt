@@ -1,11 +1,9 @@
 -- Which queries can be answered so far. The others are refused, whatever they say (own).
-use Rattle.std.specs.Prelude.{ℕ, ◌≡◌, [], ◌∷◌, None, false}
+use Rattle.std.specs.Prelude.{◌≡◌, [], ◌∷◌, None, false}
 use Rattle.definitions.specs.Queries.BoundBlock.{Block, Blocks}
 
--- a block over one table that is neither grouped nor DISTINCT nor ordered
+-- a block that is neither grouped nor DISTINCT nor ordered
 pub record IsPlain (b : Block) : Type 0 where
-  pub table : ℕ
-  pub tables : b.tables ≡ table ∷ []
   pub distinct : b.distinct ≡ false
   pub groups : b.groups ≡ []
   pub having : b.having ≡ None

@@ -28,7 +28,7 @@ use syntax::Name;
 
 /// What can be run so far, for a query.
 const NOT_YET_HINT: &str =
-    "hint: so far: SELECT of one table, without DISTINCT, GROUP BY, HAVING, set functions, ORDER BY and subqueries\n";
+    "hint: so far: SELECT without DISTINCT, GROUP BY, HAVING, set functions, ORDER BY and subqueries\n";
 
 /// Makes the messages on a script, one after another.
 #[derive(Drop)]

@@ -35,14 +35,14 @@ null_compares : (a : Value) → compare Null a ≡ Some Equal → ⊥
 null_compares a h = absurd (true≢false (sym (ap is_some h)))
 
 -- values that compare as equal do so the other way round, and with each value of the same rank
-equal_on : (a b c : Value) → compare a b ≡ Some Equal → rank b c ≡ Equal → compare a c ≡ Some Equal
+pub equal_on : (a b c : Value) → compare a b ≡ Some Equal → rank b c ≡ Equal → compare a c ≡ Some Equal
 equal_on a b c h e = of_kinds (equally_ranked a c (sym (alike_right rank_total b c a e) ∙ rank_as_compared a b Equal h))
   where
     of_kinds : AreNotDistinct a c → compare a c ≡ Some Equal
     of_kinds (inr f) = f
     of_kinds (inl (f, g)) = absurd (null_compares b (subst (λ w. compare w b ≡ Some Equal) f h))
 
-equal_back : (a b : Value) → compare a b ≡ Some Equal → compare b a ≡ Some Equal
+pub equal_back : (a b : Value) → compare a b ≡ Some Equal → compare b a ≡ Some Equal
 equal_back a b h = of_kinds (equally_ranked b a (tied_back rank_total a b (rank_as_compared a b Equal h)))
   where
     of_kinds : AreNotDistinct b a → compare b a ≡ Some Equal
@@ -65,7 +65,7 @@ narrowed {X} {Y} p f e cl (x ∷ xs) h = by_test (cl x) refl (e x) refl (p (f x)
     by_test false r true s true t rest = absurd (true≢false (sym (h x t) ∙ r))
     by_test false r true s false t rest = rest ∙ sym (ap (λ w. cond w (f x ∷ filter p (map f (filter e xs))) (filter p (map f (filter e xs)))) t)
 
-one_key : {X : Type 0} → (f : BlockColumn → X → Value) (y : BlockColumn) (a b : X) → NotAfter f (ascending y) a b → AtMost (f y a) (f y b)
+pub one_key : {X : Type 0} → (f : BlockColumn → X → Value) (y : BlockColumn) (a b : X) → NotAfter f (ascending y) a b → AtMost (f y a) (f y b)
 one_key f y a b h = alone (rank (f y a) (f y b)) h
   where
     alone : (o : Ordering) → is_le (ordering_then o Equal) ≡ true → is_le o ≡ true
@@ -81,26 +81,26 @@ module _ (q : Space) (d : Stored) (v : Fits q d) (s g : ℕ) (i : Inner) (x y : 
   abbrev t : ℕ
   t = table_of i.path
 
-  sides_are : (inner_column t (slice_get q.conjuncts g) ≡ y) × (outer_column t (slice_get q.conjuncts g) ≡ x)
+  pub sides_are : (inner_column t (slice_get q.conjuncts g) ≡ y) × (outer_column t (slice_get q.conjuncts g) ≡ x)
   sides_are = let (k, e, early, h) = eqs in rw e (side_is t x y k.equated (λ f. ne (f ∙ sym hy)) hy h)
 
-  equates : (c : List ℕ) → (d.holds g c ≡ true) ↔ (compare (value_at d x c) (value_at d y c) ≡ Some Equal)
+  pub equates : (c : List ℕ) → (d.holds g c ≡ true) ↔ (compare (value_at d x c) (value_at d y c) ≡ Some Equal)
   equates c = let (k, e, early, h) = eqs in of_side k e h
     where
       of_side : (k : Conjunct) → slice_get q.conjuncts g ≡ Some k → (k.equated ≡ Some (x, y)) ⊎ (k.equated ≡ Some (y, x)) → (d.holds g c ≡ true) ↔ (compare (value_at d x c) (value_at d y c) ≡ Some Equal)
       of_side k e (inl h) = v.equal g k x y c e h
       of_side k e (inr h) = let w = v.equal g k y x c e h in ((λ p. equal_back (value_at d y c) (value_at d x c) (w.0 p)), (λ p. w.1 (equal_back (value_at d x c) (value_at d y c) p)))
 
-  cells : (c : List ℕ) (r : ℕ) → IsOn q d s c → (value_at d x (set c t r) ≡ value_at d x c) × (value_at d y (set c t r) ≡ d.value_in y r)
+  pub cells : (c : List ℕ) (r : ℕ) → IsOn q d s c → (value_at d x (set c t r) ≡ value_at d x c) × (value_at d y (set c t r) ≡ d.value_in y r)
   cells c r o =
       let here : row_number (set c t r) t ≡ r = get_or-set_same c t r 0 (omega (arith, o.0, lt)) in
       let there : row_number (set c t r) y.table ≡ r = ap (row_number (set c t r)) hy ∙ here in
       (ap (d.value_in x) (get_or-set_other c t x.table r 0 (λ f. ne (f ∙ sym hy))), ap (d.value_in y) there)
 
-  same : (c : Composite) (r : ℕ) → IsOn q d s c → d.holds g (set c t r) ≡ true → rank (value_at d x c) (d.value_in y r) ≡ Equal
+  pub same : (c : Composite) (r : ℕ) → IsOn q d s c → d.holds g (set c t r) ≡ true → rank (value_at d x c) (d.value_in y r) ≡ Equal
   same c r o h = let w = cells c r o in ap₂ rank (sym w.0) (sym w.1) ∙ rank_as_compared (value_at d x (set c t r)) (value_at d y (set c t r)) Equal ((equates (set c t r)).0 h)
 
-  both : (c : Composite) (r r' : ℕ) → IsOn q d s c → d.holds g (set c t r') ≡ true → rank (d.value_in y r) (d.value_in y r') ≡ Equal → d.holds g (set c t r) ≡ true
+  pub both : (c : Composite) (r r' : ℕ) → IsOn q d s c → d.holds g (set c t r') ≡ true → rank (d.value_in y r) (d.value_in y r') ≡ Equal → d.holds g (set c t r) ≡ true
   both c r r' o h e =
       let w = cells c r o in
       let w' = cells c r' o in
@@ -108,7 +108,7 @@ module _ (q : Space) (d : Stored) (v : Fits q d) (s g : ℕ) (i : Inner) (x y : 
       let two : compare (value_at d x c) (d.value_in y r) ≡ Some Equal = equal_on (value_at d x c) (d.value_in y r') (d.value_in y r) one (tied_back rank_total (d.value_in y r) (d.value_in y r') e) in
       (equates (set c t r)).1 (ap₂ compare w.0 w.1 ∙ two)
 
-  clean : (c : List ℕ) (r : ℕ) → IsOn q d s c → passes q d (with_table s t) (set c t r) ≡ true → passes q d (with_table 0 t) (set (nothing q) t r) ≡ true
+  pub clean : (c : List ℕ) (r : ℕ) → IsOn q d s c → passes q d (with_table s t) (set c t r) ≡ true → passes q d (with_table 0 t) (set (nothing q) t r) ≡ true
   clean c r o p = passes_alike q d v (with_table 0 t) (set c t r) (set (nothing q) t r) (λ u b.
       let f : u ≡ t = only_has t u (subst (λ w. Has w u) (with_zero t) b) in
       let one : row_number (set (nothing q) t r) t ≡ r = get_or-set_same (nothing q) t r 0 (omega (arith, nothing_long q d v, lt)) in
@@ -120,10 +120,10 @@ module _ (q : Space) (d : Stored) (v : Fits q d) (s g : ℕ) (i : Inner) (x y : 
       let here : row_number (set (nothing q) t r) t ≡ r = get_or-set_same (nothing q) t r 0 (omega (arith, nothing_long q d v, lt)) in
       sym (ap (d.value_in z) (ap (row_number (set (nothing q) t r)) e ∙ here))
 
-  abbrev Up : ℕ → ℕ → Type 0
+  abbrev pub Up : ℕ → ℕ → Type 0
   Up r r' = AtMost (d.value_in y r) (d.value_in y r')
 
-  clean_sorted : IsInner q y i → Rises Up (clean_rows q d g i)
+  pub clean_sorted : IsInner q y i → Rises Up (clean_rows q d g i)
   clean_sorted (is, kind) = by_kind i.sorted refl kind
     where
       ys : Order

@@ -10,3 +10,6 @@ pub record IsSource (db : Database) (b : Block) (t : Table) : Type 0 where
   pub only : b.tables ≡ number ∷ []
   pub there : slice_get db number ≡ Some t
   pub valid : IsTable t
+
+abbrev pub IsOverOne : Block → Type 0
+IsOverOne b = (number : ℕ) × (b.tables ≡ number ∷ [])

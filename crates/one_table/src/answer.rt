@@ -8,7 +8,7 @@ ghost use Rattle.definitions.specs.Queries.Outcomes.{names_of, shown, AllowedOf,
 ghost use Rattle.definitions.specs.Table.{Row};
 ghost use Rattle.bound.specs.Bound.{block_of};
 ghost use Rattle.one_table.specs.Faults.{IfRaised};
-ghost use Rattle.one_table.specs.Source.{IsSource};
+ghost use Rattle.one_table.specs.Source.{IsOverOne, IsSource};
 
 use crate::fault::AnswerFault;
 use crate::filter::Filter;
@@ -28,6 +28,7 @@ pub fn answer_text(
     block: &Block,
 ) -> Result<Vec<u8>, AnswerFault>
     requires plain { IsPlain (block_of block.now) }
+    requires one { IsOverOne (block_of block.now) }
     requires formed { IsFormedBlock database.now (block_of block.now ∷ []) [] 0 (block_of block.now) }
     ensures rows { IfOk result (λ text. (rows : List Row) × AllowedOf database.now (block_of block.now ∷ []) (Rows rows) × (text.items ≡ shown (names_of (block_of block.now ∷ [])) (Rows rows))) }
     ensures raised { IfErr result (λ fault. IfRaised fault (λ raise. AllowedOf database.now (block_of block.now ∷ []) (Exception raise))) }
@@ -43,7 +44,7 @@ pub fn answer_text(
 
 /// The table that a block reads.
 fn only_table<'d>(database: &'d Database, block: &Block) -> &'d Table
-    requires plain { IsPlain (block_of block.now) }
+    requires one { IsOverOne (block_of block.now) }
     requires there { AllByRecursion (λ number. number < length database.now) block.now.tables.items }
     ensures { IsSource database.now (block_of block.now) result.now }
 {

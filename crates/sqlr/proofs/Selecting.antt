@@ -52,7 +52,7 @@ formed_block db b (formed.formed around n c is h inside) = subst (IsFormedBlock 
 
 -- ---- a plain block
 
-only_table : (xs : List ℕ) → length xs ≡ 1 → (x : ℕ) × (xs ≡ x ∷ [])
+pub only_table : (xs : List ℕ) → length xs ≡ 1 → (x : ℕ) × (xs ≡ x ∷ [])
 only_table [] h = absurd (omega (arith, h))
 only_table (x ∷ []) h = (x, refl)
 only_table (x ∷ y ∷ ys) h = absurd (omega (arith, h))
@@ -65,12 +65,9 @@ none_when : {A : Type 0} (o : Option A) → is_some o ≡ false → o ≡ None
 none_when None h = refl
 none_when (Some x) h = absurd cc
 
-pub plain_block : (b : tree.Block) → length b.tables.items ≡ 1 → b.distinct ≡ false → length b.groups.items ≡ 0 → is_some b.having ≡ false → length b.functions.items ≡ 0 → length b.order.items ≡ 0 → IsPlain (block_of b)
-plain_block b one distinct groups having functions order =
-    let (table, is) = only_table b.tables.items one in
+pub plain_block : (b : tree.Block) → b.distinct ≡ false → length b.groups.items ≡ 0 → is_some b.having ≡ false → length b.functions.items ≡ 0 → length b.order.items ≡ 0 → IsPlain (block_of b)
+plain_block b distinct groups having functions order =
     record {
-      table = table;
-      tables = is;
       distinct = distinct;
       groups = ap (λ xs. map column_of xs) (no_items b.groups.items groups);
       having = ap (λ o. option_map condition_of o) (none_when b.having having);
@@ -80,13 +77,6 @@ plain_block b one distinct groups having functions order =
 
 pub zero_when : (n : ℕ) → (n == 0) ≡ true → n ≡ 0
 zero_when n h = grind (arith, nat_tests, h)
-
-pub one_when : (n : ℕ) → (n == 1) ≡ true → n ≡ 1
-one_when n h = grind (arith, nat_tests, h)
-
-pub false_when : (b : Bool) → not b ≡ true → b ≡ false
-false_when false h = refl
-false_when true h = absurd cc
 
 pub unordered : (b : tree.Block) → IsPlain (block_of b) → length b.order.items ≡ 0
 unordered b p = sym (length-map b.order.items key_of) ∙ ap (λ xs. length xs) p.order

@@ -1,6 +1,7 @@
 //! Scripts of SQL over tables in memory: from a script's bytes to the bytes that it prints.
 #![tactic(auto)]
 
+mod answering;
 mod cause;
 mod changes;
 mod checked;

@@ -17,12 +17,11 @@ pub(crate) fn can_answer(blocks: &[Block]) -> bool
     }
 }
 
-/// Whether a block is over one table and is neither grouped nor DISTINCT nor ordered.
+/// Whether a block is neither grouped nor DISTINCT nor ordered.
 fn is_plain(block: &Block) -> bool
     ensures { Decides result (IsPlain (block_of block.now)) }
 {
-    block.tables.len() == 1
-        && !block.distinct
+    !block.distinct
         && block.groups.is_empty()
         && block.having.is_none()
         && block.functions.is_empty()

@@ -5,12 +5,13 @@ ghost use Rattle.trees.specs.Trees.{select_of};
 ghost use Rattle.sqlr.specs.declared.outcome.StepFault.TheVariants as fault;
 ghost use Rattle.sqlr.specs.Selecting.{Answers};
 
+use crate::answering::answer;
 use crate::cause::{Cause, QueryCause};
 use crate::not_yet::can_answer;
 use crate::outcome::{Printed, StepFault, done, raised, refused};
 use binder::{BindFault, bind};
 use catalog::Database;
-use one_table::{AnswerFault, answer_text};
+use executor::AnswerFault;
 use refusals::Refusal;
 use std::alloc::Global;
 use syntax::Select;
@@ -37,7 +38,7 @@ pub(crate) fn select<'q>(
     if !can_answer(&blocks) {
         return refused(alloc, Refusal::OverQueryLimit, Cause::NotYet(query));
     }
-    match answer_text(alloc, database, &blocks[0]) {
+    match answer(alloc, database, &blocks[0]) {
         Ok(text) => Ok(done(text)),
         Err(AnswerFault::Raised(raise)) => raised(alloc, raise),
         Err(AnswerFault::Memory) => Err(StepFault::Memory),

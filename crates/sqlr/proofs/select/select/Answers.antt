@@ -18,17 +18,17 @@ returns-then-not-can_answer-clause-answers c =
     let cannot : ¬ (CanAnswer (map block_of c.in-Ok.blocks.items)) = rw c.deref.ensures.value at (not_from_Decides c.can_answer.result c.can_answer.ensures c.if-not-can_answer.true) in
     fault_told _ _ _ _ (not_yet _ _ _ c.in-Ok.ensures.bound cannot) c.refused-then-not-can_answer.ensures.text c.refused-then-not-can_answer.ensures.ended
 
-pub answer_text-requires-clause-formed : goal.answer_text-requires-clause-formed
-answer_text-requires-clause-formed c =
+pub answer-requires-clause-formed : goal.answer-requires-clause-formed
+answer-requires-clause-formed c =
     let can : CanAnswer (map block_of c.in-Ok.blocks.items) = rw c.deref.ensures.value at (c.can_answer.ensures.0 c.if-not-can_answer.false) in
     let only = only_block c.in-Ok.blocks.items c.index.result.now can c.index.ensures in
     formed_block _ _ (rw only at (c.in-Ok.ensures.formed (written c.args.database.now c.args.query.now)))
 
-pub returns-in-Ok-answer_text-clause-answers : goal.returns-in-Ok-answer_text-clause-answers
-returns-in-Ok-answer_text-clause-answers c =
+pub returns-in-Ok-answer-clause-answers : goal.returns-in-Ok-answer-clause-answers
+returns-in-Ok-answer-clause-answers c =
     let can : CanAnswer (map block_of c.in-Ok.blocks.items) = rw c.deref.ensures.value at (c.can_answer.ensures.0 c.if-not-can_answer.false) in
     let only = only_block c.in-Ok.blocks.items c.index.result.now can c.index.ensures in
-    rows_told _ _ _ _ _ (rw only at c.in-Ok.ensures.bound) (rw only at can) c.in-Ok-answer_text.ensures.rows (ap (λ t. t.items) c.done.ensures.text) c.done.ensures.ended
+    rows_told _ _ _ _ _ (rw only at c.in-Ok.ensures.bound) (rw only at can) c.in-Ok-answer.ensures.rows (ap (λ t. t.items) c.done.ensures.text) c.done.ensures.ended
 
 pub returns-in-Err-Raised-clause-answers : goal.returns-in-Err-Raised-clause-answers
 returns-in-Err-Raised-clause-answers c =

@@ -1,0 +1,10 @@
+pub mod Lists
+pub mod Arranged
+pub mod Answering
+pub mod Formed
+pub mod Testing
+pub mod Fields
+pub mod Columns
+pub mod Taking
+pub mod Meaning
+pub mod Ending

@@ -1,0 +1,4 @@
+pub mod Sorts
+pub mod PackedRows
+pub mod SortedLists
+pub mod KeyedRows

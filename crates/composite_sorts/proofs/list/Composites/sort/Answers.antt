@@ -1,0 +1,22 @@
+use Rattle.std.proofs.Common.{subst, map}
+use Rattle.std.specs.Prelude.{IsPermutation}
+use Rattle.std.proofs.lemmas.List.Sorted.{IsPermutation-map}
+use Rattle.std.proofs.lemmas.Result.{on_ok_weaker}
+use Rattle.table_sets.specs.Sets.{set_of}
+use Rattle.plans.specs.Plans.{order_of}
+use Rattle.composite_sorts.specs.CompositeLists.{CompositeList}
+use Rattle.composite_sorts.specs.Keeping.{rows_of}
+use Rattle.composite_sorts.specs.Packing.{unpacked}
+use Rattle.composite_sorts.proofs.SortedLists.{rises_unpacked}
+use Rattle.composite_sorts.proofs.list.Composites.sort.Goals as goal
+
+pub returns-clause-permutation : goal.returns-clause-permutation
+returns-clause-permutation c =
+    let s = c.self.inside in
+    let same = IsPermutation-map (unpacked s.width s.members.items) (rows_of s.kept) (rows_of c.sort.new.self) c.sort.ensures.permutation in
+    subst (λ (v : CompositeList). IsPermutation v.items (map (unpacked s.width s.members.items) (rows_of c.sort.new.self))) c.self.view_is same
+
+pub returns-clause-sorted : goal.returns-clause-sorted
+returns-clause-sorted c =
+    let s = c.self.inside in
+    on_ok_weaker c.sort.result (rises_unpacked (set_of s.tables) s.width s.members.items c.self.invariant.members c.args.source.now (order_of c.args.order.now) (rows_of c.sort.new.self)) (rw c.deref.ensures.value at c.sort.ensures.sorted)

@@ -1,0 +1,19 @@
+-- Packed rows as code keeps them.
+use Rattle.std.specs.Prelude.{ℕ, List}
+use Rattle.composite_sorts.specs.declared.kept.Kept.{Kept}
+use Rattle.composite_sorts.specs.declared.kept.Kept.TheVariants as k
+
+abbrev pub rows_of : Kept → List (List ℕ)
+rows_of (k.One rows) = rows.items
+rows_of (k.Two rows) = rows.items
+rows_of (k.Four rows) = rows.items
+rows_of (k.Eight rows) = rows.items
+rows_of (k.All rows) = rows.items
+
+-- of how many tables they are, at most
+abbrev pub room_of : Kept → ℕ
+room_of (k.One rows) = 1
+room_of (k.Two rows) = 2
+room_of (k.Four rows) = 4
+room_of (k.Eight rows) = 8
+room_of (k.All rows) = 14

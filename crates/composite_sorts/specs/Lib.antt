@@ -1,0 +1,7 @@
+pub use Rattle.path_runs.specs.Sources
+pub mod Values
+pub mod CompositeLists
+pub mod Packing
+pub mod Keeping
+pub mod Keyed
+pub mod Inside

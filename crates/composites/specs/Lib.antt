@@ -1,0 +1,3 @@
+pub use Rattle.path_runs.specs.Sources
+pub mod Composites
+pub mod Pulls

@@ -1,0 +1,3 @@
+mod Planned
+mod Totals
+mod Arranged

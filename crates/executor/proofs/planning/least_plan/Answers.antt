@@ -1,0 +1,20 @@
+use Rattle.std.proofs.Common.{◌∙◌, subst}
+use Rattle.definitions.specs.Estimates.Version.{current_version}
+use Rattle.definitions.specs.Plans.Least.{IsLeast}
+use Rattle.plans.specs.Plans.{plan_of}
+use Rattle.executor.proofs.Planned.{has_plans, same_space}
+use Rattle.executor.proofs.planning.least_plan.Goals as goal
+
+pub new-requires-2 : goal.new-requires-2
+new-requires-2 c = has_plans c.args.database.now c.args.block.now c.in_ok-estimate.estimate.block c.in_ok-estimate.ensures.block c.requires.formed
+
+pub returns-clause-space : goal.returns-clause-space
+returns-clause-space c =
+    same_space c.in_ok-space.space current_version c.args.database.now c.args.block.now c.in_ok-space.ensures.version (c.in_ok-space.ensures.database ∙ c.in_ok-estimate.ensures.database)
+    (c.in_ok-space.ensures.block ∙ c.in_ok-estimate.ensures.block)
+
+pub returns-clause-least : goal.returns-clause-least
+returns-clause-least c =
+    subst (λ s. IsLeast s (plan_of c.in_ok-plan.plan))
+    (same_space c.in_ok-space.space current_version c.args.database.now c.args.block.now c.in_ok-space.ensures.version (c.in_ok-space.ensures.database ∙ c.in_ok-estimate.ensures.database)
+    (c.in_ok-space.ensures.block ∙ c.in_ok-estimate.ensures.block)) c.in_ok-plan.ensures.least

@@ -1,0 +1,1 @@
+pub use Rattle.execution.specs.Total

@@ -1,0 +1,34 @@
+//! Plans of blocks.
+
+ghost use Rattle.std.specs.Prelude.{◌≡◌, IfOk};
+ghost use Rattle.definitions.specs.Binding.Formed.{IsFormedSomewhere};
+ghost use Rattle.definitions.specs.Estimates.BlockSpace.{space_of};
+ghost use Rattle.definitions.specs.Estimates.Version.{current_version};
+ghost use Rattle.definitions.specs.Plans.Least.{IsLeast};
+ghost use Rattle.bound.specs.Bound.{block_of};
+ghost use Rattle.plan_space.specs.Planned.{space_in};
+ghost use Rattle.plans.specs.Plans.{plan_of};
+
+use bound::Block;
+use catalog::Database;
+use estimate::Estimate;
+use join_dp::optimise;
+use plan_space::{Space, Version};
+use plans::Plan;
+use std::alloc::{AllocError, Global};
+
+/// The plan space of a block, and a least plan in it (Selinger et al. 1979, section 5).
+pub(crate) fn least_plan<'a>(
+    alloc: Global,
+    database: &'a Database,
+    block: &'a Block,
+) -> Result<(Space<'a>, Plan), AllocError>
+    requires formed { IsFormedSomewhere database.now (block_of block.now) }
+    ensures space { IfOk result (λ r. space_in r.0 ≡ space_of current_version database.now (block_of block.now)) }
+    ensures least { IfOk result (λ r. IsLeast (space_of current_version database.now (block_of block.now)) (plan_of r.1)) }
+{
+    let estimate = Estimate::new(alloc, database, block)?;
+    let space = Space::new(alloc, estimate, Version::Three)?;
+    let (plan, _, _) = optimise(alloc, &space)?;
+    Ok((space, plan))
+}

@@ -1,0 +1,3 @@
+pub use Rattle.execution.specs.Delivery
+pub mod Stepping
+pub mod Laws
