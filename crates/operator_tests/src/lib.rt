@@ -1,0 +1,13 @@
+//! Tests of plans that are run, on worked tables.
+#![tactic(auto)]
+
+#[cfg(test)]
+mod all_plans;
+#[cfg(test)]
+mod examples;
+#[cfg(test)]
+mod plain;
+#[cfg(test)]
+mod running;
+#[cfg(test)]
+mod steps;
