@@ -1,7 +1,7 @@
 #!/usr/bin/env python3
 """Runs `rt` with the words given, as rt.py ci, and makes the sum of a crate's sources once a run.
 
-A kit may make it anew for each way in which crates stand on one another, which are a hundred thousand here: hours,
+A kit may make it anew for each way in which crates stand on one another, which are a hundred thousand here: an hour or more,
 of which the gate uses nothing, as it proves all from nothing. Nothing else of `rt` is touched, and where a kit has
 no such sum, it is run as it is.
 """
