@@ -16,7 +16,7 @@ use Rattle.definitions.specs.IndexFaults.{ListFaulty, IndexFaulty, FiguresFaulty
 use Rattle.definitions.specs.Faults as faults
 use Rattle.definitions.specs.Faults.{Faulty, IsAccepted}
 use Rattle.definitions.specs.Invariant.{IsCount, IsPageCount, IsDatabase}
-use Rattle.definitions.proofs.Steps.{made_database}
+use Rattle.definitions.proofs.Changes.{made_database}
 use Rattle.definitions.proofs.Repeats.{repeats_neither}
 use Rattle.indexes.specs.Repeats.{IsFirstRepeated}
 use Rattle.indexes.specs.declared.repeated.RepeatedKey.{RepeatedKey}

@@ -13,7 +13,7 @@ use Rattle.definitions.specs.Change.{bound_value, KeptAs}
 use Rattle.definitions.specs.Loading.{negated}
 use Rattle.definitions.specs.IndexFaults.{Falls, NeverKept}
 use Rattle.definitions.proofs.Ranking.{rank_as_compared, power_is_positive, scaled}
-use Rattle.definitions.proofs.Steps.{as_equal}
+use Rattle.definitions.proofs.Changes.{as_equal}
 use Rattle.catalog.specs.Figures.{RefusesRange, RefusesGiven}
 use Rattle.catalog.specs.declared.fault.FiguresFault.{FiguresFault}
 use Rattle.catalog.specs.declared.fault.FiguresFault.TheVariants as f

@@ -16,7 +16,7 @@ use Rattle.definitions.specs.Faults as faults
 use Rattle.definitions.specs.Faults.{Faulty, IsAccepted, count_of, definition_names}
 use Rattle.definitions.specs.Lists.{AnyOf}
 use Rattle.definitions.specs.Invariant.{IsDatabase}
-use Rattle.definitions.proofs.Steps.{made_database}
+use Rattle.definitions.proofs.Changes.{made_database}
 use Rattle.loading.specs.Stored.{StoredColumn, AreFilled, headers}
 use Rattle.table_indexes.specs.Indexes.{StoredIndex, IsIndexOn}
 use Rattle.trees.specs.Trees.{name_of, constraint_of, definition_of, definitions_of}

@@ -9,7 +9,7 @@ use Rattle.definitions.specs.Key.{key_of, AreUnique}
 use Rattle.definitions.specs.Figures.{index_figures}
 use Rattle.definitions.specs.Change.{with_index}
 use Rattle.definitions.specs.Invariant.{IsTable}
-use Rattle.definitions.proofs.Steps.{with_index_is_table, numbers_found}
+use Rattle.definitions.proofs.Changes.{with_index_is_table, numbers_found}
 use Rattle.loading.specs.Stored.{StoredColumn, headers, rows_of}
 use Rattle.table_indexes.specs.Indexes.{StoredIndex, AreIndexColumns, IsIndexOn}
 use Rattle.catalog.specs.Changes.{MayIndex, AddsIndex}

@@ -10,7 +10,7 @@ use Rattle.definitions.specs.Change as made
 use Rattle.definitions.specs.Change.{Makes, changed, with_rows, with_index, with_table_figures, with_index_figures}
 use Rattle.definitions.specs.Faults.{Faulty, IsAccepted}
 use Rattle.definitions.specs.Invariant.{IsCount, IsPageCount, IsDatabase}
-use Rattle.definitions.proofs.Steps.{made_database, database_changed, valid_named}
+use Rattle.definitions.proofs.Changes.{made_database, database_changed, valid_named}
 use Rattle.definitions.proofs.Counting.{loaded_is_table}
 use Rattle.catalog.specs.Changes.{AddsIndex, RefusesNewIndex, RefusesIndex, SetsIndex, RefusesFigures, RefusesTableFigures}
 use Rattle.catalog.specs.Loads.{LoadsTable, RefusesTable, LoadsNamed, RefusesNamed}

@@ -84,17 +84,11 @@ impl Kept {
         Ok(())
     }
 
-    /// Puts them in an order.
-    pub(crate) fn sort(
-        &mut self,
-        source: &Source<'_>,
-        order: &[SortKey],
-        members: &[usize],
-    ) -> Result<(), AllocError>
+    /// Puts them in an order, in place.
+    pub(crate) fn sort(&mut self, source: &Source<'_>, order: &[SortKey], members: &[usize])
         ensures room { room_of self.new ≡ room_of self.old }
         ensures permutation { IsPermutation (rows_of self.old) (rows_of self.new) }
-        ensures sorted { OnOk result (Rises (NotAfter (value_in_packed source.now members.now) (order_of order.now)) (rows_of self.new)) }
-        ensures err { OnErr result (rows_of self.new ≡ rows_of self.old) }
+        ensures sorted { Rises (NotAfter (value_in_packed source.now members.now) (order_of order.now)) (rows_of self.new) }
     {
         match self {
             Kept::One(rows) => sort_packed(rows, source, order, members),
@@ -106,20 +100,19 @@ impl Kept {
     }
 }
 
-/// Puts packed rows in an order. Those that are as good as equal stay as they stood.
+/// Puts packed rows in an order.
 fn sort_packed<const ROOM: usize>(
     rows: &mut Vec<[u32; ROOM]>,
     source: &Source<'_>,
     order: &[SortKey],
     members: &[usize],
-) -> Result<(), AllocError>
+)
     ensures permutation { IsPermutation rows.old.items rows.new.items }
-    ensures sorted { OnOk result (Rises (NotAfter (value_in_packed source.now members.now) (order_of order.now)) rows.new.items) }
-    ensures err { OnErr result (rows.new.items ≡ rows.old.items) }
+    ensures sorted { Rises (NotAfter (value_in_packed source.now members.now) (order_of order.now)) rows.new.items }
 {
-    rows.sort_by(
+    rows.sort_unstable_by(
         |a: &[u32; ROOM], b: &[u32; ROOM]| -> Ordering
             ensures { result ≡ ranked_by (value_in_packed source.entry.now members.entry.now) (order_of order.entry.now) a.now b.now }
         { rank_of_packed(source, order, members, a.as_slice(), b.as_slice()) },
-    )
+    );
 }

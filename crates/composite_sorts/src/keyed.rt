@@ -1,6 +1,6 @@
 //! Rows beside whole numbers that rank as their values do.
 
-ghost use Rattle.std.specs.Prelude.{◌≡◌, IfOk, IfSome, IsPermutation, OnErr, OnOk, map};
+ghost use Rattle.std.specs.Prelude.{◌≡◌, IfOk, IfSome, IsPermutation, map};
 ghost use Rattle.bound.specs.Bound.{column_of};
 ghost use Rattle.sqlvalue.specs.Meaning.{value_of};
 ghost use Rattle.composite_sorts.specs.Keyed.{HasKey, IsKeyed, IsSortedFrom, row_of_pair};
@@ -54,19 +54,14 @@ fn key_of(value: &Value, scale: u8) -> Option<i64>
     }
 }
 
-/// Puts rows in the order of their keys. Those of equal keys stay as they stood.
-pub(crate) fn sort_by_keys(
-    mut keyed: Vec<(i64, u32)>,
-    rows: &mut Vec<u32>,
-) -> Result<(), AllocError>
+/// Puts rows in the order of their keys, in place.
+pub(crate) fn sort_by_keys(mut keyed: Vec<(i64, u32)>, rows: &mut Vec<u32>)
     requires { map row_of_pair keyed.items ≡ rows.old.items }
     ensures permutation { IsPermutation rows.old.items rows.new.items }
-    ensures ok { OnOk result (IsSortedFrom keyed.items rows.new.items) }
-    ensures err { OnErr result (rows.new.items ≡ rows.old.items) }
+    ensures sorted { IsSortedFrom keyed.items rows.new.items }
 {
-    keyed.sort_by_key(|pair| pair.0)?;
+    keyed.sort_unstable_by_key(|pair| pair.0);
     'places: for place in 0..keyed.len() {
         rows[place] = keyed[place].1;
     }
-    Ok(())
 }

@@ -1,4 +1,4 @@
--- A file has one list of records, and LOAD makes one thing of them.
+-- A file has one list of records, and its records load as one thing.
 use Rattle.std.proofs.Common.{◌≡◌, ◌∙◌, ◌⊎◌, inl, inr, refl, sym, ap, ap₂, ℕ, ◌+◌, ◌<◌, ◌≤◌, List, [], ◌∷◌, ◌++◌, Option, Some, None, Result, Ok, Err, Bool, true, false, length, arith}
 use Rattle.std.specs.Prelude.{IsTrue, IsFalse, not, ◌||◌}
 use Rattle.std.proofs.lemmas.List.{append-nil, append_assoc, length-append}
@@ -9,15 +9,9 @@ use Rattle.csv.specs.declared.parser.State.{State}
 use Rattle.definitions.specs.Limits.{most_rows}
 use Rattle.definitions.specs.Value.{Value, Null}
 use Rattle.definitions.specs.Refusal.{Refusal, Field}
-use Rattle.definitions.specs.Statement.{Name}
-use Rattle.definitions.specs.Table.{Column, Row, Table, Database, may_be_null}
+use Rattle.definitions.specs.Table.{Column, Row, Table, may_be_null}
 use Rattle.definitions.specs.Loading as f
-use Rattle.definitions.specs.Loading.{Record, AreFileRecords, ColumnLoads, FieldsLoad, RecordReads, RecordLoads, AllLoad, FirstFaulty, FillsUp, LoadsUpTo, repeats_key}
-use Rattle.definitions.specs.Change.{with_rows, changed}
-use Rattle.definitions.specs.Printing.{loaded_text, record_refusal_text}
-use Rattle.definitions.specs.Laws.{LoadHasOneOutcome}
-use Rattle.definitions.specs.Step as step
-use Rattle.definitions.specs.Step.{Ended, Loaded}
+use Rattle.definitions.specs.Loading.{Record, AreFileRecords, ColumnLoads, FieldsLoad, RecordReads, RecordLoads, AllLoad, FirstFaulty, FillsUp, repeats_key}
 use Rattle.definitions.proofs.Loading.{loads_once}
 
 -- ---- records
@@ -122,7 +116,7 @@ record_once t before fields a b (f.row row l new e) (f.row row' l' new' e') = e 
 
 -- ---- what all records load as
 
-all_once : (t : Table) (before : List Row) (records : List Record) (a b : List Row) → AllLoad t before records a → AllLoad t before records b → a ≡ b
+pub all_once : (t : Table) (before : List Row) (records : List Record) (a b : List Row) → AllLoad t before records a → AllLoad t before records b → a ≡ b
 all_once t before records a b (f.none before') (f.none before'') = refl
 all_once t before records a b (f.next before' x xs row rows l more) (f.next before'' x' xs' row' rows' l' more') =
     let is : row ≡ row' = same_ok row row' (record_once t before x (Ok row) (Ok row') l l') in
@@ -185,7 +179,7 @@ module _ (t : Table) (records : List Record) where
       let at = before_later xs zs x rows all l a in
       ok_is_no_error at.0 r (record_once t (t.rows ++ rows) x (Ok at.0) (Err r) at.3 fails)
 
-  all_or_refused : (rows : List Row) (r : Refusal) (n : ℕ) → AllLoad t t.rows records rows → FirstFaulty t records r n → ⊥
+  pub all_or_refused : (rows : List Row) (r : Refusal) (n : ℕ) → AllLoad t t.rows records rows → FirstFaulty t records r n → ⊥
   all_or_refused rows r n a fault =
       let there : AllLoad t t.rows (fault.upto.before ++ fault.faulty ∷ fault.upto.after) rows = rw fault.upto.is at a in
       refused_before fault.upto.before fault.upto.after fault.faulty fault.rows rows r fault.upto.loads fault.fails there
@@ -193,7 +187,7 @@ module _ (t : Table) (records : List Record) where
   longer : (rows front : List Row) (row : Row) (rest : List Row) → rows ≡ front ++ row ∷ rest → length front < length rows
   longer rows front row rest e = let l = ap length e in let k = length-append front (row ∷ rest) in omega (arith, l, k)
 
-  all_or_full : (rows : List Row) → AllLoad t t.rows records rows → length t.rows + length rows ≤ most_rows → FillsUp t records → ⊥
+  pub all_or_full : (rows : List Row) → AllLoad t t.rows records rows → length t.rows + length rows ≤ most_rows → FillsUp t records → ⊥
   all_or_full rows a few full =
       let there : AllLoad t t.rows (full.upto.before ++ full.last ∷ full.upto.after) rows = rw full.upto.is at a in
       let at = before_later full.upto.before full.upto.after full.last full.rows rows full.upto.loads there in
@@ -201,7 +195,7 @@ module _ (t : Table) (records : List Record) where
       let is = full.full in
       omega (arith, more, few, is)
 
-  refused_or_full : (r : Refusal) (n : ℕ) → FirstFaulty t records r n → FillsUp t records → ⊥
+  pub refused_or_full : (r : Refusal) (n : ℕ) → FirstFaulty t records r n → FillsUp t records → ⊥
   refused_or_full r n fault full = of_places (places fault.upto.before full.upto.before fault.faulty full.last fault.upto.after full.upto.after (sym fault.upto.is ∙ full.upto.is))
     where
       of_places : Places fault.upto.before full.upto.before fault.faulty full.last → ⊥
@@ -223,7 +217,7 @@ module _ (t : Table) (records : List Record) where
           let room = fault.room in
           omega (arith, more, is, room)
 
-  refused_once : (r r' : Refusal) (n n' : ℕ) → FirstFaulty t records r n → FirstFaulty t records r' n' → (r ≡ r') × (n ≡ n')
+  pub refused_once : (r r' : Refusal) (n n' : ℕ) → FirstFaulty t records r n → FirstFaulty t records r' n' → (r ≡ r') × (n ≡ n')
   refused_once r r' n n' a b = of_places (places a.upto.before b.upto.before a.faulty b.faulty a.upto.after b.upto.after (sym a.upto.is ∙ b.upto.is))
     where
       of_places : Places a.upto.before b.upto.before a.faulty b.faulty → (r ≡ r') × (n ≡ n')
@@ -238,28 +232,3 @@ module _ (t : Table) (records : List Record) where
       of_places (inr (inr (zs, e))) =
           let there : AllLoad t t.rows (b.upto.before ++ b.faulty ∷ zs) a.rows = rw e at a.upto.loads in
           absurd (refused_before b.upto.before zs b.faulty b.rows a.rows r' b.upto.loads b.fails there)
-
--- ---- what LOAD does
-
-module _ (db : Database) (name : Name) (t : Table) (records : List Record) where
-  pub loaded_once : (a b : Database) (x y : List ℕ) (e f : Ended) → Loaded db name t records a x e → Loaded db name t records b y f → (a ≡ b) × (x ≡ y) × (e ≡ f)
-  loaded_once a b x y e f (step.loaded rows l few i j k) (step.loaded rows' l' few' i' j' k') =
-      let same : rows ≡ rows' = all_once t t.rows records rows rows' l l' in
-      (i ∙ ap (λ rows. changed (λ u. with_rows u rows) db name) same ∙ sym i', j ∙ ap (λ rows. loaded_text (length rows)) same ∙ sym j', k ∙ sym k')
-  loaded_once a b x y e f (step.loaded rows l few i j k) (step.too_many full i' j' k') = absurd (all_or_full t records rows l few full)
-  loaded_once a b x y e f (step.loaded rows l few i j k) (step.refused r n fault i' j' k') = absurd (all_or_refused t records rows r n l fault)
-  loaded_once a b x y e f (step.too_many full i j k) (step.loaded rows l few i' j' k') = absurd (all_or_full t records rows l few full)
-  loaded_once a b x y e f (step.too_many full i j k) (step.too_many full' i' j' k') = (i ∙ sym i', j ∙ sym j', k ∙ sym k')
-  loaded_once a b x y e f (step.too_many full i j k) (step.refused r n fault i' j' k') = absurd (refused_or_full t records r n fault full)
-  loaded_once a b x y e f (step.refused r n fault i j k) (step.loaded rows l few i' j' k') = absurd (all_or_refused t records rows r n l fault)
-  loaded_once a b x y e f (step.refused r n fault i j k) (step.too_many full i' j' k') = absurd (refused_or_full t records r n fault full)
-  loaded_once a b x y e f (step.refused r n fault i j k) (step.refused r' n' fault' i' j' k') =
-      let same = refused_once t records r r' n n' fault fault' in
-      (i ∙ sym i', j ∙ ap₂ record_refusal_text same.0 same.1 ∙ sym j', k ∙ sym k')
-
--- whatever list its bytes are read as
-pub load_has_one_outcome : LoadHasOneOutcome
-load_has_one_outcome db name t bytes a b db' db'' x y e f reads reads' loads loads' =
-    let same : a ≡ b = file_reads_once bytes a b reads reads' in
-    let there : Loaded db name t b db' x e = rw same at loads in
-    loaded_once db name t b db' db'' x y e f there loads'

@@ -10,12 +10,11 @@ mod KeyCounts
 pub mod FigureBounds
 pub mod Repeats
 pub mod Counting
-pub mod Steps
-mod FileLoads
+pub mod Changes
+pub mod FileLoads
 mod Quoting
-mod TextExamples
+pub mod TextExamples
 mod TableExamples
-pub mod Runs
 pub mod PlanTheory
 pub mod QueryTheory
 pub mod BindingTheory

@@ -7,4 +7,3 @@ pub mod Plans
 pub mod Estimates
 pub mod BoundJoins
 pub mod Certificates
-pub mod Runs

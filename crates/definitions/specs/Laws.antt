@@ -9,9 +9,7 @@ use Rattle.definitions.specs.Refusal.{FieldError}
 use Rattle.definitions.specs.Loading.{Record, FieldLoads, AreFileRecords}
 use Rattle.definitions.specs.Token.{Token, TokenKind}
 use Rattle.definitions.specs.Lexing.{LexFault, Reads, quoted}
-use Rattle.definitions.specs.Statement.{Name, Statement}
-use Rattle.definitions.specs.Table.{Table, Database}
-use Rattle.definitions.specs.Step.{Ended, Loaded}
+use Rattle.definitions.specs.Statement.{Statement}
 use Rattle.definitions.specs.Grammar.{Derives}
 use Rattle.definitions.specs.Printing.{doubled}
 
@@ -34,12 +32,6 @@ FieldLoadsOnce = (type : SqlType) (field : List ℕ) (a b : Result Value FieldEr
 -- a file has at most one list of records
 abbrev pub FileReadsOnce : Type 0
 FileReadsOnce = (bytes : List ℕ) (a b : List Record) → AreFileRecords bytes a → AreFileRecords bytes b → a ≡ b
-
--- a LOAD of given bytes has at most one outcome
-abbrev pub LoadHasOneOutcome : Type 0
-LoadHasOneOutcome = (db : Database) (name : Name) (t : Table) (bytes : List ℕ) (a b : List Record) (db' db'' : Database) (text text' : List ℕ) (ended ended' : Ended)
-    → AreFileRecords bytes a → AreFileRecords bytes b → Loaded db name t a db' text ended → Loaded db name t b db'' text' ended'
-    → (db' ≡ db'') × (text ≡ text') × (ended ≡ ended')
 
 -- each value ranks as equal to itself; two the other way round rank the reverse; what is less than a lesser value is less; and values of
 -- equal rank stand alike to every other

@@ -3,7 +3,7 @@ ghost use Rattle.definitions.specs.Certificates.Laws.{SaysOneThing, SpellsOnce, 
 ghost use Rattle.definitions.specs.Certificates.Laws.{ToldOnce, PassedIsLeast, FileToldOnce, WellIsLeast, LinesAreFile, CutLosesNothing, TextIsCutOff};
 ghost use Rattle.definitions.specs.Examples.Certificates.{OneTableIsSpelled, ColumnIsNamed, TwoTablesAreSpelled, OrderedIsSpelled, LoopIsSpelled, LaterPathsAreSpelled, OtherPlansAreSpelled, ProductIsSpelled};
 ghost use Rattle.definitions.specs.Examples.Certificates.{FaultsOfStates, FaultsOfNumbers, FaultsOfForm, BeginningsHaveNoForm, WordsAreCounted, VersionIsPartOfForm, FilesAreCut, VersionsOfTexts};
-ghost use Rattle.definitions.specs.Examples.Certificates.{RestIsRefused, EarlierSpaceIsNamed, RulesAreNamed, NothingIsRefused, EmptyScriptIsNothing};
+ghost use Rattle.definitions.specs.Examples.Certificates.{RestIsRefused, EarlierSpaceIsNamed, RulesAreNamed, NothingIsRefused};
 
 /// Bytes say one thing at most, and spell one plan and certificate at most, which is one of the block.
 pub fn spelling_is_one()
@@ -73,5 +73,4 @@ pub fn worked_lines()
     ensures space { EarlierSpaceIsNamed }
     ensures rules { RulesAreNamed }
     ensures nothing { NothingIsRefused }
-    ensures empty { EmptyScriptIsNothing }
 {}

@@ -1,6 +1,6 @@
 -- A run whose printed text is kept.
 use Rattle.std.specs.Prelude.{ℕ, List, Some, MatchResult}
-use Rattle.definitions.specs.Step.{Answering, Failing, State}
+use Rattle.scripts.specs.Step.{Answering, Failing, State}
 use Rattle.sqlr.specs.Sessions.{Runs, BreaksOff}
 use Rattle.sqlr.specs.Checking.{Checks, BreaksChecking}
 use Rattle.memory_devices.specs.declared.runs.Ran.{Ran}

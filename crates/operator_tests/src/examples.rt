@@ -17,7 +17,11 @@ const TABLES: &str = "CREATE TABLE T1 (X INTEGER, P INTEGER);
 /// Each table is taken to have one row, on one page.
 const ONE_ROW: &str = "SET STATISTICS T1 ROWS 1 PAGES 1; SET STATISTICS T2 ROWS 1 PAGES 1;";
 
+/// Its orders are 1 by X and 2 by Y.
 const JOIN: &str = "SELECT P, Q FROM T1, T2 WHERE X = Y;";
+
+/// Its orders are 1 by P, downward, 2 by X and 3 by Y.
+const ORDERED: &str = "SELECT P, Q FROM T1, T2 WHERE X = Y ORDER BY P DESC;";
 
 /// Whether the tables are there and have their rows: three and two, of which one each has no value to join by.
 fn fills(alloc: Global, database: &mut Database) -> bool {
@@ -39,14 +43,15 @@ fn spelled(alloc: Global, outcome: &Outcome) -> Result<String, AllocError> {
     Ok(text)
 }
 
-/// What a plan of the join gives and opens.
+/// What a plan of a query gives and opens.
 fn told(
     alloc: Global,
     database: &Database,
+    query: &str,
     access: PathPart,
     steps: &[Step],
 ) -> Result<String, AllocError> {
-    let Some(block) = block(alloc, database, JOIN) else {
+    let Some(block) = block(alloc, database, query) else {
         return format!(in alloc; "no block");
     };
     let estimate = Estimate::new(alloc, database, &block)?;
@@ -151,12 +156,47 @@ const MERGES: [Case; 8] = [
     },
 ];
 
+/// Each loop and each merge under a sort by P, downward: the row of 30 comes before that of 10. Then a sort of a table's
+/// rows below a loop, which keeps their order, and below a merge, which can't go by it.
+const BY_P: [Case; 6] = [
+    Case {
+        access: FIRST,
+        steps: &[Step::Loop(SECOND), Step::Sort(1)],
+        wanted: "2 0 | 0 0 | 9",
+    },
+    Case {
+        access: SECOND,
+        steps: &[Step::Loop(FIRST), Step::Sort(1)],
+        wanted: "2 0 | 0 0 | 8",
+    },
+    Case {
+        access: FIRST,
+        steps: &[Step::Sort(2), Step::SortedMerge(0, SECOND), Step::Sort(1)],
+        wanted: "2 0 | 0 0 | 5",
+    },
+    Case {
+        access: SECOND,
+        steps: &[Step::Sort(3), Step::SortedMerge(0, FIRST), Step::Sort(1)],
+        wanted: "2 0 | 0 0 | 5",
+    },
+    Case {
+        access: FIRST,
+        steps: &[Step::Sort(1), Step::Loop(SECOND)],
+        wanted: "2 0 | 0 0 | 9",
+    },
+    Case {
+        access: FIRST,
+        steps: &[Step::Sort(1), Step::SortedMerge(0, SECOND)],
+        wanted: "no plan",
+    },
+];
+
 #[test]
 fn loops_give_what_is_joined(rt: HostRuntime) -> Result<(), Fail> {
     let mut database = Database::new(rt.alloc());
     assert!(rt; fills(rt.alloc(), &mut database));
     for case in LOOPS {
-        let given = told(rt.alloc(), &database, case.access, case.steps)?;
+        let given = told(rt.alloc(), &database, JOIN, case.access, case.steps)?;
         assert_eq!(rt; given.as_str(), case.wanted);
     }
     Ok(())
@@ -167,7 +207,18 @@ fn merges_give_what_is_joined(rt: HostRuntime) -> Result<(), Fail> {
     let mut database = Database::new(rt.alloc());
     assert!(rt; fills(rt.alloc(), &mut database));
     for case in MERGES {
-        let given = told(rt.alloc(), &database, case.access, case.steps)?;
+        let given = told(rt.alloc(), &database, JOIN, case.access, case.steps)?;
+        assert_eq!(rt; given.as_str(), case.wanted);
+    }
+    Ok(())
+}
+
+#[test]
+fn sorts_give_the_order_that_is_asked_for(rt: HostRuntime) -> Result<(), Fail> {
+    let mut database = Database::new(rt.alloc());
+    assert!(rt; fills(rt.alloc(), &mut database));
+    for case in BY_P {
+        let given = told(rt.alloc(), &database, ORDERED, case.access, case.steps)?;
         assert_eq!(rt; given.as_str(), case.wanted);
     }
     Ok(())

@@ -11,3 +11,5 @@ mod plain;
 mod running;
 #[cfg(test)]
 mod steps;
+#[cfg(test)]
+mod work;

@@ -1,11 +1,12 @@
 //! Plans from plain data: an access, and up to three steps on top.
 
+use crate::plain::Tables;
 use plan_space::{Plan, Space};
 use std::alloc::{AllocError, Global};
 use test_spaces::{BACKWARD, FORWARD, PathPart, Step, built};
 
 /// All paths of the three tables.
-pub(crate) const PATHS: [PathPart; 23] = [
+const PATHS: [PathPart; 23] = [
     PathPart::Segment(0),
     PathPart::Index(0, 0, FORWARD),
     PathPart::Index(0, 0, BACKWARD),
@@ -34,13 +35,13 @@ pub(crate) const PATHS: [PathPart; 23] = [
 /// An access, and the first so many of some steps on top.
 #[derive(Clone, Copy)]
 pub(crate) struct Steps {
-    access: PathPart,
+    pub access: PathPart,
     steps: [Step; 3],
     count: usize,
 }
 
 impl Steps {
-    fn only(access: PathPart) -> Steps {
+    pub fn only(access: PathPart) -> Steps {
         Steps {
             access,
             steps: [Step::Sort(0); 3],
@@ -49,7 +50,7 @@ impl Steps {
     }
 
     /// The same with one more step, where there is room.
-    fn with(self, step: Step) -> Steps {
+    pub fn with(self, step: Step) -> Steps {
         let mut more = self;
         if self.count < 3 {
             more.steps[self.count] = step;
@@ -58,11 +59,61 @@ impl Steps {
         more
     }
 
-    pub fn plan(&self, alloc: Global) -> Result<Plan, AllocError> {
+    /// The steps on top, from the first on.
+    pub fn on_top(&self) -> &[Step] {
         match self.steps.get(..self.count) {
-            Some(steps) => built(alloc, self.access, steps),
-            None => built(alloc, self.access, &[]),
+            Some(steps) => steps,
+            None => &[],
         }
+    }
+
+    /// The tables that are there.
+    fn tables(&self) -> Tables {
+        let mut tables = [false; 3];
+        add(&mut tables, self.access);
+        for step in self.on_top() {
+            bring(&mut tables, *step);
+        }
+        tables
+    }
+
+    pub fn plan(&self, alloc: Global) -> Result<Plan, AllocError> {
+        built(alloc, self.access, self.on_top())
+    }
+}
+
+/// Adds the table that a step brings.
+pub(crate) fn bring(tables: &mut Tables, step: Step) {
+    match step {
+        Step::Loop(path) | Step::Merge(_, path) | Step::SortedMerge(_, path) => {
+            add(tables, path);
+        }
+        Step::Sort(_) => {}
+    }
+}
+
+/// Adds the table of a path.
+pub(crate) fn add(tables: &mut Tables, path: PathPart) {
+    let table = table_of(path);
+    if table < 3 {
+        tables[table] = true;
+    }
+}
+
+fn table_of(path: PathPart) -> usize {
+    match path {
+        PathPart::Segment(table) | PathPart::Index(table, _, _) | PathPart::Match(table, _, _, _) =>
+            table,
+    }
+}
+
+/// Whether a step is a sort, or brings a table that isn't there.
+fn may_come(tables: &Tables, step: Step) -> bool {
+    match step {
+        Step::Loop(path) | Step::Merge(_, path) | Step::SortedMerge(_, path) => {
+            tables.get(table_of(path)) == Some(&false)
+        }
+        Step::Sort(_) => true,
     }
 }
 
@@ -115,7 +166,7 @@ fn push_plan(
     Ok(())
 }
 
-/// Plans of a block that have one of some steps more than some others.
+/// Plans of a block that have one of some steps more than some others: a sort, or one that brings a table that isn't there.
 pub(crate) fn extended(
     alloc: Global,
     space: &Space<'_>,
@@ -136,8 +187,11 @@ fn push_extended(
     shorter: Steps,
     steps: &[Step],
 ) -> Result<(), AllocError> {
+    let tables = shorter.tables();
     for step in steps {
-        push_plan(alloc, space, plans, shorter.with(*step))?;
+        if may_come(&tables, *step) {
+            push_plan(alloc, space, plans, shorter.with(*step))?;
+        }
     }
     Ok(())
 }

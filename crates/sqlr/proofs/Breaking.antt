@@ -3,15 +3,15 @@ use Rattle.std.proofs.Common.{ℕ, ◌≡◌, ◌≢◌, ◌∙◌, refl, sym, a
 use Rattle.definitions.specs.Statement as tree
 use Rattle.definitions.specs.Statement.{Name, Statement}
 use Rattle.definitions.specs.Table.{Database, table_named}
-use Rattle.definitions.specs.Step as step
-use Rattle.definitions.specs.Step.{Answering, Failing, State, Break, StepBreaks, SinkFailed}
+use Rattle.scripts.specs.Step as step
+use Rattle.scripts.specs.Step.{Answering, Failing, State, Break, StepBreaks, SinkFailed}
 use Rattle.sqlr.specs.declared.outcome.StepFault.{StepFault}
 use Rattle.sqlr.specs.declared.outcome.StepFault.TheVariants as f
 use Rattle.sqlr.specs.Sessions.{BreaksAt, IsStepBlamed, step_break}
 use Rattle.sqlr.proofs.Taking.{load_accepted}
 
-abbrev state_of : {L : Type 0} → L → Database → State L
-state_of library db = record { library = library; database = db }
+abbrev state_of : {L : Type 0} → L → Database → ℕ → State L
+state_of library db work = record { library = library; database = db; work = work }
 
 -- ---- who is blamed
 
@@ -22,11 +22,11 @@ none_blamed {X = X} before after (Err fault) same h = subst (λ fault. IsStepBla
 
 -- ---- states
 
--- a state whose database is kept where a call fails, and whose library is kept
-pub both_kept : {L X : Type 0} (library library' : L) (db db' : Database) (result : Result X StepFault) → library' ≡ library → OnErr result (db' ≡ db)
-    → OnErr result (state_of library' db' ≡ state_of library db)
-both_kept library library' db db' (Ok x) same kept = tt
-both_kept library library' db db' (Err fault) same kept = ap₂ state_of same kept
+-- a state whose database is kept where a call fails, and whose library and work are kept
+pub all_kept : {L X : Type 0} (library library' : L) (db db' : Database) (work work' : ℕ) (result : Result X StepFault) → library' ≡ library → work' ≡ work → OnErr result (db' ≡ db)
+    → OnErr result (state_of library' db' work' ≡ state_of library db work)
+all_kept library library' db db' work work' (Ok x) same idle kept = tt
+all_kept library library' db db' work work' (Err fault) same idle kept = ap₂ (λ l d. state_of l d work') same kept ∙ ap (state_of library db) idle
 
 pub as_it_was : {X S : Type 0} (state : S) (result : Result X StepFault) → OnErr result (state ≡ state)
 as_it_was state (Ok x) = tt
@@ -40,12 +40,12 @@ module _ {L : Type 0} (answers : Answering L) (fails : Failing L) where
   nothing_changed old s (Ok x) h = tt
   nothing_changed old s (Err fault) h = subst (BreaksAt answers fails old s old) (sym h) (step.unchanged refl refl)
 
-  pub database_kept : {X : Type 0} (library : L) (db db' : Database) (s : Statement) (result : Result X StepFault) → IfErr result (λ fault. fault ≡ f.Memory) → OnErr result (db' ≡ db)
-      → IfErr result (BreaksAt answers fails (record { library = library; database = db }) s (record { library = library; database = db' }))
-  database_kept library db db' s (Ok x) h kept = tt
-  database_kept library db db' s (Err fault) h kept =
-      subst (BreaksAt answers fails (record { library = library; database = db }) s (record { library = library; database = db' })) (sym h)
-      (step.unchanged refl (ap (λ database. let state : State L = record { library = library; database = database } in state) kept))
+  pub database_kept : {X : Type 0} (old : State L) (db : Database) (s : Statement) (result : Result X StepFault) → IfErr result (λ fault. fault ≡ f.Memory) → OnErr result (db ≡ old.database)
+      → IfErr result (BreaksAt answers fails old s (record old { database = db }))
+  database_kept old db s (Ok x) h kept = tt
+  database_kept old db s (Err fault) h kept =
+      subst (BreaksAt answers fails old s (record old { database = db })) (sym h)
+      (step.unchanged refl (ap (λ database. let state : State L = record old { database = database } in state) kept))
 
   module _ (old : State L) (library : L) (name : Name) (file : List ℕ) (some : table_named old.database name ≢ None) where
     -- a LOAD whose file was answered

@@ -6,8 +6,8 @@ use Rattle.definitions.specs.Table.{Database}
 use Rattle.definitions.specs.Refusal.{Refusal}
 use Rattle.definitions.specs.Faults.{Faulty}
 use Rattle.definitions.specs.Printing.{refusal_text}
-use Rattle.definitions.specs.Step as step
-use Rattle.definitions.specs.Step.{Answering}
+use Rattle.scripts.specs.Step as step
+use Rattle.scripts.specs.Step.{Answering, State}
 use Rattle.catalog.specs.Changes.{RefusesIndex}
 use Rattle.catalog.specs.Meaning.{index_refusal}
 use Rattle.catalog.specs.declared.fault.IndexFault.{IndexFault}
@@ -18,12 +18,12 @@ use Rattle.sqlr.specs.declared.outcome.StepFault.{StepFault}
 use Rattle.sqlr.specs.Outcomes.{Tells, Changes, refused, repeated, made}
 use Rattle.sqlr.specs.Sessions.{Takes}
 
-pub database_changed : {L : Type 0} (answers : Answering L) (library : L) (db db' : Database) (s : Statement) (result : Result Printed StepFault) → IfOk result (Changes db s db')
-    → IfOk result (Takes answers (record { library = library; database = db }) s (record { library = library; database = db' }))
-database_changed answers library db db' s (Ok p) (refused r f n t d) = (step.Faulted, step.refused r f (ap (λ x. record { library = library; database = x }) n) t refl, d)
-database_changed answers library db db' s (Ok p) (repeated a k n t d) = (step.Faulted, step.repeated a k (ap (λ x. record { library = library; database = x }) n) t refl, d)
-database_changed answers library db db' s (Ok p) (made a m t d) = (step.Well, step.made db' a m refl t refl, d)
-database_changed answers library db db' s (Err f) h = tt
+pub database_changed : {L : Type 0} (answers : Answering L) (old : State L) (db : Database) (s : Statement) (result : Result Printed StepFault) → IfOk result (Changes old.database s db)
+    → IfOk result (Takes answers old s (record old { database = db }))
+database_changed answers old db s (Ok p) (refused r f n t d) = (step.Faulted, step.refused r f (ap (λ x. record old { database = x }) n) t refl, d)
+database_changed answers old db s (Ok p) (repeated a k n t d) = (step.Faulted, step.repeated a k (ap (λ x. record old { database = x }) n) t refl, d)
+database_changed answers old db s (Ok p) (made a m t d) = (step.Well, step.made db a m refl t refl, d)
+database_changed answers old db s (Err f) h = tt
 
 same_refusal : (refusal own : Refusal) → Some refusal ≡ Some own → refusal ≡ own
 same_refusal refusal own same = ap (λ o. unwrap_or o refusal) same

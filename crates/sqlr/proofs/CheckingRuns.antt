@@ -5,13 +5,13 @@ use Rattle.definitions.specs.Printing.{refusal_text}
 use Rattle.definitions.specs.Refusal.{Refusal}
 use Rattle.definitions.specs.Statement.{Select, Statement}
 use Rattle.definitions.specs.Table.{Database}
-use Rattle.definitions.specs.Step.{Answering, Failing, State, AreStatements, FaultLine}
+use Rattle.scripts.specs.Step.{Answering, Failing, State, AreStatements, FaultLine}
 use Rattle.definitions.specs.Binding.Faults as binding
 use Rattle.definitions.specs.Estimates.Version.{current_version}
 use Rattle.definitions.specs.Certificates.Verdicts as verdicts
 use Rattle.definitions.specs.Certificates.Verdicts.{CheckEnded}
-use Rattle.definitions.specs.CheckingRun as run
-use Rattle.definitions.specs.CheckingRun.{asked, nothing_text, Prepares, Checked}
+use Rattle.scripts.specs.CheckingRun as run
+use Rattle.scripts.specs.CheckingRun.{asked, nothing_text, Prepares, Checked}
 use Rattle.trees.specs.declared.statement.Statement as tree
 use Rattle.trees.specs.Trees.{statement_of, statements_of}
 use Rattle.sqlr.specs.declared.ended.Ended.{Ended}

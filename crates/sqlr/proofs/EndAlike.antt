@@ -1,5 +1,5 @@
 -- Two runs of a script end alike.
-use Rattle.std.proofs.Common.{ℕ, ◌≡◌, ◌∙◌, refl, sym, ap, ap₂, List, [], ◌∷◌, ◌++◌, Option, Some, None, Result, Ok, Err, Bool, true, false, take, drop, arith, lit<}
+use Rattle.std.proofs.Common.{ℕ, ◌≡◌, ◌∙◌, refl, sym, ap, ap₂, subst, List, [], ◌∷◌, ◌++◌, Option, Some, None, Result, Ok, Err, Bool, true, false, take, drop, arith, lit<}
 use Rattle.std.specs.Prelude.{◌+◌, ◌^◌, ℤ, pos, ◌*ℤ◌, unwrap_or}
 use Rattle.std.specs.Cmp.{int_ranked}
 use Rattle.std.specs.declared.cmp.Ordering.TheVariants.{Less, Equal}
@@ -26,10 +26,10 @@ use Rattle.definitions.specs.Queries.BoundBlock.{Key}
 use Rattle.definitions.specs.Queries.Answer.{answer}
 use Rattle.definitions.specs.Queries.Outcomes.{Told, Rows, Exception, Allowed, AllowedOf, names_of, order_of, shown}
 use Rattle.definitions.specs.Binding.BoundForm.{bound_form}
-use Rattle.definitions.specs.Laws.{LoadHasOneOutcome}
-use Rattle.definitions.specs.Step as step
-use Rattle.definitions.specs.Step.{Answering, State, Step, Steps, Ended, Well, Faulted, Loaded, FaultLine, AreStatements, Run, both_ended, told_ended}
-use Rattle.definitions.specs.RunLaws.{AnswersOnce, AreAlike, same, faults, outcomes, plans, AllAlike, fault_lines, printed, RunsEndAlike}
+use Rattle.scripts.specs.RunLaws.{LoadHasOneOutcome}
+use Rattle.scripts.specs.Step as step
+use Rattle.scripts.specs.Step.{Answering, State, Step, Steps, Ended, Well, Faulted, Loaded, FaultLine, AreStatements, Run, both_ended, told_ended}
+use Rattle.scripts.specs.RunLaws.{AnswersOnce, AreOneButForWork, AreAlike, same, faults, outcomes, plans, AllAlike, fault_lines, printed, RunsEndAlike}
 use Rattle.definitions.proofs.Loading.{factor}
 use Rattle.definitions.proofs.Lexing.{reads_once}
 use Rattle.definitions.proofs.Grammar.{derives_once}
@@ -201,6 +201,41 @@ told_alike (Raises r rs) keys (Rows rows) told' g h = absurd g
 told_alike (Raises r rs) keys (Exception x) (Rows rows) g h = absurd h
 told_alike (Raises r rs) keys (Exception x) (Exception y) g h = refl
 
+-- ---- states that are one but for the work
+
+one_state : {L : Type 0} {a b : State L} → a ≡ b → AreOneButForWork a b
+one_state {L} e = (ap (λ (s : State L). s.library) e, ap (λ (s : State L). s.database) e)
+
+through : {L : Type 0} (a b c : State L) → AreOneButForWork a b → AreOneButForWork b c → AreOneButForWork a c
+through a b c g h = (g.0 ∙ h.0, g.1 ∙ h.1)
+
+-- from one of them a statement goes on as from the other
+module _ {L : Type 0} (answers : Answering L) where
+  reworked : (old new : State L) (work : ℕ) (s : Statement) (x : List ℕ) (e : Ended) → Step answers (record old { work = work }) s new x e → (own : State L) × AreOneButForWork own new × Step answers old s own x e
+  reworked old new work s x e (step.refused r f n t d) = (old, (sym (one_state n).0, sym (one_state n).1), step.refused r f refl t d)
+  reworked old new work s x e (step.repeated a k n t d) = (old, (sym (one_state n).0, sym (one_state n).1), step.repeated a k refl t d)
+  reworked old new work s x e (step.made db a m n t d) = (record old { database = db }, (sym (one_state n).0, sym (one_state n).1), step.made db a m refl t d)
+  reworked old new work s x e (step.no_file name file library is a given n t d) = (record old { library = library }, (sym (one_state n).0, sym (one_state n).1), step.no_file name file library is a given refl t d)
+  reworked old new work s x e (step.load name file bytes library tb records db is named given are lo n) =
+      (record old { library = library; database = db }, (sym (one_state n).0, sym (one_state n).1), step.load name file bytes library tb records db is named given are lo refl)
+  reworked old new work s x e (step.query q blocks (Rows rows) after is a b al total n t d) =
+      (record old { work = after }, (sym (one_state n).0, sym (one_state n).1), step.query q blocks (Rows rows) after is a b al total refl t d)
+  reworked old new work s x e (step.query q blocks (Exception raise) after is a b al total n t d) =
+      (old, (sym (one_state n).0, sym (one_state n).1), step.query q blocks (Exception raise) old.work is a b al refl refl t d)
+  reworked old new work s x e (step.explain q blocks is a b are n d) = (old, (sym (one_state n).0, sym (one_state n).1), step.explain q blocks is a b are refl d)
+
+  step_moved : (old other new : State L) (s : Statement) (x : List ℕ) (e : Ended) → AreOneButForWork old other → Step answers other s new x e → (own : State L) × AreOneButForWork own new × Step answers old s own x e
+  step_moved old other new s x e h this =
+      let is : other ≡ record old { work = other.work } = ap₂ (λ l d. record other { library = l; database = d }) (sym h.0) (sym h.1) in
+      reworked old new other.work s x e (subst (λ (o : State L). Step answers o s new x e) is this)
+
+  steps_moved : (ss : List Statement) (old other new : State L) (x : List ℕ) (e : Ended) → AreOneButForWork old other → Steps answers other ss new x e → (own : State L) × AreOneButForWork own new × Steps answers old ss own x e
+  steps_moved [] old other new x e h (n, text, ended) = (old, through old other new h (sym (one_state n).0, sym (one_state n).1), (refl, text, ended))
+  steps_moved (s ∷ ss) old other new x e h (mid, own, rest, d, k, this, more, text, both) =
+      let (mid', mid_is, this') = step_moved old other mid s own d h this in
+      let (new', new_is, more') = steps_moved ss mid' mid new rest k mid_is more in
+      (new', new_is, (mid', own, rest, d, k, this', more', text, both))
+
 -- ---- a statement
 
 module _ {L : Type 0} (answers : Answering L) (once : AnswersOnce answers) (load_has_one : LoadHasOneOutcome) (old : State L) where
@@ -208,7 +243,7 @@ module _ {L : Type 0} (answers : Answering L) (once : AnswersOnce answers) (load
       → s ≡ tree.Load name file → s ≡ tree.Load name' file' → table_named old.database name ≡ Some t → table_named old.database name' ≡ Some t'
       → answers old.library file (Some bytes) lib → answers old.library file' (Some bytes') lib' → AreFileRecords bytes rs → AreFileRecords bytes' rs'
       → Loaded old.database name t rs db x e → Loaded old.database name' t' rs' db' y f → a ≡ record old { library = lib; database = db } → b ≡ record old { library = lib'; database = db' }
-      → (a ≡ b) × (e ≡ f) × AreAlike old.database s x y
+      → AreOneButForWork a b × (e ≡ f) × AreAlike old.database s x y
   load_once {a} {b} {s} {x} {y} {e} {f} name name' file file' bytes bytes' lib lib' t t' rs rs' db db' is is' named named' ans ans' are are' lo lo' n n' =
       let (name_is, file_is) = same_file s name name' file file' is is' in
       let (some_is, lib_is) = once old.library file' (Some bytes) (Some bytes') lib lib' (rw file_is at ans) ans' in
@@ -216,79 +251,79 @@ module _ {L : Type 0} (answers : Answering L) (once : AnswersOnce answers) (load
       let t_is : t ≡ t' = same_some (table_named old.database name') t t' (rw name_is at named) named' in
       let one : Loaded old.database name' t' rs db x e = rw (name_is, t_is) at lo in
       let (db_is, text_is, ended_is) = load_has_one old.database name' t' bytes' rs rs' db db' x y e f (rw bytes_are at are) are' one lo' in
-      (n ∙ ap₂ (λ l d. record old { library = l; database = d }) lib_is db_is ∙ sym n', ended_is, same text_is)
+      (one_state (n ∙ ap₂ (λ l d. record old { library = l; database = d }) lib_is db_is ∙ sym n'), ended_is, same text_is)
 
-  step_once : (a b : State L) (s : Statement) (x y : List ℕ) (e f : Ended) → Step answers old s a x e → Step answers old s b y f → (a ≡ b) × (e ≡ f) × AreAlike old.database s x y
-  step_once a b s x y first second (step.refused r fa n t e) (step.refused r' fa' n' t' e') = (n ∙ sym n', e ∙ sym e', faults r r' fa fa' t t')
+  step_once : (a b : State L) (s : Statement) (x y : List ℕ) (e f : Ended) → Step answers old s a x e → Step answers old s b y f → AreOneButForWork a b × (e ≡ f) × AreAlike old.database s x y
+  step_once a b s x y first second (step.refused r fa n t e) (step.refused r' fa' n' t' e') = (one_state (n ∙ sym n'), e ∙ sym e', faults r r' fa fa' t t')
   step_once a b s x y first second (step.refused r fa n t e) (step.repeated ac' rep' n' t' e') = absurd (ac' r fa)
   step_once a b s x y first second (step.refused r fa n t e) (step.made db' ac' mk' n' t' e') = absurd (ac' r fa)
   step_once a b s x y first second (step.refused r fa n t e) (step.no_file name' file' lib' is' ac' ans' n' t' e') = absurd (ac' r fa)
   step_once a b s x y first second (step.refused r fa n t e) (step.load name' file' bytes' lib' tb' rs' db' is' named' ans' are' lo' n') = absurd (load_is_faultless old.database s r name' file' tb' fa is' named')
-  step_once a b s x y first second (step.refused r fa n t e) (step.query q' blocks' told' is' ac' bs' al' n' t' e') = absurd (ac' r fa)
+  step_once a b s x y first second (step.refused r fa n t e) (step.query q' blocks' told' work' is' ac' bs' al' total' n' t' e') = absurd (ac' r fa)
   step_once a b s x y first second (step.refused r fa n t e) (step.explain q' blocks' is' ac' bs' ares' n' e') = absurd (ac' r fa)
   step_once a b s x y first second (step.repeated ac rep n t e) (step.refused r' fa' n' t' e') = absurd (ac r' fa')
-  step_once a b s x y first second (step.repeated ac rep n t e) (step.repeated ac' rep' n' t' e') = (n ∙ sym n', e ∙ sym e', same (t ∙ sym t'))
+  step_once a b s x y first second (step.repeated ac rep n t e) (step.repeated ac' rep' n' t' e') = (one_state (n ∙ sym n'), e ∙ sym e', same (t ∙ sym t'))
   step_once a b s x y first second (step.repeated ac rep n t e) (step.made db' ac' mk' n' t' e') = absurd (never_both old.database s db' rep mk')
   step_once a b s x y first second (step.repeated ac rep n t e) (step.no_file name' file' lib' is' ac' ans' n' t' e') = absurd (no_change s (repeats_change old.database s rep) (ap is_change is'))
   step_once a b s x y first second (step.repeated ac rep n t e) (step.load name' file' bytes' lib' tb' rs' db' is' named' ans' are' lo' n') = absurd (no_change s (repeats_change old.database s rep) (ap is_change is'))
-  step_once a b s x y first second (step.repeated ac rep n t e) (step.query q' blocks' told' is' ac' bs' al' n' t' e') = absurd (no_change s (repeats_change old.database s rep) (ap is_change is'))
+  step_once a b s x y first second (step.repeated ac rep n t e) (step.query q' blocks' told' work' is' ac' bs' al' total' n' t' e') = absurd (no_change s (repeats_change old.database s rep) (ap is_change is'))
   step_once a b s x y first second (step.repeated ac rep n t e) (step.explain q' blocks' is' ac' bs' ares' n' e') = absurd (no_change s (repeats_change old.database s rep) (ap is_change is'))
   step_once a b s x y first second (step.made db ac mk n t e) (step.refused r' fa' n' t' e') = absurd (ac r' fa')
   step_once a b s x y first second (step.made db ac mk n t e) (step.repeated ac' rep' n' t' e') = absurd (never_both old.database s db rep' mk)
-  step_once a b s x y first second (step.made db ac mk n t e) (step.made db' ac' mk' n' t' e') = (n ∙ ap (λ d. record old { database = d }) (makes_once old.database s db db' mk mk') ∙ sym n', e ∙ sym e', same (t ∙ sym t'))
+  step_once a b s x y first second (step.made db ac mk n t e) (step.made db' ac' mk' n' t' e') = (one_state (n ∙ ap (λ d. record old { database = d }) (makes_once old.database s db db' mk mk') ∙ sym n'), e ∙ sym e', same (t ∙ sym t'))
   step_once a b s x y first second (step.made db ac mk n t e) (step.no_file name' file' lib' is' ac' ans' n' t' e') = absurd (no_change s (makes_change old.database s db mk) (ap is_change is'))
   step_once a b s x y first second (step.made db ac mk n t e) (step.load name' file' bytes' lib' tb' rs' db' is' named' ans' are' lo' n') = absurd (no_change s (makes_change old.database s db mk) (ap is_change is'))
-  step_once a b s x y first second (step.made db ac mk n t e) (step.query q' blocks' told' is' ac' bs' al' n' t' e') = absurd (no_change s (makes_change old.database s db mk) (ap is_change is'))
+  step_once a b s x y first second (step.made db ac mk n t e) (step.query q' blocks' told' work' is' ac' bs' al' total' n' t' e') = absurd (no_change s (makes_change old.database s db mk) (ap is_change is'))
   step_once a b s x y first second (step.made db ac mk n t e) (step.explain q' blocks' is' ac' bs' ares' n' e') = absurd (no_change s (makes_change old.database s db mk) (ap is_change is'))
   step_once a b s x y first second (step.no_file name file lib is ac ans n t e) (step.refused r' fa' n' t' e') = absurd (ac r' fa')
   step_once a b s x y first second (step.no_file name file lib is ac ans n t e) (step.repeated ac' rep' n' t' e') = absurd (no_change s (repeats_change old.database s rep') (ap is_change is))
   step_once a b s x y first second (step.no_file name file lib is ac ans n t e) (step.made db' ac' mk' n' t' e') = absurd (no_change s (makes_change old.database s db' mk') (ap is_change is))
   step_once a b s x y first second (step.no_file name file lib is ac ans n t e) (step.no_file name' file' lib' is' ac' ans' n' t' e') =
       let l : lib ≡ lib' = (once old.library file' None None lib lib' (rw (same_file s name name' file file' is is').1 at ans) ans').1 in
-      (n ∙ ap (λ l. record old { library = l }) l ∙ sym n', e ∙ sym e', same (t ∙ sym t'))
+      (one_state (n ∙ ap (λ l. record old { library = l }) l ∙ sym n'), e ∙ sym e', same (t ∙ sym t'))
   step_once a b s x y first second (step.no_file name file lib is ac ans n t e) (step.load name' file' bytes' lib' tb' rs' db' is' named' ans' are' lo' n') = absurd (none_and_some bytes' (once old.library file' None (Some bytes') lib lib' (rw (same_file s name name' file file' is is').1 at ans) ans').0)
-  step_once a b s x y first second (step.no_file name file lib is ac ans n t e) (step.query q' blocks' told' is' ac' bs' al' n' t' e') = absurd (apart s 0 1 (ap kind is) (ap kind is') (λ h. omega (arith, h)))
+  step_once a b s x y first second (step.no_file name file lib is ac ans n t e) (step.query q' blocks' told' work' is' ac' bs' al' total' n' t' e') = absurd (apart s 0 1 (ap kind is) (ap kind is') (λ h. omega (arith, h)))
   step_once a b s x y first second (step.no_file name file lib is ac ans n t e) (step.explain q' blocks' is' ac' bs' ares' n' e') = absurd (apart s 0 2 (ap kind is) (ap kind is') (λ h. omega (arith, h)))
   step_once a b s x y first second (step.load name file bytes lib tb rs db is named ans are lo n) (step.refused r' fa' n' t' e') = absurd (load_is_faultless old.database s r' name file tb fa' is named)
   step_once a b s x y first second (step.load name file bytes lib tb rs db is named ans are lo n) (step.repeated ac' rep' n' t' e') = absurd (no_change s (repeats_change old.database s rep') (ap is_change is))
   step_once a b s x y first second (step.load name file bytes lib tb rs db is named ans are lo n) (step.made db' ac' mk' n' t' e') = absurd (no_change s (makes_change old.database s db' mk') (ap is_change is))
   step_once a b s x y first second (step.load name file bytes lib tb rs db is named ans are lo n) (step.no_file name' file' lib' is' ac' ans' n' t' e') = absurd (none_and_some bytes (once old.library file None (Some bytes) lib' lib (rw (same_file s name' name file' file is' is).1 at ans') ans).0)
   step_once a b s x y first second (step.load name file bytes lib tb rs db is named ans are lo n) (step.load name' file' bytes' lib' tb' rs' db' is' named' ans' are' lo' n') = load_once name name' file file' bytes bytes' lib lib' tb tb' rs rs' db db' is is' named named' ans ans' are are' lo lo' n n'
-  step_once a b s x y first second (step.load name file bytes lib tb rs db is named ans are lo n) (step.query q' blocks' told' is' ac' bs' al' n' t' e') = absurd (apart s 0 1 (ap kind is) (ap kind is') (λ h. omega (arith, h)))
+  step_once a b s x y first second (step.load name file bytes lib tb rs db is named ans are lo n) (step.query q' blocks' told' work' is' ac' bs' al' total' n' t' e') = absurd (apart s 0 1 (ap kind is) (ap kind is') (λ h. omega (arith, h)))
   step_once a b s x y first second (step.load name file bytes lib tb rs db is named ans are lo n) (step.explain q' blocks' is' ac' bs' ares' n' e') = absurd (apart s 0 2 (ap kind is) (ap kind is') (λ h. omega (arith, h)))
-  step_once a b s x y first second (step.query q blocks told is ac bs al n t e) (step.refused r' fa' n' t' e') = absurd (ac r' fa')
-  step_once a b s x y first second (step.query q blocks told is ac bs al n t e) (step.repeated ac' rep' n' t' e') = absurd (no_change s (repeats_change old.database s rep') (ap is_change is))
-  step_once a b s x y first second (step.query q blocks told is ac bs al n t e) (step.made db' ac' mk' n' t' e') = absurd (no_change s (makes_change old.database s db' mk') (ap is_change is))
-  step_once a b s x y first second (step.query q blocks told is ac bs al n t e) (step.no_file name' file' lib' is' ac' ans' n' t' e') = absurd (apart s 0 1 (ap kind is') (ap kind is) (λ h. omega (arith, h)))
-  step_once a b s x y first second (step.query q blocks told is ac bs al n t e) (step.load name' file' bytes' lib' tb' rs' db' is' named' ans' are' lo' n') = absurd (apart s 0 1 (ap kind is') (ap kind is) (λ h. omega (arith, h)))
-  step_once a b s x y first second (step.query q blocks told is ac bs al n t e) (step.query q' blocks' told' is' ac' bs' al' n' t' e') =
+  step_once a b s x y first second (step.query q blocks told work is ac bs al total n t e) (step.refused r' fa' n' t' e') = absurd (ac r' fa')
+  step_once a b s x y first second (step.query q blocks told work is ac bs al total n t e) (step.repeated ac' rep' n' t' e') = absurd (no_change s (repeats_change old.database s rep') (ap is_change is))
+  step_once a b s x y first second (step.query q blocks told work is ac bs al total n t e) (step.made db' ac' mk' n' t' e') = absurd (no_change s (makes_change old.database s db' mk') (ap is_change is))
+  step_once a b s x y first second (step.query q blocks told work is ac bs al total n t e) (step.no_file name' file' lib' is' ac' ans' n' t' e') = absurd (apart s 0 1 (ap kind is') (ap kind is) (λ h. omega (arith, h)))
+  step_once a b s x y first second (step.query q blocks told work is ac bs al total n t e) (step.load name' file' bytes' lib' tb' rs' db' is' named' ans' are' lo' n') = absurd (apart s 0 1 (ap kind is') (ap kind is) (λ h. omega (arith, h)))
+  step_once a b s x y first second (step.query q blocks told work is ac bs al total n t e) (step.query q' blocks' told' work' is' ac' bs' al' total' n' t' e') =
       let q_is : q ≡ q' = query_is s q q' is is' in
       let blocks_are : blocks ≡ blocks' = bs.1 ∙ ap (bound_form old.database) q_is ∙ sym bs'.1 in
       let al2 : AllowedOf old.database blocks told' = rw (sym blocks_are) at al' in
-      (n ∙ sym n', e ∙ told_alike (answer old.database blocks) (order_of blocks) told told' al al2 ∙ sym e', outcomes q blocks told told' is bs al al2 t (t' ∙ ap (λ b. shown (names_of b) told') (sym blocks_are)))
-  step_once a b s x y first second (step.query q blocks told is ac bs al n t e) (step.explain q' blocks' is' ac' bs' ares' n' e') = absurd (apart s 1 2 (ap kind is) (ap kind is') (λ h. omega (arith, h)))
+      ((ap (λ (s : State L). s.library) n ∙ sym (ap (λ (s : State L). s.library) n'), ap (λ (s : State L). s.database) n ∙ sym (ap (λ (s : State L). s.database) n')), e ∙ told_alike (answer old.database blocks) (order_of blocks) told told' al al2 ∙ sym e', outcomes q blocks told told' is bs al al2 t (t' ∙ ap (λ b. shown (names_of b) told') (sym blocks_are)))
+  step_once a b s x y first second (step.query q blocks told work is ac bs al total n t e) (step.explain q' blocks' is' ac' bs' ares' n' e') = absurd (apart s 1 2 (ap kind is) (ap kind is') (λ h. omega (arith, h)))
   step_once a b s x y first second (step.explain q blocks is ac bs ares n e) (step.refused r' fa' n' t' e') = absurd (ac r' fa')
   step_once a b s x y first second (step.explain q blocks is ac bs ares n e) (step.repeated ac' rep' n' t' e') = absurd (no_change s (repeats_change old.database s rep') (ap is_change is))
   step_once a b s x y first second (step.explain q blocks is ac bs ares n e) (step.made db' ac' mk' n' t' e') = absurd (no_change s (makes_change old.database s db' mk') (ap is_change is))
   step_once a b s x y first second (step.explain q blocks is ac bs ares n e) (step.no_file name' file' lib' is' ac' ans' n' t' e') = absurd (apart s 0 2 (ap kind is') (ap kind is) (λ h. omega (arith, h)))
   step_once a b s x y first second (step.explain q blocks is ac bs ares n e) (step.load name' file' bytes' lib' tb' rs' db' is' named' ans' are' lo' n') = absurd (apart s 0 2 (ap kind is') (ap kind is) (λ h. omega (arith, h)))
-  step_once a b s x y first second (step.explain q blocks is ac bs ares n e) (step.query q' blocks' told' is' ac' bs' al' n' t' e') = absurd (apart s 1 2 (ap kind is') (ap kind is) (λ h. omega (arith, h)))
+  step_once a b s x y first second (step.explain q blocks is ac bs ares n e) (step.query q' blocks' told' work' is' ac' bs' al' total' n' t' e') = absurd (apart s 1 2 (ap kind is') (ap kind is) (λ h. omega (arith, h)))
   step_once a b s x y first second (step.explain q blocks is ac bs ares n e) (step.explain q' blocks' is' ac' bs' ares' n' e') =
       let q_is : q ≡ q' = explain_is s q q' is is' in
       let blocks_are : blocks ≡ blocks' = bs.1 ∙ ap (bound_form old.database) q_is ∙ sym bs'.1 in
-      (n ∙ sym n', e ∙ sym e', plans q blocks is bs ares (rw (sym blocks_are) at ares'))
+      (one_state (n ∙ sym n'), e ∙ sym e', plans q blocks is bs ares (rw (sym blocks_are) at ares'))
 
 -- ---- statements
 
 module _ {L : Type 0} (answers : Answering L) (once : AnswersOnce answers) (load_has_one : LoadHasOneOutcome) where
-  steps_once : (ss : List Statement) (old a b : State L) (x y : List ℕ) (e f : Ended) → Steps answers old ss a x e → Steps answers old ss b y f → (a ≡ b) × (e ≡ f) × AllAlike answers old ss x y
-  steps_once [] old a b x y e f (new, text, ended) (new', text', ended') = (new ∙ sym new', ended ∙ sym ended', (text, text'))
+  steps_once : (ss : List Statement) (old a b : State L) (x y : List ℕ) (e f : Ended) → Steps answers old ss a x e → Steps answers old ss b y f → AreOneButForWork a b × (e ≡ f) × AllAlike answers old ss x y
+  steps_once [] old a b x y e f (new, text, ended) (new', text', ended') = (one_state (new ∙ sym new'), ended ∙ sym ended', (text, text'))
   steps_once (s ∷ ss) old a b x y e f (mid, own, rest, h, k, this, more, text, both) (mid', own', rest', h', k', this', more', text', both') =
       let (mid_is, ended_is, alike) = step_once answers once load_has_one old mid mid' s own own' h h' this this' in
-      let moved : Steps answers mid ss b rest' k' = rw (sym mid_is) at more' in
-      let (new_is, rest_ended, rest_alike) = steps_once ss mid a b rest rest' k k' more moved in
-      let other : Step answers old s mid own' h = rw (sym mid_is, sym ended_is) at this' in
-      (new_is, both ∙ ap₂ both_ended ended_is rest_ended ∙ sym both', (mid, h, own, own', rest, rest', this, other, alike, rest_alike, text, text'))
+      let (c, c_is, moved) = steps_moved answers ss mid mid' b rest' k' mid_is more' in
+      let (new_is, rest_ended, rest_alike) = steps_once ss mid a c rest rest' k k' more moved in
+      let other : Step answers old s mid' own' h = rw (sym ended_is) at this' in
+      (through a c b new_is c_is, both ∙ ap₂ both_ended ended_is rest_ended ∙ sym both', (mid, mid', h, own, own', rest, rest', this, other, mid_is, alike, rest_alike, text, text'))
 
 -- ---- scripts
 
@@ -346,7 +381,7 @@ statements_once script ss ts (tokens, lexes, derives) (tokens', lexes', derives'
 
 module _ {L : Type 0} (answers : Answering L) (load_has_one : LoadHasOneOutcome) where
   pub runs_end_alike : RunsEndAlike answers
-  runs_end_alike once old a b script x y e f (step.fault line n ended) (step.fault line' n' ended') = (n ∙ sym n', ended ∙ sym ended', fault_lines line line')
+  runs_end_alike once old a b script x y e f (step.fault line n ended) (step.fault line' n' ended') = (one_state (n ∙ sym n'), ended ∙ sym ended', fault_lines line line')
   runs_end_alike once old a b script x y e f (step.fault line n ended) (step.run ss are steps) = absurd (faultless script x ss line are)
   runs_end_alike once old a b script x y e f (step.run ss are steps) (step.fault line n ended) = absurd (faultless script y ss line are)
   runs_end_alike once old a b script x y e f (step.run ss are steps) (step.run ts are' steps') =

@@ -2,9 +2,9 @@
 use Rattle.std.proofs.Common.{ℕ, ◌≡◌, ◌≢◌, ◌<◌, ◌∙◌, ◌++◌, refl, sym, ap, subst, suc, List, [], ◌∷◌, Option, Some, None, length, take, drop, get_or, Bor}
 use Rattle.std.specs.Prelude.{true, false, is_some, option_map}
 use Rattle.definitions.specs.Statement.{Select, Statement}
-use Rattle.definitions.specs.Step as step
-use Rattle.definitions.specs.Step.{Answering, Failing, State, Step, StepBreaks}
-use Rattle.definitions.specs.CheckingRun.{asked, Prepared, Prepares}
+use Rattle.scripts.specs.Step as step
+use Rattle.scripts.specs.Step.{Answering, Failing, State, Step, StepBreaks}
+use Rattle.scripts.specs.CheckingRun.{asked, Prepared, Prepares}
 use Rattle.trees.specs.declared.statement.Statement as tree
 use Rattle.trees.specs.declared.statement.Select as own
 use Rattle.trees.specs.Trees.{select_of, statement_of, statements_of}

@@ -13,9 +13,11 @@ use Rattle.definitions.specs.Queries.Outcomes.{Rows, Exception, AllowedOf, names
 use Rattle.definitions.specs.Binding.Faults.{Binds}
 use Rattle.definitions.specs.Binding.Formed as formed
 use Rattle.definitions.specs.Binding.Formed.{AreFormed, IsFormedBlock}
+use Rattle.definitions.specs.Estimates.Version.{current_version}
 use Rattle.definitions.specs.NotYet.{CanAnswer, IsPlain}
 use Rattle.definitions.specs.Faults as faults
 use Rattle.definitions.specs.Faults.{Faulty, IsAccepted}
+use Rattle.execution.specs.Total.{IsTotal}
 use Rattle.bound.specs.Bound.{block_of, bound_function_of, column_of, condition_of, key_of}
 use Rattle.bound.specs.declared.block.Block as tree
 use Rattle.sqlr.specs.declared.ended.Ended.TheVariants as e
@@ -26,9 +28,9 @@ use Rattle.sqlr.specs.Selecting.{Answers, refused, told}
 -- ---- refusals
 
 pub fault_told : (db : Database) (q : Select) (result : Result Printed StepFault) (refusal : Refusal) → Faulty db (Query q) refusal
-    → IfOk result (λ (p : Printed). p.text.items ≡ refusal_text refusal) → IfOk result (λ (p : Printed). p.ended ≡ e.Faulted) → IfOk result (Answers db q)
-fault_told db q (Ok p) refusal f t d = refused refusal f t d
-fault_told db q (Err x) refusal f t d = tt
+    → IfOk result (λ (p : Printed). p.text.items ≡ refusal_text refusal) → IfOk result (λ (p : Printed). p.ended ≡ e.Faulted) → IfOk result (λ (p : Printed). p.work ≡ None) → IfOk result (Answers db q)
+fault_told db q (Ok p) refusal f t d w = refused refusal f t d w
+fault_told db q (Err x) refusal f t d w = tt
 
 pub not_yet : (db : Database) (q : Select) (blocks : Blocks) → Binds db q blocks → ¬ (CanAnswer blocks) → Faulty db (Query q) OverQueryLimit
 not_yet db q blocks bound n = faults.not_yet q bound.0 (λ can. n (subst CanAnswer (sym bound.1) can))
@@ -51,11 +53,6 @@ pub formed_block : (db : Database) (b : Block) → AreFormed db (b ∷ []) [] 0 
 formed_block db b (formed.formed around n c is h inside) = subst (IsFormedBlock db (b ∷ []) [] 0) (same_block b c is) h
 
 -- ---- a plain block
-
-pub only_table : (xs : List ℕ) → length xs ≡ 1 → (x : ℕ) × (xs ≡ x ∷ [])
-only_table [] h = absurd (omega (arith, h))
-only_table (x ∷ []) h = (x, refl)
-only_table (x ∷ y ∷ ys) h = absurd (omega (arith, h))
 
 no_items : {A : Type 0} (xs : List A) → length xs ≡ 0 → xs ≡ []
 no_items [] h = refl
@@ -84,10 +81,11 @@ unordered b p = sym (length-map b.order.items key_of) ∙ ap (λ xs. length xs) 
 -- ---- answers
 
 pub rows_told : (db : Database) (q : Select) (blocks : Blocks) (p : Printed) (text : List ℕ) → Binds db q blocks → CanAnswer blocks
-    → (rows : List Row) × AllowedOf db blocks (Rows rows) × (text ≡ shown (names_of blocks) (Rows rows)) → p.text.items ≡ text → p.ended ≡ e.Well → Answers db q p
-rows_told db q blocks p text bound can (rows, allowed, is) t d = told blocks (Rows rows) (accepted db q blocks bound can) bound allowed (t ∙ is) d
+    → (rows : List Row) × AllowedOf db blocks (Rows rows) × (text ≡ shown (names_of blocks) (Rows rows)) → p.text.items ≡ text → p.ended ≡ e.Well
+    → (work : ℕ) → IsTotal current_version db blocks work → p.work ≡ Some work → Answers db q p
+rows_told db q blocks p text bound can (rows, allowed, is) t d work total w = told blocks (Rows rows) (accepted db q blocks bound can) bound allowed (t ∙ is) d (work, total, w)
 
 pub raise_told : (db : Database) (q : Select) (blocks : Blocks) (result : Result Printed StepFault) (raise : Raise) → Binds db q blocks → CanAnswer blocks → AllowedOf db blocks (Exception raise)
-    → IfOk result (λ (p : Printed). p.text.items ≡ shown [] (Exception raise)) → IfOk result (λ (p : Printed). p.ended ≡ e.Faulted) → IfOk result (Answers db q)
-raise_told db q blocks (Ok p) raise bound can allowed t d = told blocks (Exception raise) (accepted db q blocks bound can) bound allowed t d
-raise_told db q blocks (Err x) raise bound can allowed t d = tt
+    → IfOk result (λ (p : Printed). p.text.items ≡ shown [] (Exception raise)) → IfOk result (λ (p : Printed). p.ended ≡ e.Faulted) → IfOk result (λ (p : Printed). p.work ≡ None) → IfOk result (Answers db q)
+raise_told db q blocks (Ok p) raise bound can allowed t d w = told blocks (Exception raise) (accepted db q blocks bound can) bound allowed t d w
+raise_told db q blocks (Err x) raise bound can allowed t d w = tt

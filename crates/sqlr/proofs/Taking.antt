@@ -1,6 +1,6 @@
 -- What a statement's call gives is a step of the definitions.
 use Rattle.std.proofs.Common.{ℕ, ◌≡◌, ◌≢◌, ◌∙◌, refl, sym, ap, List, [], Option, Some, None, Result, Ok, Err, IfOk, Bor}
-use Rattle.std.specs.Prelude.{true, false, is_some}
+use Rattle.std.specs.Prelude.{true, false, is_some, unwrap_or}
 use Rattle.std.specs.Option.{option_copied}
 use Rattle.definitions.specs.Statement as tree
 use Rattle.definitions.specs.Statement.{Name, Statement}
@@ -9,8 +9,9 @@ use Rattle.definitions.specs.Refusal as r
 use Rattle.definitions.specs.Faults as faults
 use Rattle.definitions.specs.Loading.{Record, AreFileRecords, FirstFaulty}
 use Rattle.definitions.specs.Printing.{refusal_text, record_refusal_text, loaded_text}
-use Rattle.definitions.specs.Step as step
-use Rattle.definitions.specs.Step.{Answering, State}
+use Rattle.definitions.specs.Queries.Outcomes.{Rows, Exception}
+use Rattle.scripts.specs.Step as step
+use Rattle.scripts.specs.Step.{Answering, State}
 use Rattle.loading.specs.Meaning.{record_refusal}
 use Rattle.loading.specs.declared.fault.RefusedRecord.{RefusedRecord}
 use Rattle.catalog.specs.Loads.{LoadsNamed, RefusesNamed}
@@ -113,10 +114,13 @@ limit_told db db' name bytes (Err f) h n x d = tt
 
 -- ---- SELECT
 
-pub query_taken : {L : Type 0} (answers : Answering L) (s : State L) (q : tree.Select) (result : Result Printed StepFault) → IfOk result (Answers s.database q) → IfOk result (Takes answers s (tree.Query q) s)
-query_taken answers s q (Ok p) (selecting.refused r f t d) = (step.Faulted, step.refused r f refl t refl, d)
-query_taken answers s q (Ok p) (selecting.told blocks told a b allowed t d) = (step.told_ended told, step.query q blocks told refl a b allowed refl t refl, d)
-query_taken answers s q (Err f) h = tt
+-- the work is the one told, where one is
+pub query_taken : {L : Type 0} (answers : Answering L) (old new : State L) (q : tree.Select) (p : Printed) → Answers old.database q p → new ≡ record old { work = unwrap_or p.work old.work } → Takes answers old (tree.Query q) new p
+query_taken answers old new q p (selecting.refused r f t d w) n = (step.Faulted, step.refused r f (n ∙ ap (λ o. record old { work = unwrap_or o old.work }) w) t refl, d)
+query_taken answers old new q p (selecting.told blocks (Rows rows) a b allowed t d (total, is, w)) n =
+    (step.Well, step.query q blocks (Rows rows) total refl a b allowed is (n ∙ ap (λ o. record old { work = unwrap_or o old.work }) w) t refl, d)
+query_taken answers old new q p (selecting.told blocks (Exception raise) a b allowed t d w) n =
+    (step.Faulted, step.query q blocks (Exception raise) old.work refl a b allowed refl (n ∙ ap (λ o. record old { work = unwrap_or o old.work }) w) t refl, d)
 
 -- ---- EXPLAIN
 

@@ -2,7 +2,7 @@
 use Rattle.std.specs.Prelude.{ℕ, ⊤, List, Option, Some, None}
 use Rattle.definitions.specs.Lexing.{LexFault}
 use Rattle.definitions.specs.Printing.{fault_text}
-use Rattle.definitions.specs.Step.{FaultLine}
+use Rattle.scripts.specs.Step.{FaultLine}
 use Rattle.refusals.specs.Meaning.{refusal_of}
 use Rattle.sqlr.specs.declared.script.ScriptFault.{ScriptFault}
 use Rattle.sqlr.specs.declared.script.ScriptFault.TheVariants as f

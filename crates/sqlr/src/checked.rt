@@ -1,7 +1,7 @@
 //! A query's certificates, checked.
 
 ghost use Rattle.std.specs.Prelude.{◌≡◌, IfOk, option_map};
-ghost use Rattle.definitions.specs.CheckingRun as run;
+ghost use Rattle.scripts.specs.CheckingRun as run;
 ghost use Rattle.trees.specs.Trees.{select_of, statement_of};
 ghost use Rattle.sqlr.specs.Checking.{IsChecked, end_of_file};
 

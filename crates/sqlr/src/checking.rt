@@ -1,7 +1,7 @@
 //! Checking runs.
 
 ghost use Rattle.std.specs.Prelude.{ℕ, ◌≡◌, ◌≢◌, ◌<◌, List, IfOk, IfErr, OnOk, OnErr};
-ghost use Rattle.definitions.specs.Step.{AreStatements};
+ghost use Rattle.scripts.specs.Step.{AreStatements};
 ghost use Rattle.trees.specs.Trees.{statement_of, statements_of};
 ghost use Rattle.sqlr.specs.declared.ended.RunFault.TheVariants as fault;
 ghost use Rattle.sqlr.specs.Devices.{Took, TookBeginning};

@@ -1,8 +1,8 @@
-//! What holds of statements and scripts over every library (the laws of `definitions/specs/RunLaws`, and worked examples of scripts), each
+//! What holds of statements and scripts over every library (the laws of `scripts/specs/RunLaws`, and worked examples of scripts), each
 //! proved as the contract of a function that does nothing.
 
-ghost use Rattle.definitions.specs.RunLaws.{StepKeepsDatabase, FaultsChangeNothing, SelectPrintsAnswer, RunsEndAlike};
-ghost use Rattle.definitions.specs.Examples.Runs.{ScriptsRun};
+ghost use Rattle.scripts.specs.RunLaws.{StepKeepsDatabase, FaultsChangeNothing, SelectPrintsAnswer, RunsEndAlike};
+ghost use Rattle.scripts.specs.Examples.{ScriptsRun};
 
 use crate::library::Library;
 
@@ -17,11 +17,12 @@ pub fn select_prints_answer<L: Library>()
     ensures { SelectPrintsAnswer L.answers }
 {}
 
-/// Two runs of a script over a library that gives one answer to a request end alike: in one state, and both well or both badly.
+/// Two runs of a script over a library that gives one answer to a request end alike: in one state but for the work, and
+/// both well or both badly.
 pub fn runs_end_alike<L: Library>()
     ensures { RunsEndAlike L.answers }
 {
-    definitions::file_loads_once();
+    scripts::load_has_one_outcome();
 }
 
 /// Small scripts and what they print.

@@ -1,7 +1,6 @@
 //! Scripts of SQL over tables in memory: from a script's bytes to the bytes that it prints.
 #![tactic(auto)]
 
-mod answering;
 mod cause;
 mod changes;
 mod checked;

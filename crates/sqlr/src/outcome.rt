@@ -1,6 +1,6 @@
 //! What a statement prints and how it ends, and the lines of those that are refused.
 
-ghost use Rattle.std.specs.Prelude.{◌≡◌, [], IfOk, IfErr, option_map};
+ghost use Rattle.std.specs.Prelude.{◌≡◌, [], IfOk, IfErr, None, option_map};
 ghost use Rattle.definitions.specs.Printing.{refusal_text, record_refusal_text};
 ghost use Rattle.definitions.specs.Queries.Outcomes.{shown, Exception};
 ghost use Rattle.refusals.specs.Meaning.{refusal_of};
@@ -16,12 +16,13 @@ use refusals::Refusal;
 use sqlvalue::Raise;
 use std::alloc::{AllocError, Global};
 
-/// What a statement prints, how it ended, and why it is refused, if it is.
+/// What a statement prints, how it ended, why it is refused, if it is, and the work of a SELECT that printed rows: how many it opened.
 #[derive(Drop)]
 pub struct Printed<'a> {
     pub text: Vec<u8>,
     pub ended: Ended,
     pub refused: Option<Refused<'a>>,
+    pub work: Option<u64>,
 }
 
 /// Why a statement broke off.
@@ -43,11 +44,13 @@ impl From<AllocError> for StepFault {
 pub fn done<'a>(text: Vec<u8>) -> Printed<'a>
     ensures text { result.text ≡ text }
     ensures ended { result.ended ≡ ended.Well }
+    ensures work { result.work ≡ None }
 {
     Printed {
         text,
         ended: Ended::Well,
         refused: None,
+        work: None,
     }
 }
 
@@ -55,6 +58,7 @@ pub fn done<'a>(text: Vec<u8>) -> Printed<'a>
 pub fn raised<'a>(alloc: Global, raise: Raise) -> Result<Printed<'a>, StepFault>
     ensures text { IfOk result (λ p. p.text.items ≡ shown [] (Exception (raise_of raise))) }
     ensures ended { IfOk result (λ p. p.ended ≡ ended.Faulted) }
+    ensures work { IfOk result (λ p. p.work ≡ None) }
     ensures memory { IfErr result (λ f. f ≡ fault.Memory) }
 {
     let mut text = Vec::new(alloc);
@@ -63,6 +67,7 @@ pub fn raised<'a>(alloc: Global, raise: Raise) -> Result<Printed<'a>, StepFault>
         text,
         ended: Ended::Faulted,
         refused: None,
+        work: None,
     })
 }
 
@@ -74,6 +79,7 @@ pub fn refused<'a>(
 ) -> Result<Printed<'a>, StepFault>
     ensures text { IfOk result (λ p. p.text.items ≡ refusal_text (refusal_of refusal)) }
     ensures ended { IfOk result (λ p. p.ended ≡ ended.Faulted) }
+    ensures work { IfOk result (λ p. p.work ≡ None) }
     ensures memory { IfErr result (λ f. f ≡ fault.Memory) }
 {
     let mut text = Vec::new(alloc);
@@ -82,6 +88,7 @@ pub fn refused<'a>(
         text,
         ended: Ended::Faulted,
         refused: Some(Refused { refusal, cause }),
+        work: None,
     })
 }
 
@@ -117,5 +124,6 @@ pub fn refused_record<'a>(
         text,
         ended: Ended::Faulted,
         refused: Some(Refused { refusal, cause }),
+        work: None,
     })
 }

@@ -3,7 +3,7 @@
 ghost use Rattle.std.specs.Prelude.{◌≡◌, IfOk, IfErr, option_map};
 ghost use Rattle.trees.specs.Trees.{statements_of};
 ghost use Rattle.lexer.specs.Meaning.{fault_of};
-ghost use Rattle.definitions.specs.Step.{AreStatements};
+ghost use Rattle.scripts.specs.Step.{AreStatements};
 ghost use Rattle.sqlr.specs.Scripts.{IsFault, line_of, lexical_line};
 
 use crate::cause::{Cause, Refused};

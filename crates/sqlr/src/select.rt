@@ -5,18 +5,17 @@ ghost use Rattle.trees.specs.Trees.{select_of};
 ghost use Rattle.sqlr.specs.declared.outcome.StepFault.TheVariants as fault;
 ghost use Rattle.sqlr.specs.Selecting.{Answers};
 
-use crate::answering::answer;
 use crate::cause::{Cause, QueryCause};
 use crate::not_yet::can_answer;
 use crate::outcome::{Printed, StepFault, done, raised, refused};
 use binder::{BindFault, bind};
 use catalog::Database;
-use executor::AnswerFault;
+use executor::{AnswerFault, answer_text};
 use refusals::Refusal;
 use std::alloc::Global;
 use syntax::Select;
 
-/// Answers a query, or refuses it.
+/// Answers a query by least plans of its blocks, or refuses it.
 pub(crate) fn select<'q>(
     alloc: Global,
     database: &Database,
@@ -38,8 +37,11 @@ pub(crate) fn select<'q>(
     if !can_answer(&blocks) {
         return refused(alloc, Refusal::OverQueryLimit, Cause::NotYet(query));
     }
-    match answer(alloc, database, &blocks[0]) {
-        Ok(text) => Ok(done(text)),
+    match answer_text(alloc, database, &blocks[0]) {
+        Ok((text, work)) => Ok(Printed {
+            work: Some(work),
+            ..done(text)
+        }),
         Err(AnswerFault::Raised(raise)) => raised(alloc, raise),
         Err(AnswerFault::Memory) => Err(StepFault::Memory),
     }

@@ -3,10 +3,10 @@
 ghost use Rattle.std.specs.Prelude.{◌≡◌, ◌≢◌, [], None, IfOk, IfErr, OnErr};
 ghost use Rattle.definitions.specs.Printing.{fault_text};
 ghost use Rattle.definitions.specs.Statement as tree;
-ghost use Rattle.definitions.specs.Step.{AreStatements};
+ghost use Rattle.scripts.specs.Step.{AreStatements};
 ghost use Rattle.definitions.specs.Table.{table_named};
 ghost use Rattle.refusals.specs.Meaning.{refusal_of};
-ghost use Rattle.trees.specs.Trees.{name_of, statement_of, statements_of, text_of};
+ghost use Rattle.trees.specs.Trees.{name_of, select_of, statement_of, statements_of, text_of};
 ghost use Rattle.sqlr.specs.declared.outcome.StepFault.TheVariants as fault;
 ghost use Rattle.sqlr.specs.Sessions.{BreaksAt, BreaksIn, BreaksLine, BreaksOff, IsBoth, IsLibraryBlamed, IsSinkBlamed, IsStepBlamed, Prints, Runs, RunsAll, Takes, TakesBytes};
 
@@ -24,22 +24,23 @@ use printing::{LOADED_ROOM, write_fault, write_loaded};
 use refusals::Refusal;
 use std::alloc::Global;
 use std::marker::Model;
-use syntax::{Name, Statement, StringLiteral};
+use syntax::{Name, Select, Statement, StringLiteral};
 
-/// A database, and the library that LOAD finds its files in.
+/// A database, the library that LOAD finds its files in, and how many rows the last SELECT that printed rows has opened.
 #[derive(Drop)]
 pub struct Session<L: Library> {
     pub(crate) alloc: Global,
     library: L,
     pub(crate) database: Database,
+    work: u64,
 }
 
 impl<L: Library> Model for Session<L> {
-    ghost use Rattle.definitions.specs.Step.{State};
+    ghost use Rattle.scripts.specs.Step.{State};
 
     ghost Value = { State L };
 
-    ghost view = { λ s. record { library = s.library; database = s.database } };
+    ghost view = { λ s. record { library = s.library; database = s.database; work = s.work } };
 }
 
 impl<L: Library> Session<L> {
@@ -47,11 +48,13 @@ impl<L: Library> Session<L> {
     pub fn new(alloc: Global, library: L) -> Session<L>
         ensures library { result.library ≡ library }
         ensures database { result.database ≡ [] }
+        ensures work { result.work ≡ 0 }
     {
         Session {
             alloc,
             library,
             database: Database::new(alloc),
+            work: 0,
         }
     }
 
@@ -60,6 +63,14 @@ impl<L: Library> Session<L> {
         ensures { result.now ≡ self.now.library }
     {
         &self.library
+    }
+
+    /// The work of the last SELECT that printed rows: how many rows the least plans of its blocks have opened, at most 10^18; 0 before any
+    /// (Selinger et al. 1979, section 4, has it as RSI calls).
+    pub fn work(&self) -> u64
+        ensures { result ≡ self.now.work }
+    {
+        self.work
     }
 
     /// Runs a script, and puts what it prints into a sink, the text of each statement as a whole
@@ -159,9 +170,19 @@ impl<L: Library> Session<L> {
                 columns,
                 figures,
             } => set_index(alloc, &mut self.database, table, columns, figures),
-            Statement::Query(query) => select(alloc, &self.database, query),
+            Statement::Query(query) => self.query(query),
             Statement::Explain(query) => explain(alloc, &self.database, query),
         }
+    }
+
+    fn query<'a>(&mut self, query: &'a Select) -> Result<Printed<'a>, StepFault>
+        ensures takes { IfOk result (Takes L.answers self.old (tree.Query (select_of query.now)) self.new) }
+        ensures breaks { IfErr result (BreaksAt L.answers L.fails self.old (tree.Query (select_of query.now)) self.new) }
+        ensures blamed { IsStepBlamed (L.failures self.old.library) (L.failures self.new.library) result }
+    {
+        let printed = select(self.alloc, &self.database, query)?;
+        self.work = printed.work.unwrap_or(self.work);
+        Ok(printed)
     }
 
     fn load<'a>(
@@ -191,6 +212,7 @@ impl<L: Library> Session<L> {
         ensures kept { OnErr result (self.new.database ≡ self.old.database) }
         ensures memory { IfErr result (λ f. f ≡ fault.Memory) }
         ensures library { self.new.library ≡ self.old.library }
+        ensures work { self.new.work ≡ self.old.work }
     {
         let mut text = Vec::with_capacity(self.alloc, LOADED_ROOM)?;
         match self.database.load(load.table.text.as_str(), &load.bytes) {

@@ -10,3 +10,5 @@ mod memory;
 mod messages;
 #[cfg(test)]
 mod steps;
+#[cfg(test)]
+mod work;

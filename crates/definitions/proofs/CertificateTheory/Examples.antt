@@ -8,8 +8,6 @@ use Rattle.definitions.specs.Plans.Order.{ascending}
 use Rattle.definitions.specs.Plans.Numbering.{numbered}
 use Rattle.definitions.specs.Plans.Certificate.{Certificate, Precedes}
 use Rattle.definitions.specs.Estimates.Version.{Version, One, Two, Three}
-use Rattle.definitions.specs.Grammar.{end}
-use Rattle.definitions.specs.CheckingRun.{no_statement}
 use Rattle.definitions.specs.Plans.Checking.{Accesses, Joins}
 use Rattle.definitions.specs.Certificates.File.{lines_of, own_text, lines_behind, version_of}
 use Rattle.definitions.specs.Certificates.Verdicts.{Told, Passes, FailsAt, IsFaulty, IsTold, CheckEnded, Well, Refused', ended_of, both_ended, block_line, AreTold}
@@ -19,7 +17,7 @@ use Rattle.definitions.specs.Certificates.Text.{Written, text_of}
 use Rattle.definitions.specs.Certificates.Spelling.{plan_written, written, Spells}
 use Rattle.definitions.proofs.CertificateTheory.Files.{broken_has_no_form}
 use Rattle.definitions.specs.Certificates.Fault.{BadForm, HasFault}
-use Rattle.definitions.specs.Examples.Certificates.{one_table_block, two_tables_block, claim, OneTableIsSpelled, TwoTablesAreSpelled, two_sorts_text, two_sorts_plan, state, sorts_text, sorted_times, two_columns, three_tables_block, ColumnIsNamed, OrderedIsSpelled, LoopIsSpelled, FaultsOfStates, FaultsOfNumbers, FaultsOfForm, BeginningsHaveNoForm, WordsAreCounted, LaterPathsAreSpelled, OtherPlansAreSpelled, VersionIsPartOfForm, ProductIsSpelled, FilesAreCut, VersionsOfTexts, two_tables_in, RestIsRefused, EarlierSpaceIsNamed, RulesAreNamed, NothingIsRefused, EmptyScriptIsNothing}
+use Rattle.definitions.specs.Examples.Certificates.{one_table_block, two_tables_block, claim, OneTableIsSpelled, TwoTablesAreSpelled, two_sorts_text, two_sorts_plan, state, sorts_text, sorted_times, two_columns, three_tables_block, ColumnIsNamed, OrderedIsSpelled, LoopIsSpelled, FaultsOfStates, FaultsOfNumbers, FaultsOfForm, BeginningsHaveNoForm, WordsAreCounted, LaterPathsAreSpelled, OtherPlansAreSpelled, VersionIsPartOfForm, ProductIsSpelled, FilesAreCut, VersionsOfTexts, two_tables_in, RestIsRefused, EarlierSpaceIsNamed, RulesAreNamed, NothingIsRefused}
 use Rattle.definitions.proofs.CertificateTheory.Texts.{plain, leading_zero, other_first, misformed, no_number, bad_states, spelled_by}
 
 d1 : decimal 1 ≡ codes "1"
@@ -268,6 +266,3 @@ rules_named = (
 pub nothing_refused : NothingIsRefused
 nothing_refused = told_as Three two_tables_in (lines_of []) Three refl (IsFaulty BadForm) [] Well (codes "block 1 refused C1\n") Refused'
     (other_first (two_tables_in Three) [] refl) (refl, refl) (rw d1 refl) refl
-
-pub empty_script : EmptyScriptIsNothing
-empty_script old file = no_statement ([], ([], refl, refl), end 0 refl) refl refl refl

@@ -1,5 +1,5 @@
 -- Worked examples: texts of certificates, and texts that have a fault.
-use Rattle.std.specs.Prelude.{ℕ, ◌<◌, ◌≡◌, zero, suc, List, [], ◌∷◌, ◌++◌, length, take, true, false, None, codes}
+use Rattle.std.specs.Prelude.{ℕ, ◌<◌, ◌≡◌, zero, suc, List, [], ◌∷◌, ◌++◌, length, take, true, false, codes}
 use Rattle.definitions.specs.Plans.Order.{ascending}
 use Rattle.definitions.specs.Plans.Path.{SegmentScan, IndexScan, MatchingScan}
 use Rattle.definitions.specs.Plans.Plan.{Plan, Access, Loop, Merge, Sort}
@@ -12,9 +12,7 @@ use Rattle.definitions.specs.Certificates.CertifiedBlock.{CertifiedBlock}
 use Rattle.definitions.specs.Certificates.Spelling.{Spells}
 use Rattle.definitions.specs.Certificates.Fault.{BadForm, NoSuchNumber, BadStates, HasFault}
 use Rattle.definitions.specs.Certificates.File.{lines_of, own_text, lines_behind, version_of}
-use Rattle.definitions.specs.Certificates.Verdicts.{Well, Faulted, Refused', AreTold}
-use Rattle.definitions.specs.CheckingRun.{Checked}
-use Rattle.definitions.specs.Step.{Answering, State}
+use Rattle.definitions.specs.Certificates.Verdicts.{Well, Refused', AreTold}
 
 abbrev pub state : (tables order cost : ℕ) → StateCost
 state tables order cost = record { tables = tables; order = order; cost = cost }
@@ -227,11 +225,3 @@ RulesAreNamed =
 -- a file of no bytes
 abbrev pub NothingIsRefused : Type 0
 NothingIsRefused = AreTold Three (two_tables_in ∷ []) (lines_of []) (codes "block 1 refused C1\n") Refused'
-
--- a library without files
-abbrev pub no_files : Answering (Unit {0})
-no_files before name answer after = answer ≡ None
-
--- an empty script, whatever the file
-abbrev pub EmptyScriptIsNothing : Type 0
-EmptyScriptIsNothing = (old : State (Unit {0})) (file : List ℕ) → Checked no_files One old [] file old (codes "nothing to check\n") Faulted

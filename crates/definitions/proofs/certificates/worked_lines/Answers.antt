@@ -1,4 +1,4 @@
-use Rattle.definitions.proofs.CertificateTheory.Examples.{rest_refused, space_named, rules_named, nothing_refused, empty_script}
+use Rattle.definitions.proofs.CertificateTheory.Examples.{rest_refused, space_named, rules_named, nothing_refused}
 use Rattle.definitions.proofs.certificates.worked_lines.Goals as goal
 
 pub returns-clause-rest : goal.returns-clause-rest
@@ -12,6 +12,3 @@ returns-clause-rules c = rules_named
 
 pub returns-clause-nothing : goal.returns-clause-nothing
 returns-clause-nothing c = nothing_refused
-
-pub returns-clause-empty : goal.returns-clause-empty
-returns-clause-empty c = empty_script

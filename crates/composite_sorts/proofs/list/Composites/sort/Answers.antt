@@ -1,7 +1,6 @@
 use Rattle.std.proofs.Common.{subst, map}
 use Rattle.std.specs.Prelude.{IsPermutation}
 use Rattle.std.proofs.lemmas.List.Sorted.{IsPermutation-map}
-use Rattle.std.proofs.lemmas.Result.{on_ok_weaker}
 use Rattle.table_sets.specs.Sets.{set_of}
 use Rattle.plans.specs.Plans.{order_of}
 use Rattle.composite_sorts.specs.CompositeLists.{CompositeList}
@@ -19,4 +18,4 @@ returns-clause-permutation c =
 pub returns-clause-sorted : goal.returns-clause-sorted
 returns-clause-sorted c =
     let s = c.self.inside in
-    on_ok_weaker c.sort.result (rises_unpacked (set_of s.tables) s.width s.members.items c.self.invariant.members c.args.source.now (order_of c.args.order.now) (rows_of c.sort.new.self)) (rw c.deref.ensures.value at c.sort.ensures.sorted)
+    rises_unpacked (set_of s.tables) s.width s.members.items c.self.invariant.members c.args.source.now (order_of c.args.order.now) (rows_of c.sort.new.self) (rw c.deref.ensures.value at c.sort.ensures.sorted)

@@ -1,0 +1,4 @@
+pub mod Step
+pub mod CheckingRun
+pub mod RunLaws
+pub mod Examples
