@@ -1,14 +1,15 @@
 -- Packed rows as code keeps them.
-use Rattle.std.specs.Prelude.{ℕ, List}
+use Rattle.std.specs.Prelude.{ℕ, List, map}
+use Rattle.composite_sorts.specs.Keys.{packed_in}
 use Rattle.composite_sorts.specs.declared.kept.Kept.{Kept}
 use Rattle.composite_sorts.specs.declared.kept.Kept.TheVariants as k
 
 abbrev pub rows_of : Kept → List (List ℕ)
-rows_of (k.One rows) = rows.items
-rows_of (k.Two rows) = rows.items
-rows_of (k.Four rows) = rows.items
-rows_of (k.Eight rows) = rows.items
-rows_of (k.All rows) = rows.items
+rows_of (k.One rows) = map packed_in rows.items
+rows_of (k.Two rows) = map packed_in rows.items
+rows_of (k.Four rows) = map packed_in rows.items
+rows_of (k.Eight rows) = map packed_in rows.items
+rows_of (k.All rows) = map packed_in rows.items
 
 -- of how many tables they are, at most
 abbrev pub room_of : Kept → ℕ

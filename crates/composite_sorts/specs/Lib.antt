@@ -3,5 +3,5 @@ pub mod Values
 pub mod CompositeLists
 pub mod Packing
 pub mod Keeping
-pub mod Keyed
+pub mod Keys
 pub mod Inside

@@ -2,28 +2,28 @@
 
 ghost use Rattle.std.specs.Prelude.{◌≡◌, ◌<◌, ◌≤◌, [], ◌∷◌, ◌++◌, IsPermutation, OnErr, OnOk, get_or, length};
 ghost use Rattle.execution.specs.Lists.{Rises};
-ghost use Rattle.execution.specs.RowOrder.{NotAfter, ranked_by};
+ghost use Rattle.execution.specs.RowOrder.{NotAfter};
 ghost use Rattle.plans.specs.Plans.{order_of};
 ghost use Rattle.composite_sorts.specs.Keeping.{room_of, rows_of};
 ghost use Rattle.composite_sorts.specs.Packing.{packed};
 ghost use Rattle.composite_sorts.specs.Values.{value_in_packed};
 
+use crate::keyed::Keyed;
 use crate::packing::packed;
-use crate::ranking::rank_of_packed;
+use crate::sorting::sort_packed;
 use path_runs::Source;
 use plans::SortKey;
 use std::alloc::{AllocError, Global};
-use std::cmp::Ordering;
 use table_sets::MAX_FROM_TABLES;
 
-/// The rows of so many tables, or fewer, of each composite.
+/// The rows of so many tables, or fewer, of each composite. With their keys those of one table or two take 16 bytes.
 #[derive(Drop)]
 pub(crate) enum Kept {
-    One(Vec<[u32; 1]>),
-    Two(Vec<[u32; 2]>),
-    Four(Vec<[u32; 4]>),
-    Eight(Vec<[u32; 8]>),
-    All(Vec<[u32; MAX_FROM_TABLES]>),
+    One(Vec<Keyed<1>>),
+    Two(Vec<Keyed<2>>),
+    Four(Vec<Keyed<4>>),
+    Eight(Vec<Keyed<8>>),
+    All(Vec<Keyed<MAX_FROM_TABLES>>),
 }
 
 impl Kept {
@@ -59,11 +59,11 @@ impl Kept {
         ensures { result.now ≡ get_or (rows_of self.now) place [] }
     {
         match self {
-            Kept::One(rows) => rows[place].as_slice(),
-            Kept::Two(rows) => rows[place].as_slice(),
-            Kept::Four(rows) => rows[place].as_slice(),
-            Kept::Eight(rows) => rows[place].as_slice(),
-            Kept::All(rows) => rows[place].as_slice(),
+            Kept::One(rows) => rows[place].rows.as_slice(),
+            Kept::Two(rows) => rows[place].rows.as_slice(),
+            Kept::Four(rows) => rows[place].rows.as_slice(),
+            Kept::Eight(rows) => rows[place].rows.as_slice(),
+            Kept::All(rows) => rows[place].rows.as_slice(),
         }
     }
 
@@ -75,11 +75,11 @@ impl Kept {
         ensures err { OnErr result (rows_of self.new ≡ rows_of self.old) }
     {
         match self {
-            Kept::One(rows) => rows.push(packed(members, composite))?,
-            Kept::Two(rows) => rows.push(packed(members, composite))?,
-            Kept::Four(rows) => rows.push(packed(members, composite))?,
-            Kept::Eight(rows) => rows.push(packed(members, composite))?,
-            Kept::All(rows) => rows.push(packed(members, composite))?,
+            Kept::One(rows) => rows.push(Keyed::new(packed(members, composite)))?,
+            Kept::Two(rows) => rows.push(Keyed::new(packed(members, composite)))?,
+            Kept::Four(rows) => rows.push(Keyed::new(packed(members, composite)))?,
+            Kept::Eight(rows) => rows.push(Keyed::new(packed(members, composite)))?,
+            Kept::All(rows) => rows.push(Keyed::new(packed(members, composite)))?,
         }
         Ok(())
     }
@@ -98,21 +98,4 @@ impl Kept {
             Kept::All(rows) => sort_packed(rows, source, order, members),
         }
     }
-}
-
-/// Puts packed rows in an order.
-fn sort_packed<const ROOM: usize>(
-    rows: &mut Vec<[u32; ROOM]>,
-    source: &Source<'_>,
-    order: &[SortKey],
-    members: &[usize],
-)
-    ensures permutation { IsPermutation rows.old.items rows.new.items }
-    ensures sorted { Rises (NotAfter (value_in_packed source.now members.now) (order_of order.now)) rows.new.items }
-{
-    rows.sort_unstable_by(
-        |a: &[u32; ROOM], b: &[u32; ROOM]| -> Ordering
-            ensures { result ≡ ranked_by (value_in_packed source.entry.now members.entry.now) (order_of order.entry.now) a.now b.now }
-        { rank_of_packed(source, order, members, a.as_slice(), b.as_slice()) },
-    );
 }

@@ -1,43 +1,76 @@
-//! Rows beside whole numbers that rank as their values do.
+//! Packed rows beside whole numbers that rank as values of theirs do.
 
-ghost use Rattle.std.specs.Prelude.{◌≡◌, IfOk, IfSome, IsPermutation, map};
+ghost use Rattle.std.specs.Prelude.{ℕ, ◌≡◌, IfSome, map, true};
 ghost use Rattle.bound.specs.Bound.{column_of};
 ghost use Rattle.sqlvalue.specs.Meaning.{value_of};
-ghost use Rattle.composite_sorts.specs.Keyed.{HasKey, IsKeyed, IsSortedFrom, row_of_pair};
+ghost use Rattle.composite_sorts.specs.Keys.{packed_in, HasKey, HaveKeys};
 
+use crate::packing::row_in;
 use bound::BlockColumn;
 use path_runs::Source;
 use sqlvalue::Value;
-use std::alloc::{AllocError, Global};
+
+/// The rows of some tables, and what they are sorted by first.
+#[derive(Clone, Copy)]
+pub(crate) struct Keyed<const ROOM: usize> {
+    pub key: i64,
+    pub rows: [u32; ROOM],
+}
+
+impl<const ROOM: usize> Keyed<ROOM> {
+    /// Rows that have no key yet.
+    pub fn new(rows: [u32; ROOM]) -> Keyed<ROOM>
+        ensures { result.rows ≡ rows.entry }
+    {
+        Keyed { key: 0, rows }
+    }
+
+    /// The same rows with a key.
+    fn with_key(self, key: i64) -> Keyed<ROOM>
+        ensures key { result.key ≡ key }
+        ensures rows { result.rows ≡ self.entry.rows }
+    {
+        let rows = self.rows;
+        Keyed { key, rows }
+    }
+}
+
+/// Gives all rows their keys in a column: whether each value there has one.
+pub(crate) fn give_keys<const ROOM: usize>(
+    keyed: &mut Vec<Keyed<ROOM>>,
+    source: &Source<'_>,
+    column: BlockColumn,
+    members: &[usize],
+) -> bool
+    ensures same { map packed_in keyed.new.items ≡ map packed_in keyed.old.items }
+    ensures keys { result ≡ true → (scale : ℕ) × HaveKeys source.now members.now (column_of column) scale keyed.new.items }
+{
+    let scale = scale_in(keyed, source, column, members);
+    'places: for place in 0..keyed.len() {
+        let packed = keyed[place];
+        let row = row_in(members, packed.rows.as_slice(), column.table);
+        match key_of(&source.cell(column, row as usize), scale) {
+            Some(key) => keyed[place] = packed.with_key(key),
+            None => return false,
+        }
+    }
+    true
+}
 
 /// The scale of the first number that rows have in a column.
-pub(crate) fn scale_in(source: &Source<'_>, column: BlockColumn, rows: &[u32]) -> u8 {
-    'rows: for row in rows {
-        if let Value::Num(number) = source.cell(column, *row as usize) {
+fn scale_in<const ROOM: usize>(
+    keyed: &[Keyed<ROOM>],
+    source: &Source<'_>,
+    column: BlockColumn,
+    members: &[usize],
+) -> u8 {
+    'rows: for packed in keyed {
+        let row = row_in(members, packed.rows.as_slice(), column.table);
+        if let Value::Num(number) = source.cell(column, row as usize) {
             return number.scale;
         }
     }
     0
-}
-
-/// Each row beside its key, where all values in the column have one.
-pub(crate) fn keyed_rows(
-    alloc: Global,
-    source: &Source<'_>,
-    column: BlockColumn,
-    scale: u8,
-    rows: &[u32],
-) -> Result<Option<Vec<(i64, u32)>>, AllocError>
-    ensures { IfOk result (λ found. IfSome found (λ keyed. IsKeyed source.now (column_of column) scale rows.now keyed.items)) }
-{
-    let mut keyed = Vec::with_capacity(alloc, rows.len())?;
-    'rows: for row in rows {
-        match key_of(&source.cell(column, *row as usize), scale) {
-            Some(key) => keyed.push((key, *row))?,
-            None => return Ok(None),
-        }
-    }
-    Ok(Some(keyed))
 }
 
 /// The key of a null, or of a number of a scale: its units, where they are not too many. That of a null is before all others.
@@ -51,17 +84,5 @@ fn key_of(value: &Value, scale: u8) -> Option<i64>
             _ => None,
         },
         _ => None,
-    }
-}
-
-/// Puts rows in the order of their keys, in place.
-pub(crate) fn sort_by_keys(mut keyed: Vec<(i64, u32)>, rows: &mut Vec<u32>)
-    requires { map row_of_pair keyed.items ≡ rows.old.items }
-    ensures permutation { IsPermutation rows.old.items rows.new.items }
-    ensures sorted { IsSortedFrom keyed.items rows.new.items }
-{
-    keyed.sort_unstable_by_key(|pair| pair.0);
-    'places: for place in 0..keyed.len() {
-        rows[place] = keyed[place].1;
     }
 }

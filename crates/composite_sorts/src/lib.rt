@@ -7,6 +7,7 @@ mod list;
 mod packing;
 mod ranking;
 mod rows;
+mod sorting;
 
 pub use list::Composites;
 pub use rows::sort_rows;

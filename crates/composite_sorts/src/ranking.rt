@@ -1,29 +1,43 @@
 //! How rows and composites rank by keys.
 
 ghost use Rattle.std.specs.Prelude.{◌≡◌};
-ghost use Rattle.definitions.specs.Plans.Order.{ascending};
 ghost use Rattle.definitions.specs.Queries.Outcomes.{directed};
 ghost use Rattle.definitions.specs.Value as spec;
 ghost use Rattle.sqlvalue.specs.Meaning.{value_of};
-ghost use Rattle.bound.specs.Bound.{column_of};
 ghost use Rattle.execution.specs.RowOrder.{ranked_by};
 ghost use Rattle.plans.specs.Plans.{order_of};
-ghost use Rattle.composite_sorts.specs.Values.{value_in_packed, value_in_row};
+ghost use Rattle.composite_sorts.specs.Keys.{ranked_by_keys};
+ghost use Rattle.composite_sorts.specs.Values.{value_in_packed};
 
+use crate::keyed::Keyed;
 use crate::packing::row_in;
-use bound::BlockColumn;
 use path_runs::Source;
 use plans::SortKey;
 use sqlvalue::{Value, rank};
 use std::cmp::Ordering;
 
-/// How two rows of a column's table rank by the column, ascending.
-pub(crate) fn rank_of_rows(source: &Source<'_>, column: BlockColumn, a: u32, b: u32) -> Ordering
-    ensures { result ≡ ranked_by (value_in_row source.now) (ascending (column_of column)) a b }
+/// How packed rows rank by the keys of an order, where the first of these is told apart by what stands beside them.
+pub(crate) fn rank_of_keyed<const ROOM: usize>(
+    source: &Source<'_>,
+    order: &[SortKey],
+    members: &[usize],
+    a: &Keyed<ROOM>,
+    b: &Keyed<ROOM>,
+) -> Ordering
+    ensures { result ≡ ranked_by_keys (value_in_packed source.now members.now) (order_of order.now) a.now b.now }
 {
-    rank_of_values(
-        &source.cell(column, a as usize),
-        &source.cell(column, b as usize),
+    let Some((first, others)) = order.split_first() else {
+        return Ordering::Equal;
+    };
+    if a.key != b.key {
+        return directed(a.key.cmp(&b.key), first.descending);
+    }
+    rank_of_packed(
+        source,
+        others,
+        members,
+        a.rows.as_slice(),
+        b.rows.as_slice(),
     )
 }
 
