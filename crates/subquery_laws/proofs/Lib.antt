@@ -1,0 +1,17 @@
+pub mod Elements
+pub mod Sight
+pub mod BlockSight
+pub mod Blocks
+pub mod Working
+pub mod Steps
+pub mod Arranged
+pub mod Standing
+pub mod Plain
+pub mod Kept
+pub mod Strict
+pub mod Trying
+pub mod Exists
+pub mod Taking
+pub mod Told
+pub mod Late
+pub mod Counting

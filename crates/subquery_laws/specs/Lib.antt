@@ -1,0 +1,12 @@
+pub mod Parameters
+pub mod Totals
+pub mod Told
+pub mod Laws
+pub mod Steps
+pub mod Standing
+pub mod Plain
+pub mod Kept
+pub mod Strict
+pub mod Exists
+pub mod Taking
+pub mod Trying
