@@ -3,7 +3,7 @@
 
 usage: broken_cases.py PROGRAM
 
-The program is that of crates/sqlr_cases. It runs a case as it stands, and then with another output,
+The program is that of crates/cases_scripts. It runs a case as it stands, and then with another output,
 message or status, cut short, empty, not there, and malformed in each way; a line tells of each, and the
 status is 1 where one isn't told as it should be.
 """

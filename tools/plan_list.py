@@ -1,8 +1,8 @@
 #!/usr/bin/env python3
 """Lists small plans of small query blocks and what each of them comes to, by the rules of plans written out plainly here.
 
-The program crates/plan_list asks the optimiser's crates for the same, and the gate compares what it prints with the file
-crates/plan_list/stdout, which is this script's output:
+The program crates/cases_plans asks the optimiser's crates for the same, and the gate compares what it prints with the file
+crates/cases_plans/stdout, which is this script's output:
 
     tools/plan_list.py            prints the list
     tools/plan_list.py --check    compares it with the file; the status is 1 where they differ
@@ -20,7 +20,7 @@ import sys
 from dataclasses import dataclass
 from enum import IntEnum
 
-LISTED = pathlib.Path(__file__).resolve().parent.parent / "crates/plan_list/stdout"
+LISTED = pathlib.Path(__file__).resolve().parent.parent / "crates/cases_plans/stdout"
 LIMIT = 10**18
 MILLION = 10**6
 PAGE_BYTES = 4096
@@ -611,7 +611,7 @@ def main():
         return
     if LISTED.read_text() != text:
         sys.exit(f"{LISTED} is not what tools/plan_list.py lists")
-    print(f"{LISTED.name} of plan_list has the {text.count(chr(10))} lines of tools/plan_list.py")
+    print(f"{LISTED.name} of cases_plans has the {text.count(chr(10))} lines of tools/plan_list.py")
 
 
 if __name__ == "__main__":

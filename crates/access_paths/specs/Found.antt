@@ -7,8 +7,8 @@ use Rattle.definitions.specs.Queries.BoundBlock.{Block}
 use Rattle.definitions.specs.Estimates.BlockTables.{is_within, index_at}
 use Rattle.definitions.specs.Estimates.Cardinality.{path_rows}
 use Rattle.definitions.specs.Estimates.PathCost.{path_cost}
-use Rattle.plans.specs.Plans.{path_of}
-use Rattle.table_sets.specs.Sets.{set_of}
+use Rattle.plan_tree.specs.Plans.{path_of}
+use Rattle.plan_tree.specs.Sets.{set_of}
 use Rattle.access_paths.specs.Scans.{ScanCost, scan_cost_of, cost_with}
 use Rattle.access_paths.specs.declared.paths.TablePath.{TablePath}
 

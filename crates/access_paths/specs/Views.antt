@@ -1,5 +1,5 @@
 -- What the bounds, matches and chains of this crate stand for.
-use Rattle.table_sets.specs.Sets.{set_of}
+use Rattle.plan_tree.specs.Sets.{set_of}
 use Rattle.access_paths.specs.Bounds as b
 use Rattle.access_paths.specs.Matches as m
 use Rattle.access_paths.specs.declared.bounds.Bound.{Bound}

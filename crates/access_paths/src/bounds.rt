@@ -3,17 +3,17 @@
 ghost use Rattle.std.specs.Prelude.{◌≡◌, ◌∷◌, [], option_map};
 ghost use Rattle.definitions.specs.Queries.Conjuncts.{tables_in, tables_named};
 ghost use Rattle.definitions.specs.Estimates.Paths as paths;
-ghost use Rattle.bound.specs.Bound.{column_of, condition_of, value_of};
+ghost use Rattle.query_tree.specs.Bound.{column_of, condition_of, value_of};
 ghost use Rattle.conjuncts.specs.Naming.{AreFew, NamesFew};
 ghost use Rattle.sqlvalue.specs.Meaning.{op_of};
-ghost use Rattle.table_sets.specs.Sets.{set_of};
+ghost use Rattle.plan_tree.specs.Sets.{set_of};
 ghost use Rattle.access_paths.specs.Bounds as spec;
 ghost use Rattle.access_paths.specs.Views.{bound_told};
 
-use bound::{BlockColumn, Condition, ValueExpr};
 use conjuncts::value_tables;
+use plan_tree::TableSet;
+use query_tree::{BlockColumn, Condition, ValueExpr};
 use sqlvalue::Op;
-use table_sets::TableSet;
 
 /// A bound of a column's values: whether they are to be equal to a value, and the tables whose rows that is made of.
 #[derive(Clone, Copy)]

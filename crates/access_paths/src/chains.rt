@@ -3,17 +3,16 @@
 ghost use Rattle.std.specs.Prelude.{◌≡◌, ◌<◌, ◌≤◌, ◌++◌, IfOk, OnOk, length, map};
 ghost use Rattle.std.specs.List.{AllByRecursion};
 ghost use Rattle.definitions.specs.Limits.{most_index_columns, most_from_tables};
-ghost use Rattle.bound.specs.Bound.{block_of};
+ghost use Rattle.query_tree.specs.Bound.{block_of};
 ghost use Rattle.access_paths.specs.Matches as spec;
 ghost use Rattle.access_paths.specs.Views.{chain_told, match_told};
 
 use crate::matches::{ColumnMatch, column_matches};
 use arrayvec::ArrayVec;
-use bound::BlockColumn;
 use estimate::Estimate;
-use plans::MAX_MATCHED;
+use plan_tree::{MAX_MATCHED, TableSet};
+use query_tree::BlockColumn;
 use std::alloc::{AllocError, Global};
-use table_sets::TableSet;
 
 /// Conjuncts that match the first columns of an index in turn, one each; whether all say what their column equals; and the tables
 /// whose rows have to be known.

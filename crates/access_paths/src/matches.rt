@@ -2,15 +2,15 @@
 
 ghost use Rattle.std.specs.Prelude.{◌≡◌, ◌<◌, ◌∷◌, ◌++◌, [], IfOk, OnOk, filter_map, length, map, option_map};
 ghost use Rattle.definitions.specs.Queries.Conjuncts as queries;
-ghost use Rattle.bound.specs.Bound.{block_of, column_of};
+ghost use Rattle.query_tree.specs.Bound.{block_of, column_of};
 ghost use Rattle.access_paths.specs.Matches as spec;
 ghost use Rattle.access_paths.specs.Views.{match_told};
 
 use crate::bounds::bound_of;
-use bound::BlockColumn;
 use estimate::Estimate;
+use plan_tree::TableSet;
+use query_tree::BlockColumn;
 use std::alloc::{AllocError, Global};
-use table_sets::TableSet;
 
 /// A conjunct that matches a column once the rows of some tables are known, and whether it says what the column equals.
 #[derive(Clone, Copy)]

@@ -11,7 +11,7 @@ ghost use Rattle.definitions.specs.Estimates.BlockTables.{index_at, table_at};
 ghost use Rattle.definitions.specs.Estimates.Orders.{indexes_at};
 ghost use Rattle.definitions.specs.Estimates.Paths as spec;
 ghost use Rattle.definitions.specs.Estimates.Version.{Version, directions};
-ghost use Rattle.bound.specs.Bound.{block_of};
+ghost use Rattle.query_tree.specs.Bound.{block_of};
 ghost use Rattle.access_paths.specs.Found.{path_told, directions_with, open_paths, CostsAsPath, FoundPath, Reads};
 ghost use Rattle.access_paths.specs.Listing.{segment_found, whole_found, matching_found, scans_found, number_found};
 ghost use Rattle.access_paths.specs.Scans.{IsSizeOf};
@@ -21,9 +21,8 @@ ghost use Rattle.access_paths.specs.Views.{chain_told};
 use crate::chains::{Chain, index_chains};
 use crate::scans::{IndexSize, ScanCost};
 use estimate::Estimate;
-use plans::Path;
+use plan_tree::{Path, TableSet};
 use std::alloc::{AllocError, Global};
-use table_sets::TableSet;
 
 /// A path of a table, for every set of tables that has those whose rows it needs.
 #[derive(Drop)]

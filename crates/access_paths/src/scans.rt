@@ -10,14 +10,13 @@ ghost use Rattle.definitions.specs.Queries.Conjuncts as queries;
 ghost use Rattle.definitions.specs.Estimates.BlockTables.{table_at};
 ghost use Rattle.definitions.specs.Estimates.PathCost as costs;
 ghost use Rattle.definitions.specs.Estimates.PathCost.{buffer_pages};
-ghost use Rattle.bound.specs.Bound.{block_of};
+ghost use Rattle.query_tree.specs.Bound.{block_of};
 ghost use Rattle.access_paths.specs.Scans.{cost_with, matching_scan, scan_cost_of, whole_scan, IsSizeOf};
 ghost use Rattle.access_paths.specs.Views.{chain_told};
 
 use crate::chains::Chain;
 use catalog::{Index, Table};
-use estimate::{Estimate, saturated};
-use selectivity::{fraction, share};
+use estimate::{Estimate, fraction, saturated, share};
 
 /// Pages that the buffer holds, so that none is fetched twice (own).
 const BUFFER_PAGES: u64 = 64;

@@ -7,18 +7,18 @@ use Rattle.std.proofs.lemmas.List.{drop_more, drop_all}
 use Rattle.definitions.specs.Grammar.{operands}
 use Rattle.definitions.specs.Limits.{most_blocks}
 use Rattle.definitions.specs.Statement as spec
-use Rattle.trees.specs.Trees.{operand_of, operator_of, expr_of}
-use Rattle.trees.specs.declared.expr.Operand.{Operand}
-use Rattle.trees.proofs.Views.{of_operand}
-use Rattle.bound.specs.Bound.{operand_of as bound_operand_of, operator_of as bound_operator_of}
-use Rattle.bound.specs.declared.value.Operand.{Operand as BoundOperand}
-use Rattle.bound.proofs.Views.{of_operand as bound_operand}
+use Rattle.parse_tree.specs.Trees.{operand_of, operator_of, expr_of}
+use Rattle.parse_tree.specs.declared.expr.Operand.{Operand}
+use Rattle.parse_tree.proofs.Views.{of_operand}
+use Rattle.query_tree.specs.Bound.{operand_of as bound_operand_of, operator_of as bound_operator_of}
+use Rattle.query_tree.specs.declared.value.Operand.{Operand as BoundOperand}
+use Rattle.query_tree.proofs.Views.{of_operand as bound_operand}
 use Rattle.definitions.specs.Statement.{Expr, ColumnReference, Column, Numeral}
 use Rattle.definitions.specs.Table.{Database}
 use Rattle.definitions.specs.Binding.Scopes.{Scopes}
-use Rattle.bound.specs.Bound.{block_of, bound_function_of, value_of, value_type_of}
-use Rattle.bound.specs.declared.block.Block.{Block}
-use Rattle.bound.specs.declared.block.BoundFunction.{BoundFunction}
+use Rattle.query_tree.specs.Bound.{block_of, bound_function_of, value_of, value_type_of}
+use Rattle.query_tree.specs.declared.block.Block.{Block}
+use Rattle.query_tree.specs.declared.block.BoundFunction.{BoundFunction}
 use Rattle.query_rules.specs.declared.fault.QueryFault.{QueryFault}
 use Rattle.query_rules.specs.declared.fault.BindFault.{BindFault}
 use Rattle.query_rules.specs.declared.fault.BindFault.TheVariants as f
@@ -33,21 +33,21 @@ use Rattle.std.specs.Prelude.{Bool, true, false}
 use Rattle.definitions.specs.ValueType.{TextType}
 use Rattle.definitions.specs.Binding.BoundForm.{connected}
 use Rattle.definitions.specs.Queries.BoundBlock as b
-use Rattle.trees.specs.declared.leaf.LineOperator.{LineOperator}
-use Rattle.trees.specs.declared.leaf.LineOperator.TheVariants as o
-use Rattle.trees.specs.declared.expr.Expr.TheViews as v
-use Rattle.trees.proofs.Views.{of_line}
-use Rattle.bound.specs.declared.leaf.ValueType.TheVariants as bt
+use Rattle.parse_tree.specs.declared.leaf.LineOperator.{LineOperator}
+use Rattle.parse_tree.specs.declared.leaf.LineOperator.TheVariants as o
+use Rattle.parse_tree.specs.declared.expr.Expr.TheViews as v
+use Rattle.parse_tree.proofs.Views.{of_line}
+use Rattle.query_tree.specs.declared.leaf.ValueType.TheVariants as bt
 use Rattle.binder.specs.Meaning.{IsLine}
 use Rattle.definitions.specs.Grammar.{members}
 use Rattle.definitions.specs.Statement.{Members}
 use Rattle.definitions.specs.Binding.Faults.{member_count, is_logical}
-use Rattle.trees.specs.Trees.{member_of as tree_member_of}
-use Rattle.trees.specs.declared.expr.Expr.{Expr as TreeExpr}
-use Rattle.bound.specs.Bound.{condition_of, member_of, value_type_of}
-use Rattle.bound.specs.declared.condition.Condition.{Condition}
-use Rattle.bound.specs.declared.value.ValueExpr.{ValueExpr as BoundValue}
-use Rattle.bound.specs.declared.leaf.ValueType.{ValueType as BoundType}
+use Rattle.parse_tree.specs.Trees.{member_of as tree_member_of}
+use Rattle.parse_tree.specs.declared.expr.Expr.{Expr as TreeExpr}
+use Rattle.query_tree.specs.Bound.{condition_of, member_of, value_type_of}
+use Rattle.query_tree.specs.declared.condition.Condition.{Condition}
+use Rattle.query_tree.specs.declared.value.ValueExpr.{ValueExpr as BoundValue}
+use Rattle.query_tree.specs.declared.leaf.ValueType.{ValueType as BoundType}
 use Rattle.query_rules.proofs.Refused.{if_some}
 use Rattle.binder.proofs.Bundles.{fault_here}
 use Rattle.binder.proofs.Nodes.{binds_column}

@@ -10,14 +10,14 @@ use Rattle.definitions.specs.Binding.Scopes.{Scopes, scope_of, are_there}
 use Rattle.definitions.specs.Binding.Faults as fault
 use Rattle.definitions.specs.Binding.Faults.{BlockFaulty, list_of}
 use Rattle.definitions.specs.Queries.BoundBlock.{Blocks}
-use Rattle.bound.specs.declared.leaf.ValueType.{ValueType}
-use Rattle.bound.specs.declared.condition.Condition.{Condition}
-use Rattle.scopes.specs.Faults as source
-use Rattle.scopes.specs.Faults.{SourcesFaulty, source_refusal}
-use Rattle.scopes.specs.declared.fault.SourceFault.{SourceFault}
-use Rattle.trees.specs.Trees.{block_of, column_of, source_of}
-use Rattle.trees.specs.declared.expr.Block.{Block}
-use Rattle.trees.proofs.Views.{of_block}
+use Rattle.query_tree.specs.declared.leaf.ValueType.{ValueType}
+use Rattle.query_tree.specs.declared.condition.Condition.{Condition}
+use Rattle.query_rules.specs.Faults as source
+use Rattle.query_rules.specs.Faults.{SourcesFaulty, source_refusal}
+use Rattle.query_rules.specs.declared.scope_fault.SourceFault.{SourceFault}
+use Rattle.parse_tree.specs.Trees.{block_of, column_of, source_of}
+use Rattle.parse_tree.specs.declared.expr.Block.{Block}
+use Rattle.parse_tree.proofs.Views.{of_block}
 use Rattle.binder.specs.declared.block.Clauses.{Clauses}
 use Rattle.query_rules.specs.declared.clause.Clause.{Clause}
 use Rattle.query_rules.specs.declared.fault.BindFault.{BindFault}

@@ -11,10 +11,10 @@ use Rattle.definitions.specs.Binding.Scopes.{Scopes}
 use Rattle.definitions.specs.Binding.Parts.{PlacedBlock, is_function, parts, item_values, condition_values, list_blocks, condition_blocks}
 use Rattle.definitions.specs.Binding.Faults.{list_of, where_of, having_of, where_parts}
 use Rattle.definitions.specs.Queries.BoundBlock.{Blocks}
-use Rattle.trees.specs.Trees.{block_of, condition_of}
-use Rattle.trees.specs.Trees as tree
-use Rattle.trees.specs.declared.expr.Block.{Block}
-use Rattle.trees.proofs.Views.{of_block}
+use Rattle.parse_tree.specs.Trees.{block_of, condition_of}
+use Rattle.parse_tree.specs.Trees as tree
+use Rattle.parse_tree.specs.declared.expr.Block.{Block}
+use Rattle.parse_tree.proofs.Views.{of_block}
 use Rattle.query_rules.specs.Judging.{Place, InWhere, InShown, InArgument, is_where, takes_functions, Refuses, part, argument, inner, misplaced, misplaced_function, many, Progress, Adds}
 use Rattle.binder.specs.Blocks.{condition_parts, list_parts, BindsList, BindsOption, RefusesList, RefusesOption}
 use Rattle.binder.specs.Clauses.{BoundClauses, BindsClauses, RefusesClauses, in_where, in_shown, condition_for_item, value_for_condition}

@@ -20,10 +20,10 @@ use Rattle.definitions.specs.Binding.BoundForm.{after_items, bound_items, header
 use Rattle.definitions.specs.Binding.Faults.{is_condition}
 use Rattle.definitions.specs.Queries.BoundBlock as b
 use Rattle.query_rules.specs.Judging.{Place, Refuses, Progress, next_of, Adds, BindsValue, RefusesValue, IsFine}
-use Rattle.scopes.proofs.FoundColumns.{all_in, numbers, HasColumnIn}
-use Rattle.trees.specs.Trees.{expr_of, item_of, name_of}
-use Rattle.trees.specs.declared.expr.Item.{Item}
-use Rattle.trees.proofs.Views.{of_item}
+use Rattle.query_rules.proofs.ResolvedColumns.{all_in, numbers, HasColumnIn}
+use Rattle.parse_tree.specs.Trees.{expr_of, item_of, name_of}
+use Rattle.parse_tree.specs.declared.expr.Item.{Item}
+use Rattle.parse_tree.proofs.Views.{of_item}
 use Rattle.query_rules.specs.Leaves.{InSight}
 use Rattle.binder.specs.Blocks.{BindsList, RefusesList, IsOnly}
 use Rattle.query_rules.proofs.LeafParts.{has_fine}

@@ -14,7 +14,7 @@ use Rattle.definitions.specs.Binding.Parts.{parts, operand_parts, blocks_in, ope
 use Rattle.definitions.specs.Binding.BoundForm.{operator_of, connected, bound_operands, bound_parts}
 use Rattle.definitions.specs.Binding.Faults.{same, is_logical, is_condition, operands_are, SomeOperandIsText, IsGreat, HasGreatProduct}
 use Rattle.definitions.specs.Queries.BoundBlock as b
-use Rattle.bound.specs.Bound.{OperandTree, operands, conditions}
+use Rattle.query_tree.specs.Bound.{OperandTree, operands, conditions}
 use Rattle.query_rules.specs.Judging.{Place, PartFaulty, too_fine, mixed_kinds, wrong_operand, Refuses, Progress, next_of, Adds, BindsValue, BindsCondition, RefusesValue, RefusesCondition}
 use Rattle.binder.proofs.Bundles.{add_node, add_none, add_both, fault_here, fault_behind, fault_left, fault_right}
 use Rattle.binder.proofs.Nodes.{sound, no_text, next_after, blocks_after}

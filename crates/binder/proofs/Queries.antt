@@ -14,11 +14,11 @@ use Rattle.definitions.specs.Binding.BoundForm.{bound_block, bound_blocks, names
 use Rattle.definitions.specs.Binding.Faults as fault
 use Rattle.definitions.specs.Binding.Faults.{Faulty, IsAccepted, block_is_there, list_of}
 use Rattle.definitions.specs.Queries.BoundBlock as b
-use Rattle.bound.specs.Bound.{block_of, key_of}
-use Rattle.bound.specs.declared.block.Block.{Block}
-use Rattle.bound.specs.declared.block.Key.{Key}
-use Rattle.trees.specs.Trees.{key_of as tree_key_of}
-use Rattle.trees.specs.declared.statement.Key.{Key as TreeKey}
+use Rattle.query_tree.specs.Bound.{block_of, key_of}
+use Rattle.query_tree.specs.declared.block.Block.{Block}
+use Rattle.query_tree.specs.declared.block.Key.{Key}
+use Rattle.parse_tree.specs.Trees.{key_of as tree_key_of}
+use Rattle.parse_tree.specs.declared.statement.Key.{Key as TreeKey}
 use Rattle.query_rules.specs.declared.fault.BindFault.{BindFault}
 use Rattle.query_rules.specs.Judging.{BindsBlock, RefusesBlock}
 use Rattle.query_rules.specs.Keys.{header_of, names_by, bound_keys, SomeKeyIsUnknown, RefusesOrder}

@@ -3,10 +3,10 @@ use Rattle.std.proofs.Common.{◌≡◌, ◌∙◌, refl, sym, ap, ℕ, ◌+◌,
 use Rattle.std.proofs.lemmas.List.{append_assoc, drop_more, drop_all}
 use Rattle.definitions.specs.Binding.Scopes.{Found}
 use Rattle.definitions.specs.Queries.BoundBlock as b
-use Rattle.bound.specs.Bound.{item_of}
-use Rattle.bound.specs.declared.block.Item.{Item}
-use Rattle.scopes.specs.Meaning.{found_of}
-use Rattle.scopes.specs.declared.resolution.Found.{Found as FoundColumn}
+use Rattle.query_tree.specs.Bound.{item_of}
+use Rattle.query_tree.specs.declared.block.Item.{Item}
+use Rattle.query_rules.specs.ScopeRules.{found_of}
+use Rattle.query_rules.specs.declared.resolution.Found.{Found as FoundColumn}
 
 abbrev pub star_of : Found → b.Item
 star_of f = record { name = f.name; value = b.Column f.column f.type }

@@ -12,11 +12,11 @@ use Rattle.definitions.specs.Binding.Faults as fault
 use Rattle.definitions.specs.Binding.Faults.{IsGrouped}
 use Rattle.definitions.specs.Queries.BoundBlock as b
 use Rattle.definitions.specs.Queries.BoundBlock.{Blocks}
-use Rattle.trees.specs.Trees.{block_of, column_of, condition_of, list_of, source_of}
-use Rattle.trees.specs.declared.expr.Block.{Block}
-use Rattle.trees.proofs.Views.{of_block}
-use Rattle.bound.specs.Bound.{block_of as bound_block_of}
-use Rattle.bound.specs.declared.block.Block.{Block as BoundBlock}
+use Rattle.parse_tree.specs.Trees.{block_of, column_of, condition_of, list_of, source_of}
+use Rattle.parse_tree.specs.declared.expr.Block.{Block}
+use Rattle.parse_tree.proofs.Views.{of_block}
+use Rattle.query_tree.specs.Bound.{block_of as bound_block_of}
+use Rattle.query_tree.specs.declared.block.Block.{Block as BoundBlock}
 use Rattle.query_rules.specs.Leaves.{InSight}
 use Rattle.query_rules.specs.Judging.{BindsBlock, RefusesBlock}
 use Rattle.query_rules.specs.BlockLimits.{IsWithinLimits}

@@ -12,8 +12,8 @@ use Rattle.definitions.specs.Binding.Parts.{parts, item_values, condition_values
 use Rattle.definitions.specs.Binding.BoundForm.{after_condition, after_list, bound_option, select_items}
 use Rattle.definitions.specs.Binding.Faults.{is_condition}
 use Rattle.definitions.specs.Queries.BoundBlock as b
-use Rattle.bound.specs.Bound.{condition_of, item_of, value_type_of}
-use Rattle.bound.specs.declared.condition.Condition.{Condition}
+use Rattle.query_tree.specs.Bound.{condition_of, item_of, value_type_of}
+use Rattle.query_tree.specs.declared.condition.Condition.{Condition}
 use Rattle.query_rules.specs.declared.clause.Clause.{Clause}
 use Rattle.query_rules.specs.declared.fault.BindFault.{BindFault}
 use Rattle.binder.specs.declared.items.ResultColumns.{ResultColumns}

@@ -10,7 +10,7 @@ use Rattle.definitions.specs.Binding.Parts.{item_values, condition_values, list_
 use Rattle.definitions.specs.Binding.Faults.{is_condition, list_of, where_of, having_of, where_parts, shown_parts}
 use Rattle.definitions.specs.Queries.BoundBlock as b
 use Rattle.definitions.specs.Queries.BoundBlock.{Blocks, BoundFunction}
-use Rattle.bound.specs.Bound.{bound_function_of, condition_of, item_of, value_type_of}
+use Rattle.query_tree.specs.Bound.{bound_function_of, condition_of, item_of, value_type_of}
 use Rattle.binder.specs.declared.block.Clauses.{Clauses}
 use Rattle.query_rules.specs.declared.fault.BindFault.{BindFault}
 use Rattle.query_rules.specs.Judging.{Place, InWhere, Progress, Refuses}

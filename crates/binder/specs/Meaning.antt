@@ -4,21 +4,21 @@ use Rattle.std.specs.Global.{Vec, Box}
 use Rattle.std.specs.Prelude.{◌≡◌, Bool}
 use Rattle.definitions.specs.Binding.Faults.{is_logical}
 use Rattle.definitions.specs.Grammar.{operands}
-use Rattle.trees.specs.Trees.{operand_of}
-use Rattle.trees.specs.declared.expr.Expr.{Expr as Expr'}
-use Rattle.trees.specs.declared.expr.Operand.{Operand}
-use Rattle.trees.specs.declared.expr.Expr.TheViews as v
+use Rattle.parse_tree.specs.Trees.{operand_of}
+use Rattle.parse_tree.specs.declared.expr.Expr.{Expr as Expr'}
+use Rattle.parse_tree.specs.declared.expr.Operand.{Operand}
+use Rattle.parse_tree.specs.declared.expr.Expr.TheViews as v
 use Rattle.definitions.specs.Statement as t
 use Rattle.definitions.specs.Statement.{Expr, Members}
 use Rattle.definitions.specs.Table.{Database}
 use Rattle.definitions.specs.Binding.Scopes.{Scopes}
 use Rattle.definitions.specs.Queries.BoundBlock.{Blocks}
-use Rattle.bound.specs.Bound.{block_of, bound_function_of, condition_of, member_of, value_of, value_type_of}
-use Rattle.bound.specs.declared.block.Block.{Block}
-use Rattle.bound.specs.declared.block.BoundFunction.{BoundFunction}
-use Rattle.bound.specs.declared.condition.Condition.{Condition}
-use Rattle.bound.specs.declared.value.ValueExpr.{ValueExpr}
-use Rattle.bound.specs.declared.leaf.ValueType.{ValueType}
+use Rattle.query_tree.specs.Bound.{block_of, bound_function_of, condition_of, member_of, value_of, value_type_of}
+use Rattle.query_tree.specs.declared.block.Block.{Block}
+use Rattle.query_tree.specs.declared.block.BoundFunction.{BoundFunction}
+use Rattle.query_tree.specs.declared.condition.Condition.{Condition}
+use Rattle.query_tree.specs.declared.value.ValueExpr.{ValueExpr}
+use Rattle.query_tree.specs.declared.leaf.ValueType.{ValueType}
 use Rattle.query_rules.specs.declared.fault.BindFault.{BindFault}
 use Rattle.query_rules.specs.declared.clause.Clause.{Clause}
 use Rattle.query_rules.specs.declared.leaf.Typed.{Typed}

@@ -3,8 +3,8 @@
 ghost use Rattle.std.specs.Prelude.{◌≡◌, ◌≤◌, ◌<◌, IsTrue, length, map, slice_set};
 ghost use Rattle.query_rules.specs.Judging.{takes_functions};
 ghost use Rattle.definitions.specs.Limits.{most_blocks};
-ghost use Rattle.bound.specs.Bound.{block_of};
-ghost use Rattle.trees.specs.Trees.{block_of as query_of, condition_of as tree_condition_of};
+ghost use Rattle.query_tree.specs.Bound.{block_of};
+ghost use Rattle.parse_tree.specs.Trees.{block_of as query_of, condition_of as tree_condition_of};
 ghost use Rattle.binder.specs.Blocks.{OptionAnswer};
 ghost use Rattle.binder.specs.Clauses.{ClausesAnswer};
 ghost use Rattle.query_rules.specs.Leaves.{InSight};
@@ -13,14 +13,14 @@ ghost use Rattle.binder.specs.Meaning.{progress_of, BlockAnswer};
 
 use crate::condition::condition;
 use crate::items::{ResultColumns, result_columns};
-use bound::{Block, BoundFunction, Condition, Item, ValueType};
 use catalog::Database;
+use parse_tree::Expr;
 use query_rules::{
-    BindFault, Clause, Place, QueryFault, group_columns, is_grouped, judge_limits, shown_place,
+    BindFault, Clause, Place, QueryFault, Scopes, group_columns, is_grouped, judge_limits,
+    shown_place,
 };
-use scopes::Scopes;
+use query_tree::{Block, BoundFunction, Condition, Item, ValueType};
 use std::alloc::Global;
-use trees::Expr;
 
 /// How many blocks a query may have (own).
 pub const MAX_BLOCKS: usize = 32;
@@ -32,7 +32,7 @@ pub(crate) fn block<'d, 'q: 'd>(
     database: &'d Database,
     outer: &Scopes<'d>,
     blocks: &mut Vec<Block>,
-    query: &'q trees::Block,
+    query: &'q parse_tree::Block,
 ) -> Result<Option<ValueType>, BindFault<'q>>
     requires sight { InSight database.now outer.now }
     requires few { length blocks.old.items ≤ most_blocks }
@@ -111,7 +111,7 @@ fn bound_clauses<'d, 'q: 'd>(
     scopes: &Scopes<'d>,
     place: Place<'_>,
     blocks: &mut Vec<Block>,
-    query: &'q trees::Block,
+    query: &'q parse_tree::Block,
 ) -> Result<Clauses, BindFault<'q>>
     requires sight { InSight database.now scopes.now }
     requires shown { IsTrue (takes_functions (place_of place)) }

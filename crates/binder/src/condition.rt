@@ -6,15 +6,15 @@ ghost use Rattle.definitions.specs.Limits.{most_blocks};
 ghost use Rattle.definitions.specs.Statement.{Line};
 ghost use Rattle.definitions.specs.Binding.Faults.{is_logical};
 ghost use Rattle.definitions.specs.Queries.BoundBlock as spec;
-ghost use Rattle.bound.specs.Bound.{block_of};
-ghost use Rattle.trees.specs.Trees.{block_of as query_of, expr_of, member_of as tree_member_of, operand_of};
+ghost use Rattle.query_tree.specs.Bound.{block_of};
+ghost use Rattle.parse_tree.specs.Trees.{block_of as query_of, expr_of, member_of as tree_member_of, operand_of};
 ghost use Rattle.query_rules.specs.Leaves.{InSight};
 ghost use Rattle.binder.specs.Meaning.{IsLine, IsList, members_in, progress_of, ColumnAnswer, ConditionAnswer, MembersAnswer, QueryAnswer};
 
 use crate::value::value;
-use bound::{Block, BoundFunction, Condition, ValueExpr, ValueType};
+use parse_tree::{Expr, LineOperator, Operand};
 use query_rules::{BindFault, Clause, Place, QueryFault, are_logical, judge_kinds};
-use trees::{Expr, LineOperator, Operand};
+use query_tree::{Block, BoundFunction, Condition, ValueExpr, ValueType};
 
 /// How many members an IN list may have (own).
 pub const MAX_MEMBERS: usize = 256;
@@ -220,7 +220,7 @@ fn bound_members<'d, 'q: 'd>(
 pub(crate) fn column_of_query<'d, 'q: 'd>(
     clause: &Clause<'_, '_, 'd>,
     blocks: &mut Vec<Block>,
-    query: &'q trees::Block,
+    query: &'q parse_tree::Block,
 ) -> Result<(usize, ValueType), BindFault<'q>>
     requires sight { InSight clause.now.database.now clause.now.scopes.now }
     requires few { length blocks.old.items ≤ most_blocks }
@@ -237,7 +237,7 @@ pub(crate) fn column_of_query<'d, 'q: 'd>(
 fn inner_block<'d, 'q: 'd>(
     clause: &Clause<'_, '_, 'd>,
     blocks: &mut Vec<Block>,
-    query: &'q trees::Block,
+    query: &'q parse_tree::Block,
 ) -> Result<(usize, Option<ValueType>), BindFault<'q>>
     requires sight { InSight clause.now.database.now clause.now.scopes.now }
     requires few { length blocks.old.items ≤ most_blocks }

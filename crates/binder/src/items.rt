@@ -6,18 +6,17 @@ ghost use Rattle.definitions.specs.Table.{Database as Tables};
 ghost use Rattle.definitions.specs.Binding.BoundForm.{header_name, result_name, star_items};
 ghost use Rattle.definitions.specs.Binding.Scopes.{all_columns, own_scope};
 ghost use Rattle.definitions.specs.Binding.Types.{single_type};
-ghost use Rattle.bound.specs.Bound.{item_of, value_type_of};
-ghost use Rattle.trees.specs.Trees.{item_of as listed_item_of, list_of};
+ghost use Rattle.query_tree.specs.Bound.{item_of, value_type_of};
+ghost use Rattle.parse_tree.specs.Trees.{item_of as listed_item_of, list_of};
 ghost use Rattle.binder.specs.Blocks.{ListAnswer};
 ghost use Rattle.query_rules.specs.Leaves.{InSight};
 ghost use Rattle.binder.specs.Meaning.{progress_of};
 
 use crate::value::value;
-use bound::{Block, BoundFunction, Item, ValueExpr, ValueType};
-use query_rules::{BindFault, Clause};
-use scopes::Scopes;
+use parse_tree::{Expr, SelectList};
+use query_rules::{BindFault, Clause, Scopes};
+use query_tree::{Block, BoundFunction, Item, ValueExpr, ValueType};
 use std::alloc::{AllocError, Global};
-use trees::{Expr, SelectList};
 
 /// The result columns of a block, and the type of the only one if it is alone.
 #[derive(Drop)]
@@ -85,7 +84,7 @@ fn all_columns(alloc: Global, scopes: &Scopes) -> Result<ResultColumns, AllocErr
 }
 
 /// The name of the result column of a number in the header: its AS name, that of a plain column, or one by the number.
-fn header_name(alloc: Global, item: &trees::Item, number: usize) -> Result<String, AllocError>
+fn header_name(alloc: Global, item: &parse_tree::Item, number: usize) -> Result<String, AllocError>
     ensures { IfOk result (λ name. string_bytes name ≡ header_name number (result_name (listed_item_of item.now).value (listed_item_of item.now).alias)) }
 {
     match (&item.alias, &item.value) {

@@ -4,17 +4,16 @@ ghost use Rattle.std.specs.Prelude.{[], IfOk, IfErr, IfSome, map};
 ghost use Rattle.definitions.specs.Invariant.{IsDatabase};
 ghost use Rattle.definitions.specs.Binding.Faults.{Binds, Faulty};
 ghost use Rattle.definitions.specs.Binding.Formed.{AreFormed, AreWritten};
-ghost use Rattle.bound.specs.Bound.{block_of};
-ghost use Rattle.trees.specs.Trees.{select_of};
+ghost use Rattle.query_tree.specs.Bound.{block_of};
+ghost use Rattle.parse_tree.specs.Trees.{select_of};
 ghost use Rattle.query_rules.specs.Meaning.{bind_refusal};
 
 use crate::block::block;
-use bound::Block;
 use catalog::Database;
-use query_rules::{BindFault, bound_order};
-use scopes::Scopes;
+use parse_tree::Select;
+use query_rules::{BindFault, Scopes, bound_order};
+use query_tree::Block;
 use std::alloc::Global;
-use trees::Select;
 
 /// The blocks of a query, with its names bound in a database: the outermost first, the others in the order of their words SELECT.
 /// Or a fault that the query has: of several any one may be told.

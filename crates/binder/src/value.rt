@@ -7,21 +7,21 @@ ghost use Rattle.definitions.specs.Statement.{Function, Line};
 ghost use Rattle.definitions.specs.Binding.Faults.{is_logical};
 ghost use Rattle.definitions.specs.Queries.BoundBlock.{Blocks, SetValue};
 ghost use Rattle.definitions.specs.Refusal as refusal;
-ghost use Rattle.bound.specs.Bound.{bound_function_of, value_of, value_type_of};
-ghost use Rattle.trees.specs.Trees.{expr_of, function_of, operand_of};
+ghost use Rattle.query_tree.specs.Bound.{bound_function_of, value_of, value_type_of};
+ghost use Rattle.parse_tree.specs.Trees.{expr_of, function_of, operand_of};
 ghost use Rattle.query_rules.specs.Judging.{takes_functions};
 ghost use Rattle.query_rules.specs.Leaves.{InSight};
 ghost use Rattle.binder.specs.Meaning.{IsLine, progress_of, ValueAnswer};
 ghost use Rattle.query_rules.specs.Meaning.{place_of, query_refusal};
 
 use crate::condition::column_of_query;
-use bound::{Block, BoundFunction, Operand as BoundOperand, ValueExpr, ValueType};
+use parse_tree::{Expr, Operand, SetFunction};
 use query_rules::{
     BindFault, Clause, Place, QueryFault, Typed, are_logical, column, function_type, joined_scale,
     number, number_scale, operator, string,
 };
+use query_tree::{Block, BoundFunction, Operand as BoundOperand, ValueExpr, ValueType};
 use std::alloc::AllocError;
-use trees::{Expr, Operand, SetFunction};
 
 /// A value (ISO/IEC 9075:1992, 6.11), its blocks and set functions behind those before.
 #[cycle(binding)]

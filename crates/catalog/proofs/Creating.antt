@@ -18,9 +18,9 @@ use Rattle.definitions.specs.Lists.{AnyOf}
 use Rattle.definitions.specs.Invariant.{IsDatabase}
 use Rattle.definitions.proofs.Changes.{made_database}
 use Rattle.loading.specs.Stored.{StoredColumn, AreFilled, headers}
-use Rattle.table_indexes.specs.Indexes.{StoredIndex, IsIndexOn}
-use Rattle.trees.specs.Trees.{name_of, constraint_of, definition_of, definitions_of}
-use Rattle.trees.specs.declared.statement.ColumnDefinition.{ColumnDefinition}
+use Rattle.indexes.specs.Indexes.{StoredIndex, IsIndexOn}
+use Rattle.parse_tree.specs.Trees.{name_of, constraint_of, definition_of, definitions_of}
+use Rattle.parse_tree.specs.declared.statement.ColumnDefinition.{ColumnDefinition}
 use Rattle.catalog.specs.Creates.{AreJudged, AreTypes, RefusesTypes, RefusesDefinitions, empty_column, without_rows}
 use Rattle.catalog.specs.Growth.{AreOrdered, IsOrdered}
 use Rattle.catalog.specs.Meaning.{create_refusal}

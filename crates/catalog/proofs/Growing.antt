@@ -22,9 +22,9 @@ use Rattle.loading.specs.declared.pushed.Stop.TheVariants as stop
 use Rattle.loading.specs.declared.fault.RefusedRecord.{RefusedRecord}
 use Rattle.loading.proofs.Rows.{length-rows_of}
 use Rattle.loading.proofs.Loading.{grows, extends_rows}
-use Rattle.table_indexes.specs.Indexes.{StoredIndex, IsBeginning}
-use Rattle.table_indexes.specs.Extension.{IsBeginningOf, AreExtended, AreOnce, RepeatsIn, IsFirstRepeat, row_of}
-use Rattle.table_indexes.specs.declared.extension.RepeatedRow.{RepeatedRow}
+use Rattle.indexes.specs.Indexes.{StoredIndex, IsBeginning}
+use Rattle.indexes.specs.Extension.{IsBeginningOf, AreExtended, AreOnce, RepeatsIn, IsFirstRepeat, row_of}
+use Rattle.indexes.specs.declared.extension.RepeatedRow.{RepeatedRow}
 use Rattle.catalog.specs.Growth.{IsOf, IsOrdered, AreOrdered, Grows, row_before, TellsRepeated}
 use Rattle.catalog.specs.Loads.{RefusesTable}
 use Rattle.catalog.specs.declared.growth.Grown.{Grown}

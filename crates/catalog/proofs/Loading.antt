@@ -8,11 +8,11 @@ use Rattle.definitions.specs.Key.{Key, key_of, value_at, repeats, comes_again, A
 use Rattle.definitions.specs.Loading as load
 use Rattle.definitions.specs.Loading.{Record, AreFileRecords, RecordReads, RecordLoads, AllRead, AllLoad, LoadsUpTo, FirstFaulty, FillsUp, repeats_key}
 use Rattle.definitions.proofs.Repeats.{repeats_neither}
-use Rattle.table_indexes.specs.Indexes.{StoredIndex}
-use Rattle.table_indexes.specs.Extension.{AreOnce, IsFirstRepeat, RefusesExtension}
-use Rattle.table_indexes.specs.declared.extension.RepeatedRow.{RepeatedRow}
-use Rattle.table_indexes.specs.declared.extension.ExtendFault.{ExtendFault}
-use Rattle.table_indexes.specs.declared.extension.ExtendFault.TheVariants as e
+use Rattle.indexes.specs.Indexes.{StoredIndex}
+use Rattle.indexes.specs.Extension.{AreOnce, IsFirstRepeat, RefusesExtension}
+use Rattle.indexes.specs.declared.extension.RepeatedRow.{RepeatedRow}
+use Rattle.indexes.specs.declared.extension.ExtendFault.{ExtendFault}
+use Rattle.indexes.specs.declared.extension.ExtendFault.TheVariants as e
 
 -- ---- unique keys
 

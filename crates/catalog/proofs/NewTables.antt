@@ -9,7 +9,7 @@ use Rattle.definitions.specs.Change.{column_of, key_indexes, new_table}
 use Rattle.definitions.specs.Invariant.{IsTable}
 use Rattle.definitions.proofs.Counting.{new_is_table}
 use Rattle.loading.specs.Stored.{StoredColumn, headers}
-use Rattle.table_indexes.specs.Indexes.{StoredIndex}
+use Rattle.indexes.specs.Indexes.{StoredIndex}
 use Rattle.catalog.specs.Creates.{AreJudged, AreTypes, empty_column, without_rows}
 use Rattle.catalog.specs.Tables.{table_of}
 use Rattle.catalog.proofs.Creating.{empty_headers}

@@ -8,7 +8,7 @@ use Rattle.definitions.specs.Table.{Column, Table, TableFigures}
 use Rattle.definitions.specs.Scanning.{part_of}
 use Rattle.loading.specs.Stored.{StoredColumn, AreFilled, headers}
 use Rattle.loading.proofs.Rows.{length-rows_of, filled_at, cell_in_rows, column_values, rows_as_long}
-use Rattle.table_indexes.specs.Indexes.{StoredIndex}
+use Rattle.indexes.specs.Indexes.{StoredIndex}
 use Rattle.catalog.specs.Meaning.{cell_at, cells_in}
 use Rattle.catalog.specs.Growth.{IsOf}
 use Rattle.catalog.specs.Tables.{table_of}

@@ -12,7 +12,7 @@ use Rattle.definitions.specs.Change.{with_index_figures, first_type, FiguresKept
 use Rattle.definitions.specs.Invariant.{AreApart, IsRange, IsTable, type_at}
 use Rattle.definitions.proofs.Changes.{numbers_found, kept_range, index_set_is_table}
 use Rattle.loading.specs.Stored.{StoredColumn, headers, rows_of}
-use Rattle.table_indexes.specs.Indexes.{StoredIndex}
+use Rattle.indexes.specs.Indexes.{StoredIndex}
 use Rattle.catalog.specs.Figures.{IsGiven, RefusesGiven}
 use Rattle.catalog.specs.Changes.{SetsIndex, RefusesFigures}
 use Rattle.catalog.specs.declared.fault.FiguresFault.{FiguresFault}

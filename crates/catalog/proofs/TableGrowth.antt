@@ -16,8 +16,8 @@ use Rattle.loading.specs.Stored.{StoredColumn, AreFilled, Extends, cut_to, heade
 use Rattle.loading.proofs.Pushing.{cut_long, cut_same}
 use Rattle.loading.specs.Stored as stored
 use Rattle.loading.proofs.Loading.{grows}
-use Rattle.table_indexes.specs.Indexes.{StoredIndex, AreIndexColumns, IsIndexOn}
-use Rattle.table_indexes.specs.Extension.{AreExtended}
+use Rattle.indexes.specs.Indexes.{StoredIndex, AreIndexColumns, IsIndexOn}
+use Rattle.indexes.specs.Extension.{AreExtended}
 use Rattle.catalog.specs.Growth.{IsOf, IsOrdered, AreOrdered, Grows}
 use Rattle.catalog.specs.Loads.{LoadsTable, RefusesTable}
 use Rattle.catalog.specs.declared.fault.LoadFault.{LoadFault}

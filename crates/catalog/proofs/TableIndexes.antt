@@ -11,7 +11,7 @@ use Rattle.definitions.specs.Change.{with_index}
 use Rattle.definitions.specs.Invariant.{IsTable}
 use Rattle.definitions.proofs.Changes.{with_index_is_table, numbers_found}
 use Rattle.loading.specs.Stored.{StoredColumn, headers, rows_of}
-use Rattle.table_indexes.specs.Indexes.{StoredIndex, AreIndexColumns, IsIndexOn}
+use Rattle.indexes.specs.Indexes.{StoredIndex, AreIndexColumns, IsIndexOn}
 use Rattle.catalog.specs.Changes.{MayIndex, AddsIndex}
 use Rattle.catalog.specs.Growth.{IsOrdered, AreOrdered}
 use Rattle.catalog.specs.Tables.{table_of}

@@ -7,9 +7,9 @@ use Rattle.definitions.specs.Key.{key_of, AreUnique}
 use Rattle.definitions.specs.IndexRun.{IsRun}
 use Rattle.definitions.specs.Loading.{Record, AreFileRecords, AllLoad}
 use Rattle.loading.specs.Stored.{StoredColumn, headers, rows_of, with_rows}
-use Rattle.table_indexes.specs.Indexes.{StoredIndex, AreIndexColumns}
-use Rattle.table_indexes.specs.Extension.{AreExtended}
-use Rattle.table_indexes.specs.declared.extension.RepeatedRow.{RepeatedRow}
+use Rattle.indexes.specs.Indexes.{StoredIndex, AreIndexColumns}
+use Rattle.indexes.specs.Extension.{AreExtended}
+use Rattle.indexes.specs.declared.extension.RepeatedRow.{RepeatedRow}
 use Rattle.catalog.specs.declared.growth.Grown.{Grown}
 use Rattle.catalog.specs.declared.fault.LoadFault.{LoadFault}
 use Rattle.catalog.specs.declared.fault.LoadFault.TheVariants as l

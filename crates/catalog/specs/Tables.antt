@@ -8,8 +8,8 @@ use Rattle.definitions.specs.Key.{key_of}
 use Rattle.definitions.specs.IndexRun.{IsRun}
 use Rattle.definitions.specs.Invariant.{IsTable}
 use Rattle.loading.specs.Stored.{StoredColumn, AreFilled, headers, rows_of}
-use Rattle.table_indexes.specs.Indexes.{StoredIndex}
-use Rattle.table_indexes.specs.Meaning.{table_figures_of}
+use Rattle.indexes.specs.Indexes.{StoredIndex}
+use Rattle.indexes.specs.Meaning.{table_figures_of}
 use Rattle.catalog.specs.Growth.{AreOrdered}
 use Rattle.catalog.specs.declared.table.Table.TheInside.{Inside}
 

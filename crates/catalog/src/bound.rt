@@ -7,15 +7,15 @@ ghost use Rattle.definitions.specs.IndexFaults.{Falls, NeverKept};
 ghost use Rattle.definitions.specs.Invariant.{IsCount, IsPageCount};
 ghost use Rattle.definitions.specs.Table as table;
 ghost use Rattle.sqlvalue.specs.Meaning.{type_of};
-ghost use Rattle.table_indexes.specs.Meaning.{index_figures_of, key_range_of};
-ghost use Rattle.trees.specs.Trees.{bound_of, range_of, figures_of};
+ghost use Rattle.indexes.specs.Meaning.{index_figures_of, key_range_of};
+ghost use Rattle.parse_tree.specs.Trees.{bound_of, range_of, figures_of};
 ghost use Rattle.catalog.specs.Figures.{IsGiven, RefusesGiven, RefusesRange};
 
 use crate::fault::{FiguresFault, RangeEnd};
+use indexes::{IndexFigures, KeyRange};
 use loading::{WrittenNumber, units_in};
+use parse_tree::{Bound, Range};
 use sqlvalue::SqlType;
-use table_indexes::{IndexFigures, KeyRange};
-use trees::{Bound, Range};
 
 /// The greatest figure that SET STATISTICS may give (own).
 pub const MAX_FIGURE: u128 = 1_000_000_000_000_000_000;
@@ -48,7 +48,7 @@ pub(crate) fn page_count(given: u128) -> Option<u64>
 
 /// The figures as they are kept for an index whose first column is of a type.
 pub(crate) fn kept_figures(
-    given: &trees::IndexFigures,
+    given: &parse_tree::IndexFigures,
     sql_type: SqlType,
 ) -> Result<IndexFigures, FiguresFault>
     requires { spec.IsType (type_of sql_type) }

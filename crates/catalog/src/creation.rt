@@ -9,8 +9,8 @@ ghost use Rattle.definitions.specs.Value.{IsType};
 ghost use Rattle.definitions.specs.Change.{key_indexes as indexes_of_keys};
 ghost use Rattle.definitions.specs.Faults.{count_of};
 ghost use Rattle.loading.specs.Stored.{headers, AreFilled};
-ghost use Rattle.table_indexes.specs.Indexes.{StoredIndex, IsIndexOn};
-ghost use Rattle.trees.specs.Trees.{constraint_of, definitions_of};
+ghost use Rattle.indexes.specs.Indexes.{StoredIndex, IsIndexOn};
+ghost use Rattle.parse_tree.specs.Trees.{constraint_of, definitions_of};
 ghost use Rattle.catalog.specs.Creates.{AreJudged, AreTypes, RefusesDefinitions, RefusesTypes, empty_column, without_rows};
 ghost use Rattle.catalog.specs.Growth.{AreOrdered};
 
@@ -18,11 +18,10 @@ use crate::database::MAX_COLUMNS;
 use crate::fault::CreateFault;
 use crate::naming::second_twin;
 use crate::table::MAX_INDEXES;
-use indexes::UniqueFault;
+use indexes::{Index, UniqueFault};
 use loading::Column;
+use parse_tree::{ColumnDefinition, Constraint};
 use std::alloc::Global;
-use table_indexes::Index;
-use trees::{ColumnDefinition, Constraint};
 
 /// Judges definitions by their number, their names and their constraints.
 pub(crate) fn judge_definitions(definitions: &[ColumnDefinition]) -> Result<(), CreateFault>

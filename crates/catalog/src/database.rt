@@ -8,7 +8,7 @@ ghost use Rattle.definitions.specs.Table.{table_named};
 ghost use Rattle.definitions.specs.Invariant as invariant;
 ghost use Rattle.definitions.specs.Change.{Makes};
 ghost use Rattle.definitions.specs.Faults.{Faulty, IsAccepted};
-ghost use Rattle.trees.specs.Trees.{name_of, definitions_of, figures_of};
+ghost use Rattle.parse_tree.specs.Trees.{name_of, definitions_of, figures_of};
 ghost use Rattle.catalog.specs.Meaning.{create_refusal, table_figures_refusal, figures_refusal};
 ghost use Rattle.catalog.specs.Changes.{RefusesIndex};
 ghost use Rattle.catalog.specs.Loads.{LoadsNamed, RefusesNamed};
@@ -18,9 +18,9 @@ use crate::fault::{
     CreateFault, FiguresFault, IndexFault, ListFault, LoadFault, TableFiguresFault,
 };
 use crate::table::Table;
+use parse_tree::{ColumnDefinition, Name};
 use std::alloc::Global;
 use std::marker::Model;
-use trees::{ColumnDefinition, Name};
 
 /// How many tables a database may have (own).
 pub const MAX_TABLES: usize = 256;
@@ -141,7 +141,7 @@ impl Database {
         &mut self,
         table: &str,
         columns: &[Name],
-        figures: &trees::IndexFigures,
+        figures: &parse_tree::IndexFigures,
     ) -> Result<(), FiguresFault>
         ensures accepted { OnOk result (IsAccepted self.old (SetIndex table.now (map name_of columns.now) (figures_of figures.now))) }
         ensures made { OnOk result (Makes self.old (SetIndex table.now (map name_of columns.now) (figures_of figures.now)) self.new) }

@@ -1,7 +1,7 @@
 //! Why a statement on the catalogue is refused.
 
 ghost use Rattle.std.specs.Prelude.{◌≡◌, option_map};
-ghost use Rattle.refusals.specs.Meaning.{refusal_of};
+ghost use Rattle.sqlvalue.specs.RefusalMeaning.{refusal_of};
 ghost use Rattle.catalog.specs.Meaning.{create_refusal, list_refusal, index_refusal, table_figures_refusal, figures_refusal};
 ghost use Rattle.catalog.specs.declared.fault.CreateFault.TheVariants as create;
 ghost use Rattle.catalog.specs.declared.fault.ListFault.TheVariants as list;
@@ -9,8 +9,7 @@ ghost use Rattle.catalog.specs.declared.fault.IndexFault.TheVariants as index;
 
 use indexes::RepeatedKey;
 use loading::RefusedRecord;
-use refusals::Refusal;
-use sqlvalue::TypeFault;
+use sqlvalue::{Refusal, TypeFault};
 use std::alloc::{AllocError, AllocFailed};
 use thiserror::Error;
 

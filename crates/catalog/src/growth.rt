@@ -10,9 +10,9 @@ ghost use Rattle.catalog.specs.Loads.{RefusesTable};
 
 use crate::fault::{EarlierRow, LoadFault, RepeatedRecord};
 use crate::table::MAX_ROWS;
+use indexes::{ExtendFault, Index, RepeatedRow, extended};
 use loading::{Column, Pushed, RecordStart, Stop, push_records, record_start};
 use std::alloc::Global;
-use table_indexes::{ExtendFault, Index, RepeatedRow, extended};
 
 /// What LOAD makes of a table: how many rows came, and its indexes with them.
 #[derive(Drop)]

@@ -16,8 +16,7 @@ pub use fault::{
     CreateFault, EarlierRow, FiguresFault, IndexFault, ListFault, LoadFault, RangeEnd,
     RepeatedRecord, TableFiguresFault,
 };
-pub use indexes::RepeatedKey;
+pub use indexes::{Index, IndexFigures, KeyRange, RepeatedKey, TableFigures};
 pub use loading::{RecordFault, RefusedRecord};
 pub use naming::MAX_INDEX_COLUMNS;
 pub use table::{MAX_INDEXES, MAX_ROWS, Table};
-pub use table_indexes::{Index, IndexFigures, KeyRange, TableFigures};

@@ -4,14 +4,14 @@ ghost use Rattle.std.specs.Prelude.{◌≡◌, ◌<◌, ◌≤◌, ◌∷◌, �
 ghost use Rattle.std.specs.List.{list_any, AllByRecursion};
 ghost use Rattle.definitions.specs.Limits.{most_index_columns};
 ghost use Rattle.definitions.specs.Table.{AreDistinct, column_number, column_numbers};
-ghost use Rattle.trees.specs.Trees.{name_of};
+ghost use Rattle.parse_tree.specs.Trees.{name_of};
 ghost use Rattle.loading.specs.Stored.{headers};
 ghost use Rattle.catalog.specs.Lists.{RefusesList};
 
 use crate::fault::ListFault;
 use loading::Column;
+use parse_tree::{ColumnDefinition, Name};
 use std::alloc::Global;
-use trees::{ColumnDefinition, Name};
 
 /// How many columns an index may have (own).
 pub const MAX_INDEX_COLUMNS: usize = 4;

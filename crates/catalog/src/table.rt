@@ -17,13 +17,12 @@ use crate::creation::{key_indexes, new_columns};
 use crate::fault::{CreateFault, FiguresFault, IndexFault, LoadFault, TableFiguresFault};
 use crate::growth::{Grown, grow};
 use crate::naming::{number_of, numbers, second_twin};
-use indexes::UniqueFault;
+use indexes::{Index, TableFigures, UniqueFault, row_width};
 use loading::{Column, cut_columns};
+use parse_tree::{ColumnDefinition, Constraint, Name};
 use sqlvalue::{Op, SqlType, Value};
 use std::alloc::Global;
 use std::marker::Model;
-use table_indexes::{Index, TableFigures, row_width};
-use trees::{ColumnDefinition, Constraint, Name};
 
 /// How many rows a table may have (own).
 pub const MAX_ROWS: usize = 100_000_000;
@@ -60,9 +59,9 @@ impl Table {
     ghost use Rattle.catalog.specs.Loads.{LoadsTable, RefusesTable};
     ghost use Rattle.catalog.specs.Changes.{AddsIndex, MayIndex, RefusesNewIndex, SetsIndex, RefusesFigures, RefusesTableFigures};
     ghost use Rattle.catalog.specs.Tables.{IsIndexRun};
-    ghost use Rattle.table_indexes.specs.Indexes.{StoredIndex, AreIndexColumns};
-    ghost use Rattle.table_indexes.specs.Meaning.{table_figures_of};
-    ghost use Rattle.trees.specs.Trees.{constraint_of, name_of, definitions_of, figures_of};
+    ghost use Rattle.indexes.specs.Indexes.{StoredIndex, AreIndexColumns};
+    ghost use Rattle.indexes.specs.Meaning.{table_figures_of};
+    ghost use Rattle.parse_tree.specs.Trees.{constraint_of, name_of, definitions_of, figures_of};
 
     /// A table without rows.
     pub(crate) fn new(
@@ -315,7 +314,7 @@ impl Table {
         &mut self,
         alloc: Global,
         names: &[Name],
-        given: &trees::IndexFigures,
+        given: &parse_tree::IndexFigures,
     ) -> Result<(), FiguresFault>
         ensures ok { OnOk result (SetsIndex self.old (map name_of names.now) (figures_of given.now) self.new) }
         ensures refused { IfErr result (RefusesFigures self.old (map name_of names.now) (figures_of given.now)) }

@@ -9,7 +9,7 @@ use Rattle.definitions.specs.Plans.Certificate.{Certificate, bound}
 use Rattle.definitions.specs.Plans.Checking.{AccessFails}
 use Rattle.definitions.specs.Plans.Validity.{AccessesHold}
 use Rattle.definitions.proofs.PlanTheory.Orders.{folds_once}
-use Rattle.block_paths.specs.Item.{Item, AreItems}
+use Rattle.plan_space.specs.Item.{Item, AreItems}
 use Rattle.plan_space.proofs.PathItems.{IsPathItem, found_item}
 use Rattle.cert_check.specs.Checks.{AccessesHoldOf, AccessHolds}
 

@@ -11,9 +11,9 @@ use Rattle.definitions.specs.Plans.Folding.{Folds}
 use Rattle.definitions.specs.Plans.Certificate.{Certificate, IsListed, bound}
 use Rattle.definitions.specs.Plans.Validity.{JoinsHold}
 use Rattle.definitions.proofs.PlanTheory.Orders.{folds_once}
-use Rattle.block_paths.specs.Item.{Item, AreItems}
-use Rattle.block_merges.specs.Merge.{Merge, AreMerges, IsMerge}
-use Rattle.order_uses.specs.Merges.{GoesBy}
+use Rattle.plan_space.specs.Item.{Item, AreItems}
+use Rattle.plan_space.specs.Merge.{Merge, AreMerges, IsMerge}
+use Rattle.interesting_orders.specs.Merges.{GoesBy}
 use Rattle.cert_check.specs.Checks.{LoopLeadsBelow, LoopStays, MergeLeadsBelow, MergeStays, JoinFailsBy, JoinFails}
 use Rattle.plan_space.proofs.Lists.{has_each}
 use Rattle.plan_space.proofs.Merging.{can_merge, is_merge, goes_by}

@@ -9,10 +9,10 @@ use Rattle.definitions.specs.Plans.Space.{Space, whole}
 use Rattle.definitions.specs.Plans.Certificate.{StateCost, Lists, IsListed, bound, IsCertificate}
 use Rattle.definitions.specs.Plans.Cost.{limit}
 use Rattle.definitions.proofs.PlanTheory.Exactness.{listed_cost}
-use Rattle.certificate.specs.declared.states.State.{State}
-use Rattle.certificate.specs.declared.states.Certificate.{Certificate as Code}
-use Rattle.certificate.specs.Certificates.{state_of, certificate_of}
-use Rattle.certificate.proofs.Mapped.{at_place, place_of}
+use Rattle.plan_tree.specs.declared.states.State.{State}
+use Rattle.plan_tree.specs.declared.states.Certificate.{Certificate as Code}
+use Rattle.plan_tree.specs.Certificates.{state_of, certificate_of}
+use Rattle.plan_tree.proofs.Mapped.{at_place, place_of}
 
 module _ (c : Code) (items : List State) (same : items ≡ c.states.items) where
   pub listed : (s : State) (i : ℕ) → s ≡ get_or items i s → i < length items → Lists (certificate_of c).states (state_of s).tables s.order s.cost

@@ -9,7 +9,7 @@ use Rattle.definitions.specs.Plans.Certificate.{Certificate, IsListed, bound}
 use Rattle.definitions.specs.Plans.Validity.{SortsHold}
 use Rattle.definitions.specs.Plans.Checking.{SortFails}
 use Rattle.definitions.proofs.PlanTheory.Orders.{folds_once}
-use Rattle.order_uses.specs.Sorts.{AreSorts}
+use Rattle.interesting_orders.specs.Sorts.{AreSorts}
 use Rattle.plan_space.proofs.Lists.{has_each}
 use Rattle.cert_check.specs.Checks.{SortStays}
 use Rattle.cert_check.proofs.JoinRule.{not_both, not_less}

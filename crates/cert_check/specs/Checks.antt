@@ -8,9 +8,9 @@ use Rattle.definitions.specs.Plans.ColumnClass.{Satisfies}
 use Rattle.definitions.specs.Plans.PlanSpace.{IsPath}
 use Rattle.definitions.specs.Plans.Folding.{Folds}
 use Rattle.definitions.specs.Plans.Certificate.{Certificate, bound, IsListed}
-use Rattle.block_paths.specs.Item.{Item}
-use Rattle.block_merges.specs.Merge.{Merge, IsMerge}
-use Rattle.order_uses.specs.Merges.{GoesBy}
+use Rattle.plan_space.specs.Item.{Item}
+use Rattle.plan_space.specs.Merge.{Merge, IsMerge}
+use Rattle.interesting_orders.specs.Merges.{GoesBy}
 use Rattle.definitions.specs.Plans.Plan.{Inner}
 use Rattle.definitions.specs.Plans.PlanSpace.{CanLoop, CanMerge}
 use Rattle.definitions.specs.Plans.Cost.{saturated, loop_cost, merge_cost}

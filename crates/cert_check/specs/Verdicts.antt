@@ -1,6 +1,6 @@
 -- What the verdicts of this crate stand for.
 use Rattle.definitions.specs.Plans.Checking as plans
-use Rattle.table_sets.specs.Sets.{set_of}
+use Rattle.plan_tree.specs.Sets.{set_of}
 use Rattle.cert_check.specs.declared.verdict.Rule.{Rule}
 use Rattle.cert_check.specs.declared.verdict.Rule.TheVariants as rule
 use Rattle.cert_check.specs.declared.verdict.Verdict.{Verdict}

@@ -5,15 +5,14 @@ ghost use Rattle.definitions.specs.Limits.{most_from_tables};
 ghost use Rattle.definitions.specs.Plans.Certificate.{IsCertificate};
 ghost use Rattle.definitions.specs.Plans.Checking.{AccessFails};
 ghost use Rattle.definitions.specs.Plans.Validity.{AccessesHold};
-ghost use Rattle.table_sets.specs.Sets.{set_of};
-ghost use Rattle.certificate.specs.Certificates.{certificate_of};
+ghost use Rattle.plan_tree.specs.Sets.{set_of};
+ghost use Rattle.plan_tree.specs.Certificates.{certificate_of};
 ghost use Rattle.cert_check.specs.Checks.{AccessesHoldOf};
 ghost use Rattle.plan_space.specs.Planned.{space_in};
 
 use crate::verdict::Place;
-use certificate::Certificate;
 use plan_space::Space;
-use table_sets::TableSet;
+use plan_tree::{Certificate, TableSet};
 
 /// The first state at which an access costs less than its bound.
 pub(crate) fn access_failing(space: &Space<'_>, certificate: &Certificate) -> Option<Place>

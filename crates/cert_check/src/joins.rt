@@ -6,16 +6,16 @@ ghost use Rattle.definitions.specs.Limits.{most_from_tables};
 ghost use Rattle.definitions.specs.Plans.Certificate.{bound, IsCertificate, IsListed};
 ghost use Rattle.definitions.specs.Plans.Cost.{limit, saturated};
 ghost use Rattle.definitions.specs.Plans.Validity.{JoinsHold};
-ghost use Rattle.table_sets.specs.Sets.{set_of};
-ghost use Rattle.certificate.specs.Certificates.{certificate_of};
-ghost use Rattle.order_uses.specs.Merges.{GoesBy};
+ghost use Rattle.plan_tree.specs.Sets.{set_of};
+ghost use Rattle.plan_tree.specs.Certificates.{certificate_of};
+ghost use Rattle.interesting_orders.specs.Merges.{GoesBy};
 ghost use Rattle.cert_check.specs.Checks.{JoinFails, JoinFailsBy, LoopLeadsBelow, MergeLeadsBelow};
 ghost use Rattle.plan_space.specs.Planned.{space_in};
 
 use crate::verdict::Place;
-use certificate::{Certificate, State};
 use estimate::saturated;
 use plan_space::{MergeItem, Space};
+use plan_tree::{Certificate, State};
 
 /// The first listed state from which a join leads below the bound of the state that it reaches.
 pub(crate) fn join_failing(space: &Space<'_>, certificate: &Certificate) -> Option<Place>

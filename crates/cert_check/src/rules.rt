@@ -6,8 +6,8 @@ ghost use Rattle.definitions.specs.Plans.Checking.{IsVerdict};
 ghost use Rattle.definitions.specs.Plans.Plan as plan;
 ghost use Rattle.definitions.specs.Plans.PlanSpace.{InSpace};
 ghost use Rattle.definitions.specs.Plans.Validity.{IsMet};
-ghost use Rattle.plans.specs.Plans.{plan_of};
-ghost use Rattle.certificate.specs.Certificates.{certificate_of};
+ghost use Rattle.plan_tree.specs.Plans.{plan_of};
+ghost use Rattle.plan_tree.specs.Certificates.{certificate_of};
 ghost use Rattle.cert_check.specs.Verdicts.{verdict_of};
 ghost use Rattle.plan_space.specs.Planned.{space_in};
 
@@ -16,10 +16,8 @@ use crate::joins::join_failing;
 use crate::sorts::sort_failing;
 use crate::target::{final_order, is_met};
 use crate::verdict::{Place, Rule, Verdict};
-use certificate::Certificate;
 use plan_space::Space;
-use plans::Plan;
-use table_sets::TableSet;
+use plan_tree::{Certificate, Plan, TableSet};
 
 /// Whether a certificate shows that a plan is least; if not, the first rule that fails and a state where it does (own). It takes no
 /// memory, and looks at each step from each listed state once.

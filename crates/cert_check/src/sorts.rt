@@ -5,14 +5,14 @@ ghost use Rattle.std.specs.Bool.{Decides};
 ghost use Rattle.definitions.specs.Plans.Certificate.{bound, IsCertificate, IsListed};
 ghost use Rattle.definitions.specs.Plans.Checking.{SortFails};
 ghost use Rattle.definitions.specs.Plans.Validity.{SortsHold};
-ghost use Rattle.table_sets.specs.Sets.{set_of};
-ghost use Rattle.certificate.specs.Certificates.{certificate_of};
+ghost use Rattle.plan_tree.specs.Sets.{set_of};
+ghost use Rattle.plan_tree.specs.Certificates.{certificate_of};
 ghost use Rattle.plan_space.specs.Planned.{space_in};
 
 use crate::verdict::Place;
-use certificate::{Certificate, State};
 use estimate::saturated;
 use plan_space::Space;
+use plan_tree::{Certificate, State};
 
 /// The first listed state from which a sort leads below the bound of the state that it reaches.
 pub(crate) fn sort_failing(space: &Space<'_>, certificate: &Certificate) -> Option<Place>

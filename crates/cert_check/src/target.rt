@@ -4,16 +4,14 @@ ghost use Rattle.std.specs.Prelude.{◌≡◌, ◌<◌, MatchOption};
 ghost use Rattle.std.specs.Bool.{Decides};
 ghost use Rattle.definitions.specs.Plans.Space.{whole};
 ghost use Rattle.definitions.specs.Plans.Validity.{NoneFinal, IsMet};
-ghost use Rattle.plans.specs.Plans.{plan_of};
-ghost use Rattle.table_sets.specs.Sets.{set_of};
-ghost use Rattle.certificate.specs.Certificates.{certificate_of};
+ghost use Rattle.plan_tree.specs.Plans.{plan_of};
+ghost use Rattle.plan_tree.specs.Sets.{set_of};
+ghost use Rattle.plan_tree.specs.Certificates.{certificate_of};
 ghost use Rattle.cert_check.specs.Checks.{FinalAt, IsFinal};
 ghost use Rattle.plan_space.specs.Planned.{space_in};
 
-use certificate::{Certificate, State};
 use plan_space::Space;
-use plans::Plan;
-use table_sets::TableSet;
+use plan_tree::{Certificate, Plan, State, TableSet};
 
 /// The order of the first listed state of all tables that gives the required order.
 pub(crate) fn final_order(

@@ -1,6 +1,6 @@
 //! What a checker answers.
 
-use table_sets::TableSet;
+use plan_tree::TableSet;
 
 /// The rules by which a certificate shows that its plan is least (own).
 #[derive(Clone, Copy, Debug, PartialEq, Eq)]

@@ -1,2 +1,10 @@
-pub mod Mapped
-pub mod Placing
+mod SaidAndMeant
+mod Same
+mod Wholes
+mod Elements
+mod Alike
+mod Rising
+mod Over
+mod Read
+mod Columns
+mod Made

@@ -1,3 +1,6 @@
-pub use Rattle.definitions.specs.Plans.Certificate
-pub mod Preceding
-pub mod Certificates
+pub use Rattle.definitions.specs.Certificates
+pub use Rattle.definitions.specs.Certificates.Explaining
+pub mod Blocks
+pub mod Lines
+pub mod Reads
+pub mod Spaces

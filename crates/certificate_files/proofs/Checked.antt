@@ -3,8 +3,8 @@ use Rattle.std.proofs.Common.{◌≡◌, ◌∙◌, refl, sym, ap, ap₂, subst,
 use Rattle.std.specs.Prelude.{codes}
 use Rattle.std.specs.List.{AllByRecursion}
 use Rattle.std.proofs.lemmas.List.{append_assoc, drop-drop}
-use Rattle.bound.specs.Bound.{block_of}
-use Rattle.bound.specs.declared.block.Block as tree
+use Rattle.query_tree.specs.Bound.{block_of}
+use Rattle.query_tree.specs.declared.block.Block as tree
 use Rattle.definitions.specs.Limits.{most_blocks}
 use Rattle.definitions.specs.Printing.{line}
 use Rattle.definitions.specs.Table.{Database}

@@ -19,7 +19,7 @@ use Rattle.definitions.specs.Estimates.Orders.{indexes_at}
 use Rattle.definitions.specs.Estimates.Paths.{equals_at, matching, matching_lists, index_paths, paths_of}
 use Rattle.definitions.proofs.PlanTheory.Elements.{first_or_rest, not_in_empty}
 use Rattle.definitions.proofs.EstimateTheory.Members.{was_mapped, was_flattened}
-use Rattle.certificate_text.specs.Reads.{IsLongMatch, HasLongMatch}
+use Rattle.certificate.specs.Reads.{IsLongMatch, HasLongMatch}
 
 at_place : {X : Type 0} (P : X → Type 0) (xs : List X) (n : ℕ) (x : X) → AllByRecursion P xs → slice_get xs n ≡ Some x → P x
 at_place P [] n x h e = absurd cc

@@ -16,9 +16,9 @@ use Rattle.definitions.specs.Certificates.Explaining.{certified}
 use Rattle.definitions.specs.Certificates.Spelling.{Spells}
 use Rattle.definitions.specs.Certificates.Verdicts.{Told, Passes, FailsAt, IsFaulty, IsTold}
 use Rattle.definitions.proofs.CertificateTheory.Faults.{spelled_certificate}
-use Rattle.plans.specs.Plans.{plan_of}
-use Rattle.plans.specs.declared.plan.Plan.{Plan}
-use Rattle.certificate_text.specs.Reads.{PlanIsRead}
+use Rattle.plan_tree.specs.Plans.{plan_of}
+use Rattle.plan_tree.specs.declared.plan.Plan.{Plan}
+use Rattle.certificate.specs.Reads.{PlanIsRead}
 use Rattle.certificate_files.specs.Telling.{StandsFor, IsToldBy}
 use Rattle.certificate_files.proofs.LongMatches.{no_long_plan}
 

@@ -10,11 +10,11 @@ use Rattle.definitions.specs.Plans.Validity.{IsValid}
 use Rattle.definitions.specs.Plans.Checking.{Refused, IsVerdict}
 use Rattle.definitions.specs.Certificates.Fault.{Fault, BadForm, NoSuchNumber, BadStates}
 use Rattle.definitions.specs.Certificates.Verdicts as spec
-use Rattle.certificate_text.specs.declared.fault.TextFault.{TextFault}
-use Rattle.certificate_text.specs.declared.fault.TextFault.TheVariants as fault
+use Rattle.certificate.specs.declared.fault.TextFault.{TextFault}
+use Rattle.certificate.specs.declared.fault.TextFault.TheVariants as fault
 use Rattle.cert_check.specs.Verdicts.{rule_of}
-use Rattle.plans.specs.Plans.{plan_of}
-use Rattle.plans.specs.declared.plan.Plan.{Plan}
+use Rattle.plan_tree.specs.Plans.{plan_of}
+use Rattle.plan_tree.specs.declared.plan.Plan.{Plan}
 use Rattle.certificate_files.specs.declared.checking.FileEnded.{FileEnded}
 use Rattle.certificate_files.specs.declared.checking.FileEnded.TheVariants as ended
 use Rattle.certificate_files.specs.declared.telling.Told.{Told}

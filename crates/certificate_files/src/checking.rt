@@ -9,15 +9,15 @@ ghost use Rattle.definitions.specs.Estimates.Version.{current_version};
 ghost use Rattle.definitions.specs.Certificates.Explaining.{certified_from};
 ghost use Rattle.definitions.specs.Certificates.File.{lines_of};
 ghost use Rattle.definitions.specs.Certificates.Verdicts.{AreTold, both_ended, ended_of, rest_ended};
-ghost use Rattle.bound.specs.Bound.{block_of};
+ghost use Rattle.query_tree.specs.Bound.{block_of};
 ghost use Rattle.certificate_files.specs.Telling.{told_of, check_ended_of};
 
 use crate::cutting::{text_end, version_in};
 use crate::lines::{write_block, write_rest};
 use crate::telling::{Told, block_told};
-use bound::Block;
 use catalog::Database;
-use plan_orders::Version;
+use interesting_orders::Version;
+use query_tree::Block;
 use std::alloc::{AllocError, Global};
 
 /// What is told of a file of certificates (own).

@@ -7,7 +7,7 @@ mod lines;
 mod telling;
 
 pub use cert_check::{Place, Rule};
-pub use certificate_text::{BadState, Expected, Missing, TextFault, Word};
+pub use certificate::{BadState, Expected, Missing, TextFault, Word};
 pub use checking::{BlockTold, FileEnded, FileTold, check_file};
-pub use plan_orders::Version;
+pub use interesting_orders::Version;
 pub use telling::Told;

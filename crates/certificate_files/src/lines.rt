@@ -6,15 +6,15 @@ ghost use Rattle.definitions.specs.Certificates.File.{lines_of};
 ghost use Rattle.definitions.specs.Certificates.Verdicts.{told_text, rest_text, space_text};
 ghost use Rattle.definitions.specs.Certificates.Verdicts as verdicts;
 ghost use Rattle.cert_check.specs.Verdicts.{rule_of};
-ghost use Rattle.plan_orders.specs.Versions.{version_of};
+ghost use Rattle.interesting_orders.specs.Versions.{version_of};
 ghost use Rattle.certificate_files.specs.BlockLine.{told_line};
 ghost use Rattle.certificate_files.specs.Telling.{told_of, fault_of};
 
 use crate::telling::Told;
 use cert_check::Rule;
-use certificate_text::TextFault;
+use certificate::TextFault;
+use interesting_orders::Version;
 use itoa::Buffer;
-use plan_orders::Version;
 use std::alloc::AllocError;
 
 /// The line of the block of a number.

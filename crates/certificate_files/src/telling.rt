@@ -9,21 +9,20 @@ ghost use Rattle.definitions.specs.Plans.Plan as spec;
 ghost use Rattle.definitions.specs.Certificates.CertifiedBlock.{CertifiedBlock};
 ghost use Rattle.definitions.specs.Certificates.Explaining.{certified};
 ghost use Rattle.definitions.specs.Certificates.Verdicts.{IsTold};
-ghost use Rattle.bound.specs.Bound.{block_of};
-ghost use Rattle.certificate.specs.Certificates.{certificate_of};
-ghost use Rattle.certificate_text.specs.Reads.{HasTextFault};
+ghost use Rattle.query_tree.specs.Bound.{block_of};
+ghost use Rattle.plan_tree.specs.Certificates.{certificate_of};
+ghost use Rattle.certificate.specs.Reads.{HasTextFault};
 ghost use Rattle.cert_check.specs.Verdicts.{verdict_of};
-ghost use Rattle.plan_orders.specs.Versions.{version_of};
+ghost use Rattle.interesting_orders.specs.Versions.{version_of};
 ghost use Rattle.plan_space.specs.Planned.{space_in};
 ghost use Rattle.certificate_files.specs.Telling.{StandsFor, IsToldBy, IsOfText, told_of};
 
-use block_spaces::BlockSpace;
-use bound::Block;
 use catalog::Database;
 use cert_check::{Place, Rule, Verdict, check, check_outside};
-use certificate_text::{Spelled, TextFault, read_text};
-use plan_orders::Version;
+use certificate::{BlockSpace, Spelled, TextFault, read_text};
+use interesting_orders::Version;
 use plan_space::Space;
+use query_tree::Block;
 use std::alloc::{AllocError, Global};
 
 /// What is told of the text of a block (own).

@@ -10,11 +10,11 @@ use Rattle.std.proofs.Math.Nat.{pow-le-pow_right}
 use Rattle.definitions.specs.Plans.TableSet.{TableSet, only}
 use Rattle.definitions.specs.Queries.BoundBlock.{ValueExpr, Operand, Condition, Conditions}
 use Rattle.definitions.specs.Queries.Conjuncts.{values_of, values_of_parts, tables_named, operands_tables, tables_in, condition_tables, member_values}
-use Rattle.bound.specs.Bound.{condition_of, conditions, member_of, value_of, operand_of, operands, OperandTree}
-use Rattle.bound.specs.declared.condition.Condition.{Condition as Code}
-use Rattle.bound.specs.declared.value.ValueExpr.{ValueExpr as Value}
-use Rattle.bound.specs.declared.value.Operand.{Operand as Operand'}
-use Rattle.bound.proofs.Views.{of_operand}
+use Rattle.query_tree.specs.Bound.{condition_of, conditions, member_of, value_of, operand_of, operands, OperandTree}
+use Rattle.query_tree.specs.declared.condition.Condition.{Condition as Code}
+use Rattle.query_tree.specs.declared.value.ValueExpr.{ValueExpr as Value}
+use Rattle.query_tree.specs.declared.value.Operand.{Operand as Operand'}
+use Rattle.query_tree.proofs.Views.{of_operand}
 use Rattle.conjuncts.specs.Naming.{AreFew, NamesFew}
 
 -- ---- unions

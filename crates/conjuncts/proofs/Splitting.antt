@@ -4,12 +4,12 @@ use Rattle.std.specs.List.{AllByRecursion}
 use Rattle.std.proofs.lemmas.List.{drop_more, append_assoc}
 use Rattle.definitions.specs.Queries.BoundBlock as spec
 use Rattle.definitions.specs.Queries.Conjuncts.{conjuncts_of, conjuncts_of_parts}
-use Rattle.bound.specs.Bound.{condition_of, conditions, condition_layer}
-use Rattle.bound.specs.declared.condition.Condition.{Condition, out-Condition, roll-Condition, roll-out-Condition}
-use Rattle.bound.specs.declared.condition.Condition.TheOpen.{Condition-F}
-use Rattle.bound.specs.declared.condition.Condition.TheOpen as o
-use Rattle.bound.specs.declared.condition.Condition.TheVariants as w
-use Rattle.bound.specs.declared.condition.Condition.TheFolds as folds
+use Rattle.query_tree.specs.Bound.{condition_of, conditions, condition_layer}
+use Rattle.query_tree.specs.declared.condition.Condition.{Condition, out-Condition, roll-Condition, roll-out-Condition}
+use Rattle.query_tree.specs.declared.condition.Condition.TheOpen.{Condition-F}
+use Rattle.query_tree.specs.declared.condition.Condition.TheOpen as o
+use Rattle.query_tree.specs.declared.condition.Condition.TheVariants as w
+use Rattle.query_tree.specs.declared.condition.Condition.TheFolds as folds
 use Rattle.conjuncts.specs.Parts.{condition_in}
 use Rattle.conjuncts.specs.declared.split.Conjunct.{Conjunct}
 

@@ -2,8 +2,8 @@
 use Rattle.std.specs.Prelude.{◌≡◌}
 use Rattle.definitions.specs.Queries.BoundBlock as b
 use Rattle.definitions.specs.Queries.Conjuncts.{condition_tables, is_late}
-use Rattle.bound.specs.Bound.{condition_of}
-use Rattle.table_sets.specs.Sets.{set_of}
+use Rattle.query_tree.specs.Bound.{condition_of}
+use Rattle.plan_tree.specs.Sets.{set_of}
 use Rattle.conjuncts.specs.declared.split.Conjunct.{Conjunct}
 
 abbrev pub condition_in : Conjunct → b.Condition

@@ -3,15 +3,15 @@
 ghost use Rattle.std.specs.Prelude.{◌≡◌, ◌++◌, IfOk, IfSome, OnOk, map, option_map};
 ghost use Rattle.std.specs.List.{AllByRecursion};
 ghost use Rattle.definitions.specs.Queries.Conjuncts.{conjuncts_of, conjuncts_of_option};
-ghost use Rattle.bound.specs.Bound.{condition_of};
+ghost use Rattle.query_tree.specs.Bound.{condition_of};
 ghost use Rattle.conjuncts.specs.Naming.{NamesFew};
 ghost use Rattle.conjuncts.specs.Parts.{condition_in, HasItsTables, IsJudged};
 
 use crate::tables::condition_tables;
-use bound::Condition;
 use expr::condition_can_raise;
+use plan_tree::TableSet;
+use query_tree::Condition;
 use std::alloc::{AllocError, Global};
-use table_sets::TableSet;
 
 /// A conjunct: a part of WHERE that every row has to meet, and the tables of its block that it names. A late one can raise,
 /// or names no table, and is evaluated only where all early ones are true (own).

@@ -2,12 +2,12 @@
 
 ghost use Rattle.std.specs.Prelude.{◌≡◌, [], ◌∷◌, map};
 ghost use Rattle.definitions.specs.Queries.Conjuncts.{condition_tables as tables_of_condition, member_values, tables_in, tables_named};
-ghost use Rattle.bound.specs.Bound.{condition_of, member_of, value_of};
-ghost use Rattle.table_sets.specs.Sets.{set_of};
+ghost use Rattle.query_tree.specs.Bound.{condition_of, member_of, value_of};
+ghost use Rattle.plan_tree.specs.Sets.{set_of};
 ghost use Rattle.conjuncts.specs.Naming.{AreFew, NamesFew};
 
-use bound::{Condition, ValueExpr};
-use table_sets::TableSet;
+use plan_tree::TableSet;
+use query_tree::{Condition, ValueExpr};
 
 /// The tables of its block that a condition names (own).
 pub(crate) fn condition_tables(condition: &Condition) -> TableSet

@@ -1,4 +1,11 @@
+mod EitherOf
+mod Drawing
+mod OwnIndex
+mod Known
 pub mod Places
 mod Left
 pub mod Members
 mod Sizes
+mod LastTable
+mod Taking
+mod Made

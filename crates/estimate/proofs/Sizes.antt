@@ -6,7 +6,7 @@ use Rattle.definitions.specs.Table.{Table, Database}
 use Rattle.definitions.specs.Figures.{row_width}
 use Rattle.definitions.specs.Queries.BoundBlock.{Block}
 use Rattle.definitions.specs.Estimates.BlockTables.{figure_at, rows_at}
-use Rattle.selectivity.specs.Tables.{tables_of, AreTablesOf}
+use Rattle.estimate.specs.Tables.{tables_of, AreTablesOf}
 use Rattle.estimate.specs.Sizes.{Size, size_in, size_of_table, sizes_of}
 use Rattle.estimate.specs.declared.table_size.TableSize.{TableSize}
 

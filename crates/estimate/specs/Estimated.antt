@@ -3,7 +3,7 @@ use Rattle.std.specs.Prelude.{ℕ}
 use Rattle.definitions.specs.Table.{Database}
 use Rattle.definitions.specs.Queries.BoundBlock as spec
 use Rattle.definitions.specs.Binding.Formed.{IsFormedBlock}
-use Rattle.bound.specs.declared.block.Block.{Block}
+use Rattle.query_tree.specs.declared.block.Block.{Block}
 
 pub record Estimated : Type 0 where
   pub database : Database

@@ -4,9 +4,9 @@ use Rattle.std.specs.List.{AllByRecursion}
 use Rattle.definitions.specs.Limits.{most_from_tables}
 use Rattle.definitions.specs.Queries.Conjuncts as queries
 use Rattle.definitions.specs.Estimates.PlanConjuncts.{plan_conjuncts}
-use Rattle.bound.specs.Bound.{block_of}
+use Rattle.query_tree.specs.Bound.{block_of}
 use Rattle.conjuncts.specs.Naming.{NamesFew}
-use Rattle.selectivity.specs.Tables.{tables_of, AreTablesOf}
+use Rattle.estimate.specs.Tables.{tables_of, AreTablesOf}
 use Rattle.estimate.specs.Estimated.{Estimated}
 use Rattle.estimate.specs.PlanConjuncts.{condition_told, conjunct_of}
 use Rattle.estimate.specs.Sizes.{size_in, sizes_of}

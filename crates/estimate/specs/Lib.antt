@@ -1,7 +1,12 @@
 pub use Rattle.definitions.specs.Estimates
+pub mod Ranges
+pub mod Views
+pub mod Tables
 pub mod Estimated
 pub mod Columns
 pub mod PlanConjuncts
 pub mod Widths
 pub mod Sizes
 pub mod Inside
+pub mod Figures
+pub mod Sets

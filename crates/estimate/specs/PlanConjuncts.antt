@@ -4,9 +4,9 @@ use Rattle.definitions.specs.Plans.Conjunct as spec
 use Rattle.definitions.specs.Plans.TableSet.{TableSet, with_table}
 use Rattle.definitions.specs.Estimates.BlockTables.{has, is_within}
 use Rattle.definitions.specs.Queries.BoundBlock.{Condition}
-use Rattle.bound.specs.Bound.{condition_of}
+use Rattle.query_tree.specs.Bound.{condition_of}
 use Rattle.estimate.specs.Columns.{pair_of}
-use Rattle.table_sets.specs.Sets.{set_of}
+use Rattle.plan_tree.specs.Sets.{set_of}
 use Rattle.estimate.specs.declared.plan_conjunct.PlanConjunct.{PlanConjunct}
 
 abbrev pub conjunct_of : PlanConjunct → spec.Conjunct

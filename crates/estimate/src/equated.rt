@@ -3,10 +3,10 @@
 ghost use Rattle.std.specs.Prelude.{◌≡◌, option_map};
 ghost use Rattle.definitions.specs.Estimates.PlanConjuncts as spec;
 ghost use Rattle.definitions.specs.Estimates.Sides as sides;
-ghost use Rattle.bound.specs.Bound as bound;
+ghost use Rattle.query_tree.specs.Bound as bound;
 ghost use Rattle.estimate.specs.Columns.{pair_of};
 
-use bound::{BlockColumn, Condition, ValueExpr};
+use query_tree::{BlockColumn, Condition, ValueExpr};
 use sqlvalue::Op;
 
 /// The columns of `column = column`.

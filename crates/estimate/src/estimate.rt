@@ -8,10 +8,10 @@ ghost use Rattle.definitions.specs.Queries.Conjuncts as queries;
 ghost use Rattle.definitions.specs.Estimates.BlockTables.{table_at};
 ghost use Rattle.definitions.specs.Estimates.Cardinality as spec;
 ghost use Rattle.definitions.specs.Estimates.PlanConjuncts as plans;
-ghost use Rattle.bound.specs.Bound.{block_of};
+ghost use Rattle.query_tree.specs.Bound.{block_of};
 ghost use Rattle.conjuncts.specs.Naming.{NamesFew};
-ghost use Rattle.table_sets.specs.Sets.{set_of};
-ghost use Rattle.selectivity.specs.Tables.{tables_of, AreTablesOf};
+ghost use Rattle.plan_tree.specs.Sets.{set_of};
+ghost use Rattle.estimate.specs.Tables.{tables_of, AreTablesOf};
 ghost use Rattle.estimate.specs.Estimated.{IsFormed};
 ghost use Rattle.estimate.specs.PlanConjuncts.{condition_told, conjunct_of};
 
@@ -20,11 +20,11 @@ use crate::plan_conjunct::PlanConjunct;
 use crate::planning::plan_conjuncts;
 use crate::shares::{left_by_completed, left_by_known};
 use crate::table_size::TableSize;
-use bound::Block;
 use catalog::{Database, Table};
+use plan_tree::TableSet;
+use query_tree::Block;
 use std::alloc::{AllocError, Global};
 use std::marker::Model;
-use table_sets::TableSet;
 
 /// How many bytes a page has (own).
 const PAGE_BYTES: u128 = 4096;
@@ -41,7 +41,7 @@ pub struct Estimate<'a> {
 
 impl<'a> Model for Estimate<'a> {
     ghost use Rattle.std.specs.Coded.{codes};
-    ghost use Rattle.bound.specs.contracts.block.Block as b;
+    ghost use Rattle.query_tree.specs.contracts.block.Block as b;
     ghost use Rattle.estimate.specs.Estimated.{Estimated};
 
     ghost Value = { Estimated };

@@ -1,16 +1,28 @@
-//! What the rows of a block are taken to be: how many its tables give, what its conjuncts leave of them, and what a sort of them
-//! costs (Selinger et al. 1979, sections 4 and 5).
+//! What the rows of a block are taken to be: the shares that conditions leave of them, how many its tables and all sets of its
+//! tables give, and what a sort of them costs (Selinger et al. 1979, sections 4 and 5).
 #![tactic(auto)]
 
+mod column_keys;
+mod conditions;
 mod equated;
 mod estimate;
+mod fractions;
+mod key_ranges;
 mod limits;
 mod plan_conjunct;
 mod planning;
+mod selectivity_shares;
+mod set_estimate;
+mod set_estimates;
 mod shares;
+mod sides;
 mod table_size;
 
+pub use conditions::selectivity;
 pub use equated::column_of;
 pub use estimate::Estimate;
+pub use fractions::{MILLION, fraction, share};
 pub use limits::{LIMIT, saturated};
 pub use plan_conjunct::PlanConjunct;
+pub use selectivity_shares::one_key;
+pub use set_estimates::SetFigures;

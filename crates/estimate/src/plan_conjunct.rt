@@ -3,8 +3,8 @@
 ghost use Rattle.std.specs.Prelude.{◌≤◌};
 ghost use Rattle.definitions.specs.Estimates.Fractions.{million};
 
-use bound::{BlockColumn, Condition};
-use table_sets::TableSet;
+use plan_tree::TableSet;
+use query_tree::{BlockColumn, Condition};
 
 /// A conjunct of WHERE (Selinger et al. 1979, section 2: boolean factors).
 #[derive(Clone, Copy)]

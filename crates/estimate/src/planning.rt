@@ -5,18 +5,18 @@ ghost use Rattle.definitions.specs.Table.{Database};
 ghost use Rattle.definitions.specs.Estimates.PlanConjuncts as spec;
 ghost use Rattle.definitions.specs.Queries.BoundBlock.{Block};
 ghost use Rattle.definitions.specs.Queries.Conjuncts.{conjuncts_of_option};
-ghost use Rattle.bound.specs.Bound.{condition_of};
+ghost use Rattle.query_tree.specs.Bound.{condition_of};
 ghost use Rattle.conjuncts.specs.Naming.{NamesFew};
 ghost use Rattle.conjuncts.specs.Parts.{condition_in, HasItsTables, IsJudged};
-ghost use Rattle.selectivity.specs.Tables.{tables_of, AreTablesOf};
+ghost use Rattle.estimate.specs.Tables.{tables_of, AreTablesOf};
 ghost use Rattle.estimate.specs.PlanConjuncts.{condition_told, conjunct_of};
 
+use crate::conditions::selectivity;
 use crate::equated::equated_columns;
 use crate::plan_conjunct::PlanConjunct;
-use bound::Condition;
 use catalog::Table;
 use conjuncts::{Conjunct, conjuncts};
-use selectivity::selectivity;
+use query_tree::Condition;
 use std::alloc::{AllocError, Global};
 
 /// The conjuncts of a condition over the tables of a block, in text order.

@@ -5,12 +5,12 @@ ghost use Rattle.definitions.specs.Limits.{most_from_tables};
 ghost use Rattle.definitions.specs.Plans.Cost as cost;
 ghost use Rattle.definitions.specs.Estimates.Cardinality as spec;
 ghost use Rattle.definitions.specs.Estimates.Cardinality.{left_by};
-ghost use Rattle.table_sets.specs.Sets.{set_of};
+ghost use Rattle.plan_tree.specs.Sets.{set_of};
 ghost use Rattle.estimate.specs.PlanConjuncts.{conjunct_of, names_known};
 
+use crate::fractions::share;
 use crate::plan_conjunct::PlanConjunct;
-use selectivity::share;
-use table_sets::TableSet;
+use plan_tree::TableSet;
 
 /// What the conjuncts leave of some rows that a join with one more table completes: their tables are all there now, and were not
 /// before.

@@ -7,8 +7,8 @@ use Rattle.definitions.specs.Estimates.Laws.{HasPlans}
 use Rattle.definitions.specs.Estimates.Version as v
 use Rattle.definitions.specs.Queries.BoundBlock as spec
 use Rattle.definitions.proofs.EstimateTheory.FormedSpaces.{formed_has_plans}
-use Rattle.bound.specs.Bound.{block_of}
-use Rattle.bound.specs.declared.block.Block.{Block}
+use Rattle.query_tree.specs.Bound.{block_of}
+use Rattle.query_tree.specs.declared.block.Block.{Block}
 use Rattle.plan_space.specs.Planned.{Planned, space_in}
 
 of_formed : (db : Database) (block : spec.Block) → IsFormedSomewhere db block → HasPlans block

@@ -10,10 +10,10 @@ use Rattle.definitions.specs.Plans.Plan.{Plan, Access, Loop, Merge, Sort}
 use Rattle.definitions.specs.Plans.Space.{Space}
 use Rattle.definitions.specs.Queries.BoundBlock.{Block}
 use Rattle.definitions.specs.Queries.Combinations.{passing}
-use Rattle.execution.specs.Running.{work}
-use Rattle.execution.specs.Stored.{Stored}
-use Rattle.execution.specs.Total.{inner_work, no_work, subqueries, total_of, IsTotal}
-use Rattle.path_runs.specs.Sources.{Source, block_in, context_in, stored_in}
+use Rattle.definitions_execution.specs.Running.{work}
+use Rattle.definitions_execution.specs.Stored.{Stored}
+use Rattle.definitions_execution.specs.Total.{inner_work, no_work, subqueries, total_of, IsTotal}
+use Rattle.scans.specs.Sources.{Source, block_in, context_in, stored_in}
 
 stops_once : (n most : ℕ) → min (min n most) most ≡ min n most
 stops_once n most = omega arith

@@ -1,1 +1,7 @@
-pub use Rattle.execution.specs.Total
+pub use Rattle.definitions.specs.Queries.Answer
+pub use Rattle.definitions_execution.specs.Total
+pub use Rattle.definitions.specs.Certificates.Explaining
+pub mod Views
+pub mod Faults
+pub mod OneComposite
+pub mod Telling

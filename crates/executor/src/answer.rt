@@ -9,19 +9,19 @@ ghost use Rattle.definitions.specs.NotYet.{IsPlain};
 ghost use Rattle.definitions.specs.Plans.Least.{IsLeast};
 ghost use Rattle.definitions.specs.Queries.Outcomes.{names_of, shown, AllowedOf, Exception, Rows};
 ghost use Rattle.definitions.specs.Table.{Row};
-ghost use Rattle.bound.specs.Bound.{block_of};
-ghost use Rattle.plans.specs.Plans.{orders_in, plan_of};
-ghost use Rattle.execution.specs.Total.{IsTotal};
-ghost use Rattle.path_runs.specs.Sources.{block_in};
-ghost use Rattle.answers.specs.Faults.{IfRaised};
+ghost use Rattle.query_tree.specs.Bound.{block_of};
+ghost use Rattle.plan_tree.specs.Plans.{orders_in, plan_of};
+ghost use Rattle.definitions_execution.specs.Total.{IsTotal};
+ghost use Rattle.scans.specs.Sources.{block_in};
+ghost use Rattle.executor.specs.Faults.{IfRaised};
 
+use crate::fault::AnswerFault;
 use crate::planning::least_plan;
-use answers::AnswerFault;
-use bound::Block;
 use catalog::Database;
 use operators::open;
-use path_runs::{Outermost, Source};
-use plans::{Plan, SortKey};
+use plan_tree::{Plan, SortKey};
+use query_tree::Block;
+use scans::{Outermost, Source};
 use std::alloc::Global;
 
 /// What a block prints: the answer of a query of one block that is neither grouped nor DISTINCT nor ordered, by a least plan of it; and how
@@ -61,6 +61,6 @@ fn run<'s>(
     ensures raised { IfErr result (λ fault. IfRaised fault (λ raise. AllowedOf source.now.database (block_in source.now ∷ []) (Exception raise))) }
 {
     let mut line = open(alloc, source, orders, plan, &Outermost)?;
-    let text = answers::answer_text(alloc, source, block, &Outermost, &mut line)?;
+    let text = crate::answer_rows::answer_text(alloc, source, block, &Outermost, &mut line)?;
     Ok((text, line.opened()))
 }

@@ -5,16 +5,16 @@ ghost use Rattle.definitions.specs.Binding.Formed.{IsFormedSomewhere};
 ghost use Rattle.definitions.specs.Estimates.BlockSpace.{space_of};
 ghost use Rattle.definitions.specs.Estimates.Version.{current_version};
 ghost use Rattle.definitions.specs.Plans.Least.{IsLeast};
-ghost use Rattle.bound.specs.Bound.{block_of};
+ghost use Rattle.query_tree.specs.Bound.{block_of};
 ghost use Rattle.plan_space.specs.Planned.{space_in};
-ghost use Rattle.plans.specs.Plans.{plan_of};
+ghost use Rattle.plan_tree.specs.Plans.{plan_of};
 
-use bound::Block;
 use catalog::Database;
 use estimate::Estimate;
 use join_dp::optimise;
 use plan_space::{Space, Version};
-use plans::Plan;
+use plan_tree::Plan;
+use query_tree::Block;
 use std::alloc::{AllocError, Global};
 
 /// The plan space of a block, and a least plan in it (Selinger et al. 1979, section 5).

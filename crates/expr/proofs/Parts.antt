@@ -1,8 +1,8 @@
 -- The operands of one AND or OR.
 use Rattle.std.proofs.Common.{◌≡◌, ◌∙◌, refl, sym, ap, subst, ℕ, ◌+◌, ◌<◌, List, [], ◌∷◌, ◌++◌, Result, length, map, drop, get_or}
 use Rattle.std.proofs.lemmas.List.{drop_more}
-use Rattle.bound.specs.Bound.{condition_of, conditions}
-use Rattle.bound.specs.declared.condition.Condition.{Condition as Code}
+use Rattle.query_tree.specs.Bound.{condition_of, conditions}
+use Rattle.query_tree.specs.declared.condition.Condition.{Condition as Code}
 use Rattle.std.specs.List.{AllByRecursion}
 use Rattle.definitions.specs.Truth.{Truth, True, False, and, or, all_true, any_true}
 use Rattle.definitions.specs.Arithmetic.{Meaning, Is, Raises, Raise}

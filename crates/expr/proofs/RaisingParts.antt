@@ -5,11 +5,11 @@ use Rattle.std.specs.List.{list_any}
 use Rattle.definitions.specs.Queries.BoundBlock.{ValueExpr, Condition, Conditions, Part}
 use Rattle.definitions.specs.Queries.CanRaise.{can_raise}
 use Rattle.definitions.specs.Queries.Conjuncts.{values_of, values_of_parts, tested_blocks, tested_blocks_of_parts, is_empty, condition_can_raise, member_values}
-use Rattle.bound.specs.Bound.{condition_of, conditions, member_of}
-use Rattle.bound.specs.declared.condition.Condition.{Condition as Code}
-use Rattle.bound.specs.declared.condition.Condition.TheViews as views
-use Rattle.bound.specs.declared.value.ValueExpr.{ValueExpr as Value}
-use Rattle.bound.proofs.Views.{of_and, of_or}
+use Rattle.query_tree.specs.Bound.{condition_of, conditions, member_of}
+use Rattle.query_tree.specs.declared.condition.Condition.{Condition as Code}
+use Rattle.query_tree.specs.declared.condition.Condition.TheViews as views
+use Rattle.query_tree.specs.declared.value.ValueExpr.{ValueExpr as Value}
+use Rattle.query_tree.proofs.Views.{of_and, of_or}
 use Rattle.expr.proofs.Parts.{part_next}
 use Rattle.expr.proofs.Members.{member_next}
 

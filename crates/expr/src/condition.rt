@@ -11,7 +11,7 @@ ghost use Rattle.definitions.specs.Queries.Conjuncts.{member_values, values_of};
 ghost use Rattle.definitions.specs.Queries.Evaluation as meaning;
 ghost use Rattle.definitions.specs.Queries.Laws.{FitsTypes};
 ghost use Rattle.definitions.specs.Queries.Telling.{MayAnswer};
-ghost use Rattle.bound.specs.Bound.{condition_of, member_of};
+ghost use Rattle.query_tree.specs.Bound.{condition_of, member_of};
 ghost use Rattle.expr.specs.Answers.{answer_of, truth_answer_of, IsTyped};
 
 use crate::evaluation::value;
@@ -20,7 +20,7 @@ use crate::predicate::{
 };
 use crate::short::compared_in_short;
 use crate::surroundings::Surroundings;
-use bound::{Condition, Quantifier, ValueExpr};
+use query_tree::{Condition, Quantifier, ValueExpr};
 use sqlvalue::{Op, Raise, Tri, Value};
 
 /// The truth value of a condition, or what it raises first in text order: all parts are evaluated (own; ISO/IEC 9075:1992,

@@ -6,12 +6,12 @@ ghost use Rattle.definitions.specs.Queries.BoundTypes.{value_type};
 ghost use Rattle.definitions.specs.Queries.Evaluation as meaning;
 ghost use Rattle.definitions.specs.Queries.Laws.{FitsTypes};
 ghost use Rattle.definitions.specs.Queries.Telling.{MayAnswer};
-ghost use Rattle.bound.specs.Bound.{value_of as tree_of};
+ghost use Rattle.query_tree.specs.Bound.{value_of as tree_of};
 ghost use Rattle.expr.specs.Answers.{answer_of};
 
 use crate::operation::{only_value, operated, signed};
 use crate::surroundings::Surroundings;
-use bound::ValueExpr;
+use query_tree::ValueExpr;
 use sqlvalue::{Raise, Value};
 
 /// The value of an expression, or what it raises first in text order (own; ISO/IEC 9075:1992, 6.11 and 6.12). Takes no memory.

@@ -9,10 +9,10 @@ ghost use Rattle.definitions.specs.Queries.Telling.{MayAnswer};
 ghost use Rattle.sqlvalue.specs.Meaning.{number_of, value_of};
 ghost use Rattle.sqlvalue.specs.Raises.{meaning_of};
 ghost use Rattle.sqlvalue.specs.declared.value.Value.TheVariants as v;
-ghost use Rattle.bound.specs.Bound.{operator_of};
+ghost use Rattle.query_tree.specs.Bound.{operator_of};
 ghost use Rattle.expr.specs.Answers.{answer_of, values_answer_of, FitsOperator, FitsBoth};
 
-use bound::Operator;
+use query_tree::Operator;
 use sqlvalue::{Num, Raise, Value, add, div, mul, sub};
 
 /// A value under a sign: minus, or else plus (ISO/IEC 9075:1992, 6.12).

@@ -10,10 +10,10 @@ ghost use Rattle.definitions.specs.Queries.Evaluation as meaning;
 ghost use Rattle.definitions.specs.Queries.Telling.{MayAnswer};
 ghost use Rattle.sqlvalue.specs.Meaning.{op_of, value_of};
 ghost use Rattle.sqlvalue.specs.Truths.{truth_of};
-ghost use Rattle.trees.specs.Trees.{quantifier_of};
+ghost use Rattle.parse_tree.specs.Trees.{quantifier_of};
 ghost use Rattle.expr.specs.Answers.{answer_of, truth_answer_of, values_answer_of};
 
-use bound::Quantifier;
+use query_tree::Quantifier;
 use sqlvalue::{Op, Raise, Tri, Value, like};
 
 /// A comparison (ISO/IEC 9075:1992, 8.2).

@@ -6,10 +6,10 @@ ghost use Rattle.definitions.specs.Queries.CanRaise as raising;
 ghost use Rattle.definitions.specs.Queries.Conjuncts as conjuncts;
 ghost use Rattle.definitions.specs.Queries.Conjuncts.{member_values};
 ghost use Rattle.sqlvalue.specs.Meaning.{type_of};
-ghost use Rattle.bound.specs.Bound.{condition_of, literal_of, member_of, operator_of, value_of as tree_of};
+ghost use Rattle.query_tree.specs.Bound.{condition_of, literal_of, member_of, operator_of, value_of as tree_of};
 ghost use Rattle.expr.specs.Sizes.{capped, size_of, safe_joined, safe_size as safe_size_of};
 
-use bound::{Condition, NumberLiteral, Operator, ValueExpr};
+use query_tree::{Condition, NumberLiteral, Operator, ValueExpr};
 use sqlvalue::SqlType;
 
 /// How many digits a number may have (own).

@@ -7,12 +7,12 @@ ghost use Rattle.definitions.specs.Queries.BoundBlock as b;
 ghost use Rattle.definitions.specs.Queries.Evaluation as meaning;
 ghost use Rattle.sqlvalue.specs.Meaning.{number_of, op_of, value_of};
 ghost use Rattle.sqlvalue.specs.Truths.{truth_of};
-ghost use Rattle.bound.specs.Bound.{operator_of, value_of as tree_of};
+ghost use Rattle.query_tree.specs.Bound.{operator_of, value_of as tree_of};
 ghost use Rattle.definitions.specs.Value.{Number};
 ghost use Rattle.expr.specs.Shorts.{short_of, IsWhole};
 
 use crate::surroundings::Surroundings;
-use bound::{Operator, ValueExpr};
+use query_tree::{Operator, ValueExpr};
 use sqlvalue::{Num, Op, Tri, Value};
 
 /// A null, or a number of so many units at a scale.

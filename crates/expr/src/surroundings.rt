@@ -6,10 +6,10 @@ ghost use Rattle.definitions.specs.Arithmetic.{Is};
 ghost use Rattle.definitions.specs.Queries.Evaluation.{Environment, cell, column_values, on_one};
 ghost use Rattle.definitions.specs.Queries.Telling.{MayAnswer};
 ghost use Rattle.sqlvalue.specs.Meaning.{value_of};
-ghost use Rattle.bound.specs.Bound.{column_of};
+ghost use Rattle.query_tree.specs.Bound.{column_of};
 ghost use Rattle.expr.specs.Answers.{answer_of, values_answer_of};
 
-use bound::BlockColumn;
+use query_tree::BlockColumn;
 use sqlvalue::{Raise, Value};
 
 /// What an expression of a block is evaluated in (own). What it lends is there as long as it is.

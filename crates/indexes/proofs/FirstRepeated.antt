@@ -18,7 +18,7 @@ use Rattle.indexes.specs.Repeats.{IsFirstRepeated, repeat_at, lower_of}
 use Rattle.indexes.specs.declared.repeated.RepeatedKey.{RepeatedKey}
 use Rattle.indexes.proofs.KeyOrder.{row_rank, row_order, rows_ranked}
 use Rattle.indexes.proofs.KeyStretches.{rising_at}
-use Rattle.indexes.proofs.Counting.{nulls_alike}
+use Rattle.indexes.proofs.IndexCounting.{nulls_alike}
 
 -- ---- the lowest of what the first places tell
 

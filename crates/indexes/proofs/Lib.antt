@@ -6,7 +6,14 @@ mod Entries
 mod Parts
 mod Gathered
 mod KeyStretches
-mod Counting
+mod IndexCounting
 mod SortedRows
 mod FirstRepeated
 mod Rows
+pub mod KeyCells
+pub mod Counted
+pub mod Placing
+pub mod DistinctKeys
+pub mod Runs
+pub mod Clustered
+pub mod FirstRepeats

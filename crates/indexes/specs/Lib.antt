@@ -1,6 +1,14 @@
 pub use Rattle.definitions.specs.IndexRun
+pub use Rattle.definitions.specs.Figures
 pub mod Keys
 pub mod Stretches
 pub mod Pages
 pub mod Runs
 pub mod Repeats
+pub mod Meaning
+pub mod KeyColumns
+pub mod Orders
+pub mod Ranges
+pub mod Indexes
+pub mod Inside
+pub mod Extension

@@ -1,16 +1,27 @@
-//! Indexes of tables: their rows in the order of their keys, and look-ups in it.
+//! Indexes of tables: keys, the rows in their order, and what is looked up in them; unique and other indexes by their columns.
 #![tactic(auto)]
 
+mod counting;
+mod extension;
+mod figures;
+mod index;
 mod key_column;
+mod key_columns;
 mod keys;
+mod order;
 mod ordered;
+mod pages;
 mod repeated;
 mod run;
 mod sorted;
 mod sorting;
 mod unique;
 
+pub use extension::{ExtendFault, RepeatedRow, extended};
+pub use figures::{IndexFigures, KeyRange, TableFigures};
+pub use index::Index;
 pub use ordered::OrderedIndex;
+pub use pages::row_width;
 pub use repeated::RepeatedKey;
 pub use sorted::SortedIndex;
 pub use unique::{UniqueFault, UniqueIndex};

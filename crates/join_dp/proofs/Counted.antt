@@ -8,7 +8,7 @@ use Rattle.definitions.specs.Estimates.BlockTables.{has}
 use Rattle.definitions.specs.Plans.Space.{Space}
 use Rattle.definitions.specs.Plans.PlanSpace.{MayFollow, CanSort}
 use Rattle.definitions.specs.Plans.TableSet.{Lacks, no_tables, with_table}
-use Rattle.block_merges.specs.Merge.{Merge as MergeItem, AreMerges, most_merges}
+use Rattle.plan_space.specs.Merge.{Merge as MergeItem, AreMerges, most_merges}
 use Rattle.join_dp.specs.Counting.{AreCounts, most_last, most_lasts, most_to, most_up_to}
 use Rattle.plan_space.proofs.Lists.{at_index, weaker}
 use Rattle.join_dp.proofs.LessSets.{with_more}

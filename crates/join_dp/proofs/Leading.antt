@@ -9,8 +9,8 @@ use Rattle.definitions.specs.Plans.PlanSpace.{MayFollow}
 use Rattle.definitions.specs.Plans.Folding.{Folds}
 use Rattle.definitions.specs.Plans.Cost.{saturated, merge_cost}
 use Rattle.definitions.proofs.PlanTheory.Orders.{folds_once}
-use Rattle.block_paths.specs.Item.{Item, AreItems}
-use Rattle.block_merges.specs.Merge.{Merge as MergeItem, IsMergeItem, AreMerges}
+use Rattle.plan_space.specs.Item.{Item, AreItems}
+use Rattle.plan_space.specs.Merge.{Merge as MergeItem, IsMergeItem, AreMerges}
 use Rattle.plan_space.proofs.Lists.{has_each, head_has, both}
 use Rattle.plan_space.proofs.PathItems.{IsPathItem, each_path, found_item}
 use Rattle.join_dp.specs.Steps.{Join, Loop, Merge, AccessOf, Candidate}

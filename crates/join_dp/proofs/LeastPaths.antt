@@ -8,7 +8,7 @@ use Rattle.definitions.specs.Plans.Space.{Space}
 use Rattle.definitions.specs.Plans.PlanSpace.{IsPath}
 use Rattle.definitions.specs.Plans.Cost.{limit, saturated}
 use Rattle.definitions.proofs.PlanTheory.Elements.{not_in_empty}
-use Rattle.block_paths.specs.Item.{Item, AreItems}
+use Rattle.plan_space.specs.Item.{Item, AreItems}
 use Rattle.plan_space.proofs.Lists.{both}
 use Rattle.plan_space.proofs.PathItems.{IsPathItem, each_path, found_item}
 use Rattle.join_dp.specs.CheapestPath.{cheaper_item, IsCheapestPath}

@@ -16,7 +16,7 @@ use Rattle.definitions.specs.Plans.Certificate.{StateCost, Lists, IsListed, boun
 use Rattle.definitions.specs.Plans.Search.{as_bounds}
 use Rattle.definitions.proofs.PlanTheory.Elements.{not_in_empty}
 use Rattle.definitions.proofs.PlanTheory.Exactness.{listed_cost}
-use Rattle.certificate.proofs.Mapped.{place_of}
+use Rattle.plan_tree.proofs.Mapped.{place_of}
 use Rattle.plan_space.proofs.Lists.{has_each, weaker}
 use Rattle.plan_space.proofs.Merging.{is_merge, goes_by}
 use Rattle.join_dp.specs.Joining.{CanJoin, join_cost, IsJoin, GoesWith}

@@ -6,7 +6,7 @@ use Rattle.definitions.specs.Plans.PlanSpace.{CanSort}
 use Rattle.definitions.specs.Plans.Folding.{Folds}
 use Rattle.definitions.specs.Plans.Cost.{limit, saturated}
 use Rattle.definitions.proofs.PlanTheory.Orders.{folds_once}
-use Rattle.order_uses.specs.Sorts.{AreSorts}
+use Rattle.interesting_orders.specs.Sorts.{AreSorts}
 use Rattle.plan_space.proofs.Lists.{has_each, head_has}
 use Rattle.join_dp.specs.Rows.{Row, found_at, cost_or, cost_at, improved, offered, least_from, Below, IsFloor, StandsIn}
 use Rattle.join_dp.specs.Solving.{Solved, SortMakes, IsUnsorted, IsMade, AreUnsorted, AreMade, LowBySorts, SortsAreLow}

@@ -4,7 +4,7 @@ use Rattle.definitions.specs.Plans.TableSet.{TableSet}
 use Rattle.definitions.specs.Plans.Path.{Path, table_of}
 use Rattle.definitions.specs.Plans.Space.{Space}
 use Rattle.definitions.specs.Plans.PlanSpace.{IsPath}
-use Rattle.block_paths.specs.Item.{Item, IsItem}
+use Rattle.plan_space.specs.Item.{Item, IsItem}
 
 -- the one that costs less, the first where both cost the same
 abbrev pub cheaper_item : Option Item → Item → Item

@@ -5,8 +5,8 @@ use Rattle.definitions.specs.Plans.TableSet.{TableSet, no_tables}
 use Rattle.definitions.specs.Plans.Order.{OrderNumber}
 use Rattle.definitions.specs.Plans.Space.{Space, whole}
 use Rattle.definitions.specs.Plans.PlanSpace.{MayFollow}
-use Rattle.block_merges.specs.Merge.{Merge as MergeItem, AreMerges}
-use Rattle.order_uses.specs.Sorts.{AreSorts}
+use Rattle.plan_space.specs.Merge.{Merge as MergeItem, AreMerges}
+use Rattle.interesting_orders.specs.Sorts.{AreSorts}
 
 -- a set has at most so many states, by where the sets begin
 abbrev pub AreFew : ℕ → List ℕ → Type 0

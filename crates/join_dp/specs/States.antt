@@ -1,6 +1,6 @@
 -- What the states of this crate stand for.
 use Rattle.std.specs.Prelude.{ℕ, List, map}
-use Rattle.table_sets.specs.Sets.{set_of}
+use Rattle.plan_tree.specs.Sets.{set_of}
 use Rattle.join_dp.specs.Solving as spec
 use Rattle.join_dp.specs.Views.{candidate_of}
 use Rattle.join_dp.specs.declared.states.Solved.{Solved}

@@ -1,5 +1,5 @@
 -- What the types of this crate stand for.
-use Rattle.plans.specs.Plans.{path_of}
+use Rattle.plan_tree.specs.Plans.{path_of}
 use Rattle.join_dp.specs.Steps as spec
 use Rattle.join_dp.specs.declared.step.Join.{Join}
 use Rattle.join_dp.specs.declared.step.Join.TheVariants as join

@@ -3,7 +3,7 @@
 ghost use Rattle.std.specs.Prelude.{ℕ, ◌+◌, ◌<◌, ◌≤◌, ◌≡◌, length};
 ghost use Rattle.std.specs.Option.{ForSome};
 ghost use Rattle.definitions.specs.Plans.Space.{whole};
-ghost use Rattle.table_sets.specs.Sets.{set_of};
+ghost use Rattle.plan_tree.specs.Sets.{set_of};
 ghost use Rattle.join_dp.specs.Final.{IsCheapestOf, IsCheapestAmong};
 ghost use Rattle.join_dp.specs.Indexing.{AreStarts};
 ghost use Rattle.join_dp.specs.States.{states_in, starts_in};
@@ -11,7 +11,7 @@ ghost use Rattle.plan_space.specs.Planned.{space_in};
 
 use crate::states::States;
 use plan_space::Space;
-use table_sets::TableSet;
+use plan_tree::TableSet;
 
 /// The place of the cheapest state of all tables that gives the required order.
 pub(crate) fn cheapest(space: &Space<'_>, states: &States<'_>, all: TableSet) -> Option<usize>

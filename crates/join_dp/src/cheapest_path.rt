@@ -1,13 +1,13 @@
 //! The cheapest path of a table.
 
 ghost use Rattle.std.specs.Prelude.{◌≡◌, ◌<◌, option_map};
-ghost use Rattle.block_paths.specs.Items.{item_of};
-ghost use Rattle.table_sets.specs.Sets.{set_of};
+ghost use Rattle.plan_space.specs.Items.{item_of};
+ghost use Rattle.plan_tree.specs.Sets.{set_of};
 ghost use Rattle.join_dp.specs.CheapestPath.{cheaper_item, IsCheapestPath};
 ghost use Rattle.plan_space.specs.Planned.{space_in};
 
 use plan_space::{PathItem, Space};
-use table_sets::TableSet;
+use plan_tree::TableSet;
 
 /// The path of a table that costs least where the rows of a set of tables are known.
 pub(crate) fn cheapest_path<'a>(

@@ -8,9 +8,9 @@ ghost use Rattle.definitions.specs.Plans.Plan.{Inner};
 ghost use Rattle.definitions.specs.Plans.TableSet.{Has, Lacks, no_tables, only, with_table};
 ghost use Rattle.definitions.specs.Plans.PlanSpace.{MayFollow};
 ghost use Rattle.definitions.specs.Plans.Cost.{saturated};
-ghost use Rattle.table_sets.specs.Sets.{set_of};
-ghost use Rattle.block_merges.specs.Merge.{Merge as MergeItem, AreMerges};
-ghost use Rattle.order_uses.specs.Sorts.{AreSorts};
+ghost use Rattle.plan_tree.specs.Sets.{set_of};
+ghost use Rattle.plan_space.specs.Merge.{Merge as MergeItem, AreMerges};
+ghost use Rattle.interesting_orders.specs.Sorts.{AreSorts};
 ghost use Rattle.join_dp.specs.Counting.{AreCounts, AreFew, most_last, most_to};
 ghost use Rattle.join_dp.specs.Indexing.{AreStarts};
 ghost use Rattle.join_dp.specs.Joining.{join_cost, GoesWith, IsAdded, IsJoin};
@@ -28,7 +28,7 @@ use crate::states::States;
 use crate::step::{AddedJoin, Candidate, Join, Step};
 use estimate::saturated;
 use plan_space::Space;
-use table_sets::TableSet;
+use plan_tree::TableSet;
 
 /// Looks at the accesses of a table, as plans of the set of that table alone.
 fn add_accesses<'a>(space: &'a Space<'_>, table: usize, row: &mut Row<'a>)

@@ -3,7 +3,7 @@
 ghost use Rattle.std.specs.Prelude.{◌≡◌, ◌<◌, IfOk, length};
 ghost use Rattle.definitions.specs.Plans.Space.{Space};
 ghost use Rattle.definitions.specs.Plans.Search.{IsComplete};
-ghost use Rattle.plans.specs.Plans.{path_of, plan_of};
+ghost use Rattle.plan_tree.specs.Plans.{path_of, plan_of};
 ghost use Rattle.join_dp.specs.Planned.{AreFromBefore, IsPlanAt, IsStepPlanAt};
 ghost use Rattle.join_dp.specs.Solving.{AllMade};
 ghost use Rattle.join_dp.specs.States.{states_in};
@@ -12,7 +12,7 @@ ghost use Rattle.join_dp.specs.Views.{join_of};
 
 use crate::states::States;
 use crate::step::{Join, Step};
-use plans::{Inner, Path, Plan};
+use plan_tree::{Inner, Path, Plan};
 use std::alloc::{AllocError, Global};
 
 /// The plan of the state at a place.

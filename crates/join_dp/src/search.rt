@@ -6,8 +6,8 @@ ghost use Rattle.definitions.specs.Plans.Exact.{IsExact};
 ghost use Rattle.definitions.specs.Plans.Least.{IsLeast};
 ghost use Rattle.definitions.specs.Plans.Search.{certificate_below};
 ghost use Rattle.definitions.specs.Plans.Validity.{IsValid};
-ghost use Rattle.plans.specs.Plans.{plan_of};
-ghost use Rattle.certificate.specs.Certificates.{certificate_of};
+ghost use Rattle.plan_tree.specs.Plans.{plan_of};
+ghost use Rattle.plan_tree.specs.Certificates.{certificate_of};
 ghost use Rattle.join_dp.specs.Counting.{AreCounts, most_steps};
 ghost use Rattle.join_dp.specs.Final.{AreSolutions};
 ghost use Rattle.join_dp.specs.Solved.{told_all};
@@ -19,11 +19,9 @@ use crate::cheapest::cheapest;
 use crate::plan::plan_at;
 use crate::solve::solve;
 use crate::states::States;
-use certificate::{Certificate, State};
 use plan_space::Space;
-use plans::Plan;
+use plan_tree::{Certificate, Plan, State, TableSet};
 use std::alloc::{AllocError, Global};
-use table_sets::TableSet;
 
 /// How much a search did: the states that it solved, and the steps on the way, each an access, a join or a sort whose cost was
 /// added up.

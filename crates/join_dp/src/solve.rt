@@ -10,8 +10,8 @@ use crate::filling::fill_row;
 use crate::row::Row;
 use crate::states::States;
 use plan_space::Space;
+use plan_tree::TableSet;
 use std::alloc::{AllocError, Global};
-use table_sets::TableSet;
 
 /// The states of all sets of a block's tables, with their least plans.
 pub(crate) fn solve<'a>(alloc: Global, space: &'a Space<'_>) -> Result<States<'a>, AllocError>

@@ -1,7 +1,7 @@
 //! Solved states.
 
 ghost use Rattle.std.specs.Prelude.{ℕ, ◌≡◌, ◌+◌, ◌<◌, ◌≤◌, ◌++◌, [], ◌∷◌, IfOk, length, min, map};
-ghost use Rattle.table_sets.specs.Sets.{set_of};
+ghost use Rattle.plan_tree.specs.Sets.{set_of};
 ghost use Rattle.join_dp.specs.Solving.{at, entries_from};
 ghost use Rattle.join_dp.specs.Counting.{AreFew};
 ghost use Rattle.join_dp.specs.Indexing.{AreStarts};
@@ -9,8 +9,8 @@ ghost use Rattle.join_dp.specs.States.{solved_of};
 
 use crate::row::Row;
 use crate::step::Candidate;
+use plan_tree::TableSet;
 use std::alloc::{AllocError, Global};
-use table_sets::TableSet;
 
 /// A state with its least plan.
 #[derive(Clone, Copy)]

@@ -1,7 +1,6 @@
 //! Steps of plans.
 
-use plans::Path;
-use table_sets::TableSet;
+use plan_tree::{Path, TableSet};
 
 /// A join with one more table: a path of it, or a merge by a conjunct with a path of it, whose rows may have to be sorted.
 #[derive(Clone, Copy)]

@@ -2,8 +2,8 @@
 use Rattle.std.specs.Prelude.{ℕ, ◌≡◌, List, [], ◌∷◌, ◌++◌, Ok, Err, ⊤}
 use Rattle.definitions.specs.Value.{Value}
 use Rattle.definitions.specs.Loading.{FieldLoads}
-use Rattle.refusals.specs.Meaning.{field_error_of}
-use Rattle.refusals.specs.declared.field.FieldFault.{FieldFault}
+use Rattle.sqlvalue.specs.RefusalMeaning.{field_error_of}
+use Rattle.sqlvalue.specs.declared.field.FieldFault.{FieldFault}
 use Rattle.columns.specs.Cells.{CellList}
 use Rattle.loading.specs.declared.fault.PushFault.{PushFault}
 use Rattle.loading.specs.declared.fault.PushFault.TheVariants as p

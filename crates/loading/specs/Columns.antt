@@ -1,7 +1,7 @@
 -- What a column keeps.
 use Rattle.std.specs.String.{string_bytes}
 use Rattle.columns.specs.Columns.{cells_of}
-use Rattle.trees.specs.Trees.{constraint_of}
+use Rattle.parse_tree.specs.Trees.{constraint_of}
 use Rattle.loading.specs.Stored.{StoredColumn, named}
 use Rattle.loading.specs.declared.column.Column.TheInside.{Inside}
 

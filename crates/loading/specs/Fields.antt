@@ -6,8 +6,8 @@ use Rattle.definitions.specs.Refusal.{FieldError, BadText}
 use Rattle.definitions.specs.Value.{Value, Number, SqlType, kind_of, HasType, compare}
 use Rattle.definitions.specs.Loading.{Writes, WritesNumber, StoresAs, negated, not_stored}
 use Rattle.loading.specs.declared.written_number.WrittenNumber.{WrittenNumber}
-use Rattle.refusals.specs.declared.field.FieldFault.{FieldFault}
-use Rattle.refusals.specs.declared.field.FieldFault.TheVariants as f
+use Rattle.sqlvalue.specs.declared.field.FieldFault.{FieldFault}
+use Rattle.sqlvalue.specs.declared.field.FieldFault.TheVariants as f
 
 abbrev pub number_of : WrittenNumber → Value
 number_of w = Number (negated w.negative (pos w.digits)) w.scale

@@ -1,6 +1,6 @@
 -- What the faults of records stand for.
 use Rattle.definitions.specs.Refusal as refusal
-use Rattle.refusals.specs.Meaning.{field_error_of}
+use Rattle.sqlvalue.specs.RefusalMeaning.{field_error_of}
 use Rattle.loading.specs.declared.fault.RecordFault.{RecordFault}
 use Rattle.loading.specs.declared.fault.RecordFault.TheVariants as r
 

@@ -7,7 +7,7 @@ ghost use Rattle.loading.specs.Cells.{PushesField, RefusesField};
 use crate::fault::PushFault;
 use crate::field::{number_cell, text_cell};
 use columns::{Column, NumberColumn, TextColumn};
-use refusals::FieldFault;
+use sqlvalue::FieldFault;
 
 /// Adds the value that a field is stored as. An `Err` leaves the column as it was.
 pub(crate) fn push_field(column: &mut Column, field: &[u8]) -> Result<(), PushFault<FieldFault>>

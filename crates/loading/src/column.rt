@@ -6,18 +6,17 @@ ghost use Rattle.definitions.specs.Value as spec;
 ghost use Rattle.definitions.specs.Loading.{FieldLoads};
 ghost use Rattle.definitions.specs.Scanning.{part_of, true_word, unknown_word};
 ghost use Rattle.definitions.specs.Table.{may_be_null};
-ghost use Rattle.refusals.specs.Meaning.{field_error_of};
+ghost use Rattle.sqlvalue.specs.RefusalMeaning.{field_error_of};
 ghost use Rattle.sqlvalue.specs.Meaning.{op_of, type_of, value_of};
-ghost use Rattle.trees.specs.Trees.{constraint_of};
+ghost use Rattle.parse_tree.specs.Trees.{constraint_of};
 ghost use Rattle.loading.specs.Stored.{named, with_value, cut_to};
 
 use crate::cells;
 use crate::fault::PushFault;
-use refusals::FieldFault;
-use sqlvalue::{Op, SqlType, Value};
+use parse_tree::Constraint;
+use sqlvalue::{FieldFault, Op, SqlType, Value};
 use std::alloc::{AllocError, Global};
 use std::marker::Model;
-use trees::Constraint;
 
 /// A column of a table: its name, its type, what is asked of its values, and these (ISO/IEC 9075:1992, 4.8).
 #[derive(Drop)]
@@ -28,7 +27,7 @@ pub struct Column {
 }
 
 impl Model for Column {
-    ghost use Rattle.trees.specs.Trees.{constraint_of};
+    ghost use Rattle.parse_tree.specs.Trees.{constraint_of};
     ghost use Rattle.loading.specs.Stored.{StoredColumn};
 
     ghost Value = { StoredColumn };

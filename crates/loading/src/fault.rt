@@ -1,10 +1,10 @@
 //! Why a record is not loaded.
 
 ghost use Rattle.std.specs.Prelude.{◌≡◌};
-ghost use Rattle.refusals.specs.Meaning.{refusal_of};
+ghost use Rattle.sqlvalue.specs.RefusalMeaning.{refusal_of};
 ghost use Rattle.loading.specs.Meaning.{record_refusal};
 
-use refusals::{FieldFault, Refusal};
+use sqlvalue::{FieldFault, Refusal};
 use thiserror::Error;
 
 /// Why a record is no row of a table. Columns are told by their numbers, from 0.

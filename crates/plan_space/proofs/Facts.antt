@@ -17,7 +17,7 @@ use Rattle.definitions.specs.Estimates.Cardinality.{cardinality, sort_cost}
 use Rattle.definitions.specs.Estimates.Orders.{orders_of, order_of_path}
 use Rattle.definitions.specs.Estimates.Version.{Version}
 use Rattle.definitions.specs.Queries.BoundBlock.{Block}
-use Rattle.bound.specs.Bound.{block_of}
+use Rattle.query_tree.specs.Bound.{block_of}
 use Rattle.plan_space.specs.Planned.{Planned, space_in}
 use Rattle.definitions.specs.Plans.Search.{IsComplete}
 

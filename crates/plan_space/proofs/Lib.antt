@@ -1,3 +1,14 @@
+mod Sets
+mod Linking
+mod Linked
+mod Following
+pub mod Listing
+mod Items
+pub mod Sides
+mod Ways
+mod Adding
+mod Walking
+mod Opening
 pub mod Deciding
 pub mod Lists
 pub mod PathItems

@@ -5,9 +5,9 @@ use Rattle.definitions.specs.Plans.Path.{table_of}
 use Rattle.definitions.specs.Plans.Plan.{Inner}
 use Rattle.definitions.specs.Plans.Space.{Space}
 use Rattle.definitions.specs.Plans.PlanSpace.{MayFollow, IsInner, CanMerge}
-use Rattle.order_uses.specs.Merges.{GoesBy}
-use Rattle.block_merges.specs.Merge.{IsMerge}
-use Rattle.block_merges.proofs.Sides.{same_sides}
+use Rattle.interesting_orders.specs.Merges.{GoesBy}
+use Rattle.plan_space.specs.Merge.{IsMerge}
+use Rattle.plan_space.proofs.Sides.{same_sides}
 
 module _ (space : Space) where
   -- a merge whose order goes by its conjunct can be made

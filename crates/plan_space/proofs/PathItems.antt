@@ -5,7 +5,7 @@ use Rattle.std.specs.List.{AllByRecursion}
 use Rattle.definitions.specs.Plans.Path.{Path, table_of}
 use Rattle.definitions.specs.Plans.Space.{Space}
 use Rattle.definitions.specs.Plans.PlanSpace.{IsPath}
-use Rattle.block_paths.specs.Item.{Item, IsItem, AreItems}
+use Rattle.plan_space.specs.Item.{Item, IsItem, AreItems}
 use Rattle.plan_space.proofs.Lists.{weaker, both, all_mapped, of_map}
 
 module _ (space : Space) (known table : ℕ) where

@@ -12,12 +12,12 @@ use Rattle.definitions.specs.Plans.ColumnClass.{Satisfies}
 use Rattle.definitions.specs.Plans.PlanSpace.{MayFollow, IsPath, CanMerge, CanSort, IsPlan, access, loop, merge, sort, tables_of, order_of}
 use Rattle.definitions.specs.Plans.Cost.{saturated, loop_cost, merge_cost}
 use Rattle.definitions.proofs.PlanTheory.Elements.{first_is, first_or_rest, not_in_empty, later}
-use Rattle.table_sets.specs.Sets.{set_of}
-use Rattle.order_uses.specs.Merges.{GoesBy}
-use Rattle.block_paths.specs.Item.{Item, IsItem, AreItems}
-use Rattle.block_merges.specs.Merge as m
-use Rattle.block_merges.specs.Merge.{IsMerge, IsMergeItem, AreMerges}
-use Rattle.block_merges.proofs.Sides.{same_sides}
+use Rattle.plan_tree.specs.Sets.{set_of}
+use Rattle.interesting_orders.specs.Merges.{GoesBy}
+use Rattle.plan_space.specs.Item.{Item, IsItem, AreItems}
+use Rattle.plan_space.specs.Merge as m
+use Rattle.plan_space.specs.Merge.{IsMerge, IsMergeItem, AreMerges}
+use Rattle.plan_space.proofs.Sides.{same_sides}
 use Rattle.plan_space.specs.Measures.{IsMeasured, IsPathFound, IsMergeFound}
 use Rattle.plan_space.specs.declared.measured.Measured.{Measured}
 

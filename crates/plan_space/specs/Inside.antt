@@ -1,12 +1,12 @@
 -- What a space keeps.
 use Rattle.std.specs.Prelude.{◌≡◌, ◌<◌, ◌≤◌, ◌^◌, length}
 use Rattle.definitions.specs.Limits.{most_from_tables}
-use Rattle.bound.specs.Bound.{block_of}
-use Rattle.plan_orders.specs.Versions.{version_of}
-use Rattle.block_paths.specs.Lists as block_paths
-use Rattle.block_merges.specs.Lists as block_merges
-use Rattle.set_figures.specs.Sets as set_figures
-use Rattle.order_uses.specs.Uses as order_uses
+use Rattle.query_tree.specs.Bound.{block_of}
+use Rattle.interesting_orders.specs.Versions.{version_of}
+use Rattle.plan_space.specs.PathLists as block_paths
+use Rattle.plan_space.specs.MergeLists as block_merges
+use Rattle.estimate.specs.Sets as set_figures
+use Rattle.interesting_orders.specs.Uses as order_uses
 use Rattle.plan_space.specs.Planned.{Planned, space_in}
 use Rattle.definitions.specs.Plans.Search.{IsComplete}
 use Rattle.plan_space.specs.Links.{LinksSay}

@@ -1,4 +1,17 @@
+pub use Rattle.definitions.specs.Plans.PlanSpace
+pub use Rattle.definitions.specs.Estimates
+pub use Rattle.definitions.specs.Plans.Cost
 pub use Rattle.definitions.specs.Plans.Search
+pub mod Linked
+pub mod TableLinks
+pub mod Item
+pub mod Items
+pub mod PathListed
+pub mod PathLists
+pub mod Merge
+pub mod Merges
+pub mod MergeListed
+pub mod MergeLists
 pub mod Planned
 pub mod Links
 pub mod Inside

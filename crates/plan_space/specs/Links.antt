@@ -1,8 +1,8 @@
 -- What the links of a space say of it.
 use Rattle.std.specs.Prelude.{◌≡◌, Option, Some, None, true, false}
 use Rattle.definitions.specs.Plans.Space.{Space}
-use Rattle.table_links.specs.Links.{tables_in, AreLinks}
-use Rattle.table_links.specs.declared.links.TableLinks.{TableLinks}
+use Rattle.plan_space.specs.TableLinks.{tables_in, AreLinks}
+use Rattle.plan_space.specs.declared.join_graph.TableLinks.{TableLinks}
 
 -- there are none where products are free
 abbrev pub LinksSay : Space → Option TableLinks → Type 0

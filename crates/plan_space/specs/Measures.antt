@@ -6,9 +6,9 @@ use Rattle.definitions.specs.Plans.Plan.{Plan, Inner}
 use Rattle.definitions.specs.Plans.Space.{Space}
 use Rattle.definitions.specs.Plans.PlanSpace.{IsPath, IsPlan, tables_of, order_of}
 use Rattle.definitions.specs.Plans.Cost.{cost_of}
-use Rattle.table_sets.specs.Sets.{set_of}
-use Rattle.block_paths.specs.Item.{Item, IsItem}
-use Rattle.block_merges.specs.Merge.{Merge, IsMerge, IsMergeItem}
+use Rattle.plan_tree.specs.Sets.{set_of}
+use Rattle.plan_space.specs.Item.{Item, IsItem}
+use Rattle.plan_space.specs.Merge.{Merge, IsMerge, IsMergeItem}
 use Rattle.plan_space.specs.declared.measured.Measured.{Measured}
 
 module _ (space : Space) where

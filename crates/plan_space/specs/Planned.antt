@@ -3,8 +3,8 @@ use Rattle.definitions.specs.Table.{Database}
 use Rattle.definitions.specs.Estimates.BlockSpace.{space_of}
 use Rattle.definitions.specs.Estimates.Version.{Version}
 use Rattle.definitions.specs.Plans.Space.{Space}
-use Rattle.bound.specs.Bound.{block_of}
-use Rattle.bound.specs.declared.block.Block.{Block}
+use Rattle.query_tree.specs.Bound.{block_of}
+use Rattle.query_tree.specs.declared.block.Block.{Block}
 
 pub record Planned : Type 0 where
   pub version : Version

@@ -1,17 +1,24 @@
-//! The plan space of a block: its paths, merges and sorts with what they cost, and which plans are of it (Selinger et al. 1979,
-//! sections 4 and 5).
+//! The plan space of a block: which tables conjuncts link, its paths, merges and sorts with what they cost, and which plans are of it
+//! (Selinger et al. 1979, sections 4 and 5).
 #![tactic(auto)]
 
+mod join_graph;
+mod listed;
 mod measured;
 mod measuring;
+mod merge_joins;
+mod merge_lists;
+mod path_lists;
+mod paths;
 mod same;
 mod space;
 
-pub use block_merges::{MergeItem, Merges};
-pub use block_paths::{PathItem, Paths};
+pub use interesting_orders::{Sorts, Version};
+pub use join_graph::TableLinks;
 pub use measured::Measured;
-pub use order_uses::Sorts;
-pub use plan_orders::Version;
-pub use plans::{Inner, Path, Plan, SortKey};
+pub use merge_joins::{MergeItem, Merges};
+pub use merge_lists::BlockMerges;
+pub use path_lists::BlockPaths;
+pub use paths::{PathItem, Paths};
+pub use plan_tree::{Inner, Path, Plan, SortKey, TableSet};
 pub use space::Space;
-pub use table_sets::TableSet;

@@ -3,7 +3,7 @@
 ghost use Rattle.std.specs.Prelude.{◌≤◌};
 ghost use Rattle.definitions.specs.Plans.Cost.{limit};
 
-use table_sets::TableSet;
+use plan_tree::TableSet;
 
 /// The tables of a plan, the number of the order of its rows, and what it costs, at most 10^18.
 #[derive(Clone, Copy, Debug)]

@@ -6,22 +6,21 @@ ghost use Rattle.definitions.specs.Limits.{most_from_tables};
 ghost use Rattle.definitions.specs.Plans.Path.{table_of};
 ghost use Rattle.definitions.specs.Plans.Plan as trees;
 ghost use Rattle.definitions.specs.Plans.PlanSpace.{MayFollow};
-ghost use Rattle.plans.specs.Plans.{path_of, inner_of, plan_of};
-ghost use Rattle.table_sets.specs.Sets.{set_of};
-ghost use Rattle.order_uses.specs.Merges.{GoesBy};
-ghost use Rattle.block_paths.specs.Items.{item_of};
-ghost use Rattle.block_merges.specs.Merges.{merge_of};
+ghost use Rattle.plan_tree.specs.Plans.{path_of, inner_of, plan_of};
+ghost use Rattle.plan_tree.specs.Sets.{set_of};
+ghost use Rattle.interesting_orders.specs.Merges.{GoesBy};
+ghost use Rattle.plan_space.specs.Items.{item_of};
+ghost use Rattle.plan_space.specs.Merges.{merge_of};
 ghost use Rattle.plan_space.specs.Planned.{space_in};
 ghost use Rattle.plan_space.specs.Measures.{IsMeasured, Measures, IsPathFound, IsMergeFound};
 
 use crate::measured::Measured;
+use crate::merge_joins::MergeItem;
+use crate::paths::PathItem;
 use crate::same::are_one;
 use crate::space::Space;
-use block_merges::MergeItem;
-use block_paths::PathItem;
 use estimate::saturated;
-use plans::{Inner, Path, Plan};
-use table_sets::TableSet;
+use plan_tree::{Inner, Path, Plan, TableSet};
 
 /// What a plan comes to, if it is one of the block.
 pub(crate) fn measure(space: &Space, plan: &Plan) -> Option<Measured>

@@ -3,9 +3,9 @@
 ghost use Rattle.std.specs.Prelude.{ℕ, ◌≡◌};
 ghost use Rattle.std.specs.Bool.{Decides};
 ghost use Rattle.definitions.specs.Plans.Path as spec;
-ghost use Rattle.plans.specs.Plans.{path_of};
+ghost use Rattle.plan_tree.specs.Plans.{path_of};
 
-use plans::Path;
+use plan_tree::Path;
 
 /// Whether two paths are one.
 pub(crate) fn are_one(a: &Path, b: &Path) -> bool

@@ -11,32 +11,31 @@ ghost use Rattle.definitions.specs.Plans.Folding.{Folds};
 ghost use Rattle.definitions.specs.Plans.PlanSpace.{MayFollow, CanSort, InSpace};
 ghost use Rattle.definitions.specs.Plans.Space.{whole, order_at};
 ghost use Rattle.definitions.specs.Plans.TableSet.{only};
-ghost use Rattle.bound.specs.Bound.{block_of};
-ghost use Rattle.plans.specs.Plans.{order_of, orders_in, plan_of};
-ghost use Rattle.table_sets.specs.Sets.{set_of};
-ghost use Rattle.plan_orders.specs.Versions.{version_of};
-ghost use Rattle.order_uses.specs.Merges.{GoesBy};
-ghost use Rattle.order_uses.specs.Sorts.{AreSorts};
-ghost use Rattle.block_paths.specs.Item.{AreItems};
-ghost use Rattle.block_merges.specs.Merge.{AreMerges};
+ghost use Rattle.query_tree.specs.Bound.{block_of};
+ghost use Rattle.plan_tree.specs.Plans.{order_of, orders_in, plan_of};
+ghost use Rattle.plan_tree.specs.Sets.{set_of};
+ghost use Rattle.interesting_orders.specs.Versions.{version_of};
+ghost use Rattle.interesting_orders.specs.Merges.{GoesBy};
+ghost use Rattle.interesting_orders.specs.Sorts.{AreSorts};
+ghost use Rattle.plan_space.specs.Item.{AreItems};
+ghost use Rattle.plan_space.specs.Merge.{AreMerges};
 ghost use Rattle.plan_space.specs.Planned.{space_in};
 ghost use Rattle.definitions.specs.Plans.Search.{IsComplete};
 ghost use Rattle.plan_space.specs.Links.{LinksSay};
 ghost use Rattle.plan_space.specs.Measures.{Measures};
 
+use crate::join_graph::TableLinks;
 use crate::measured::Measured;
 use crate::measuring::measure;
-use block_merges::{BlockMerges, Merges};
-use block_paths::{BlockPaths, Paths};
-use estimate::{Estimate, saturated};
-use order_uses::{OrderUses, Sorts};
-use plan_orders::{PlanOrders, Version, required_order};
-use plans::{Plan, SortKey};
-use set_figures::SetFigures;
+use crate::merge_joins::Merges;
+use crate::merge_lists::BlockMerges;
+use crate::path_lists::BlockPaths;
+use crate::paths::Paths;
+use estimate::{Estimate, SetFigures, saturated};
+use interesting_orders::{OrderUses, PlanOrders, Sorts, Version, required_order};
+use plan_tree::{Plan, SortKey, TableSet};
 use std::alloc::{AllocError, Global};
 use std::marker::Model;
-use table_links::TableLinks;
-use table_sets::TableSet;
 
 /// The plans of a block, in one of the versions of the plan space: what each step of a plan may be, and what it costs. What a
 /// search asks for again and again is made once.
@@ -55,7 +54,7 @@ pub struct Space<'a> {
 
 impl<'a> Model for Space<'a> {
     ghost use Rattle.std.specs.Coded.{codes};
-    ghost use Rattle.bound.specs.contracts.block.Block as b;
+    ghost use Rattle.query_tree.specs.contracts.block.Block as b;
     ghost use Rattle.plan_space.specs.Planned.{Planned};
 
     ghost Value = { Planned };

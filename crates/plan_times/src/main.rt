@@ -15,8 +15,7 @@ use std::alloc::{AllocError, Global};
 use std::rt::Runtime;
 use std::{env, io};
 use tables::{query, script};
-use test_databases::{apply, block};
-use test_spaces::space;
+use tests_support::{apply, block, space};
 use walks::{Walked, walk_merges, walk_paths};
 
 fn main(rt: HostRuntime) -> io::Result<()> {

@@ -1,7 +1,7 @@
 //! Walks through all paths and merges of a space.
 
 ghost use Rattle.std.specs.Prelude.{◌<◌, ◌^◌};
-ghost use Rattle.table_sets.specs.Sets.{set_of};
+ghost use Rattle.plan_tree.specs.Sets.{set_of};
 ghost use Rattle.plan_space.specs.Planned.{space_in};
 
 use plan_space::{Space, TableSet};

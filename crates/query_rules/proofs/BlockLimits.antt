@@ -11,11 +11,11 @@ use Rattle.definitions.specs.Binding.Scopes.{Scopes}
 use Rattle.definitions.specs.Binding.Parts.{condition_values}
 use Rattle.definitions.specs.Binding.Faults as fault
 use Rattle.definitions.specs.Binding.Faults.{conjunct_count, item_count, BlockFaulty, IsGrouped}
-use Rattle.trees.specs.Trees.{block_of, column_of, condition_of, expr_of, item_of, list_of}
-use Rattle.trees.specs.declared.expr.Block.{Block}
-use Rattle.trees.specs.declared.expr.Expr.{Expr}
-use Rattle.trees.specs.declared.expr.Item.{Item}
-use Rattle.trees.proofs.Views.{of_block}
+use Rattle.parse_tree.specs.Trees.{block_of, column_of, condition_of, expr_of, item_of, list_of}
+use Rattle.parse_tree.specs.declared.expr.Block.{Block}
+use Rattle.parse_tree.specs.declared.expr.Expr.{Expr}
+use Rattle.parse_tree.specs.declared.expr.Item.{Item}
+use Rattle.parse_tree.proofs.Views.{of_block}
 use Rattle.query_rules.specs.BlockLimits.{IsWithinLimits}
 
 pub as_many_items : (xs : List Item) → length (listed (items (map item_of xs))) ≡ length xs

@@ -3,8 +3,8 @@ use Rattle.std.proofs.Common.{◌≡◌, refl, sym, ap₂, inl, inr, ℕ, zero, 
 use Rattle.std.specs.Prelude.{◌&&◌}
 use Rattle.std.proofs.lemmas.Bool.Decides.{nat_tests}
 use Rattle.definitions.specs.Lists.{AnyOf}
-use Rattle.bound.specs.Bound.{column_of}
-use Rattle.bound.specs.declared.leaf.BlockColumn.{BlockColumn}
+use Rattle.query_tree.specs.Bound.{column_of}
+use Rattle.query_tree.specs.declared.leaf.BlockColumn.{BlockColumn}
 
 pub any_here : {A X : Type 0} (P : X → Type 0) (f : A → X) (xs : List A) (i : ℕ) (d : A) → i < length xs → P (f (slice_index_or xs i d)) → AnyOf P (map f xs)
 any_here P f [] i d h p = absurd (omega (arith, h))

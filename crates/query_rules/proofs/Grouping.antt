@@ -8,9 +8,9 @@ use Rattle.definitions.specs.Statement as t
 use Rattle.definitions.specs.Statement.{Absent, Specification}
 use Rattle.definitions.specs.Binding.Parts.{is_function, item_values, parts}
 use Rattle.definitions.specs.Binding.Faults.{IsGrouped}
-use Rattle.trees.specs.Trees.{block_of, column_of, condition_of, list_of, source_of}
-use Rattle.trees.specs.declared.expr.Block.{Block}
-use Rattle.trees.proofs.Views.{of_block}
+use Rattle.parse_tree.specs.Trees.{block_of, column_of, condition_of, list_of, source_of}
+use Rattle.parse_tree.specs.declared.expr.Block.{Block}
+use Rattle.parse_tree.proofs.Views.{of_block}
 
 any_found : {X : Type 0} (test : X → Bool) (xs : List X) → list_any test xs ≡ true → AnyOf (λ x. IsTrue (test x)) xs
 any_found test [] h = absurd cc

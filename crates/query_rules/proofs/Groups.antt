@@ -7,10 +7,10 @@ use Rattle.definitions.specs.Plans.Order.{BlockColumn}
 use Rattle.definitions.specs.Binding.Scopes.{Scopes, resolve}
 use Rattle.definitions.specs.Binding.BoundForm.{own_column}
 use Rattle.definitions.specs.Binding.Faults.{IsNotOwn}
-use Rattle.bound.specs.Bound.{column_of}
-use Rattle.bound.specs.declared.leaf.BlockColumn.{BlockColumn as Column}
-use Rattle.trees.specs.Trees.{column_of as reference_of}
-use Rattle.trees.specs.declared.leaf.ColumnReference.{ColumnReference as Reference}
+use Rattle.query_tree.specs.Bound.{column_of}
+use Rattle.query_tree.specs.declared.leaf.BlockColumn.{BlockColumn as Column}
+use Rattle.parse_tree.specs.Trees.{column_of as reference_of}
+use Rattle.parse_tree.specs.declared.leaf.ColumnReference.{ColumnReference as Reference}
 use Rattle.query_rules.specs.Groups.{own_columns, SomeNotOwn}
 
 pub record GroupsLeft (scopes : Scopes) (all : List ColumnReference) (done : List BlockColumn) (rest : List ColumnReference) : Type 0 where

@@ -9,12 +9,12 @@ use Rattle.definitions.specs.Statement as t
 use Rattle.definitions.specs.Statement.{Name}
 use Rattle.definitions.specs.Binding.Faults.{IsUnknownKey}
 use Rattle.definitions.specs.Queries.BoundBlock as b
-use Rattle.bound.specs.Bound.{item_of, key_of}
-use Rattle.bound.specs.declared.block.Item.{Item}
-use Rattle.bound.specs.declared.block.Key.{Key}
-use Rattle.trees.specs.Trees.{key_of as tree_key_of, item_of as listed_item_of}
-use Rattle.trees.specs.declared.statement.Key.{Key as TreeKey}
-use Rattle.trees.specs.declared.expr.Item.{Item as TreeItem}
+use Rattle.query_tree.specs.Bound.{item_of, key_of}
+use Rattle.query_tree.specs.declared.block.Item.{Item}
+use Rattle.query_tree.specs.declared.block.Key.{Key}
+use Rattle.parse_tree.specs.Trees.{key_of as tree_key_of, item_of as listed_item_of}
+use Rattle.parse_tree.specs.declared.statement.Key.{Key as TreeKey}
+use Rattle.parse_tree.specs.declared.expr.Item.{Item as TreeItem}
 use Rattle.definitions.specs.Grammar.{items}
 use Rattle.definitions.specs.Refusal.{UnknownKey}
 use Rattle.definitions.specs.Binding.BoundForm.{key_item, result_name, result_names}

@@ -15,7 +15,7 @@ use Rattle.definitions.specs.Binding.Types.{found_type}
 use Rattle.definitions.specs.Binding.BoundForm.{bound_column}
 use Rattle.definitions.specs.Binding.Faults.{IsNoColumn, IsOuter, IsUngroupedColumn}
 use Rattle.definitions.specs.Queries.BoundBlock.{ValueExpr}
-use Rattle.scopes.proofs.FoundColumns.{resolved_in, HasColumnIn}
+use Rattle.query_rules.proofs.ResolvedColumns.{resolved_in, HasColumnIn}
 use Rattle.query_rules.specs.Judging.{Place, PartFaulty, too_fine, no_column, mixed_kinds, wrong_operand, many_members, misplaced_function, outer_column, ungrouped}
 use Rattle.query_rules.specs.Judging.{IsFine}
 use Rattle.query_rules.specs.Leaves.{InSight, BindsLeaf, MayStand, MayNotStand}

@@ -1,3 +1,10 @@
+pub mod Views
+pub mod Columns
+pub mod Searching
+pub mod Sources
+pub mod Blocks
+pub mod ResolvedColumns
+pub mod SourceFaults
 pub mod Refused
 mod FoundColumns
 pub mod LeafParts

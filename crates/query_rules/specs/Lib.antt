@@ -1,4 +1,8 @@
+pub use Rattle.definitions.specs.Binding.Scopes
 pub use Rattle.definitions.specs.Binding.Faults
+pub mod ScopeRules
+pub mod Search
+pub mod Faults
 pub mod Judging
 pub mod Leaves
 pub mod Meaning

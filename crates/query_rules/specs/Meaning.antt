@@ -2,7 +2,7 @@
 use Rattle.std.specs.Prelude.{Option, Some, None, true, false, [], map}
 use Rattle.definitions.specs.Refusal as r
 use Rattle.definitions.specs.Refusal.{Refusal}
-use Rattle.bound.specs.Bound.{column_of}
+use Rattle.query_tree.specs.Bound.{column_of}
 use Rattle.query_rules.specs.declared.fault.QueryFault.{QueryFault}
 use Rattle.query_rules.specs.declared.fault.QueryFault.TheVariants as q
 use Rattle.query_rules.specs.declared.fault.BindFault.{BindFault}

@@ -1,8 +1,8 @@
 //! What the expressions of a clause are bound in.
 
-use bound::BlockColumn;
+use crate::scopes::Scopes;
 use catalog::Database;
-use scopes::Scopes;
+use query_tree::BlockColumn;
 use std::alloc::Global;
 
 /// Where an expression stands in its block: in WHERE, where blocks may stand in it; in a result column or HAVING, where set

@@ -1,13 +1,13 @@
 //! Why a query is refused.
 
 ghost use Rattle.std.specs.Prelude.{◌≡◌};
-ghost use Rattle.refusals.specs.Meaning.{refusal_of};
+ghost use Rattle.sqlvalue.specs.RefusalMeaning.{refusal_of};
 ghost use Rattle.query_rules.specs.Meaning.{query_refusal};
 
-use refusals::Refusal;
-use scopes::SourceFault;
+use crate::scope_fault::SourceFault;
+use parse_tree::{Block, ColumnReference, Expr, Key, Name, Numeral, Operand};
+use sqlvalue::Refusal;
 use std::alloc::{AllocError, AllocFailed};
-use trees::{Block, ColumnReference, Expr, Key, Name, Numeral, Operand};
 
 /// A fault of a query, with the place where it is told (the sections are of ISO/IEC 9075:1992).
 #[derive(Clone, Copy)]
@@ -136,7 +136,7 @@ impl<'q, T: Drop> From<AllocFailed<T>> for BindFault<'q> {
 
 impl<'q> From<SourceFault<'q>> for BindFault<'q> {
     ghost use Rattle.std.specs.Prelude.{◌≡◌};
-    ghost use Rattle.scopes.specs.Faults.{source_refusal};
+    ghost use Rattle.query_rules.specs.Faults.{source_refusal};
     ghost use Rattle.query_rules.specs.Meaning.{bind_refusal};
 
     ghost from_gives = { λ fault f. bind_refusal f ≡ source_refusal fault };

@@ -4,9 +4,9 @@ ghost use Rattle.std.specs.Prelude.{◌≡◌, flat_map, map};
 ghost use Rattle.std.specs.List.{list_any};
 ghost use Rattle.definitions.specs.Grammar.{members, operands};
 ghost use Rattle.definitions.specs.Binding.Parts.{is_function, item_values, member_parts, operand_parts, parts};
-ghost use Rattle.trees.specs.Trees.{expr_of, list_of, member_of, operand_of};
+ghost use Rattle.parse_tree.specs.Trees.{expr_of, list_of, member_of, operand_of};
 
-use trees::{Expr, Operand, SelectList};
+use parse_tree::{Expr, Operand, SelectList};
 
 /// Whether a set function stands in an expression, outside its subqueries (ISO/IEC 9075:1992, 6.5).
 #[cycle(holding)]

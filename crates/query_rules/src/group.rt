@@ -7,19 +7,20 @@ ghost use Rattle.definitions.specs.Refusal.{UnknownColumn};
 ghost use Rattle.definitions.specs.Binding.BoundForm.{own_column};
 ghost use Rattle.definitions.specs.Binding.Faults.{IsGrouped, IsNotOwn};
 ghost use Rattle.definitions.specs.Binding.Scopes as spec;
-ghost use Rattle.bound.specs.Bound.{column_of};
-ghost use Rattle.scopes.specs.Meaning.{resolution_of};
-ghost use Rattle.trees.specs.Trees.{block_of as query_of, column_of as reference_of};
+ghost use Rattle.query_tree.specs.Bound.{column_of};
+ghost use Rattle.query_rules.specs.ScopeRules.{resolution_of};
+ghost use Rattle.parse_tree.specs.Trees.{block_of as query_of, column_of as reference_of};
 ghost use Rattle.query_rules.specs.Groups.{own_columns, shown_in, SomeNotOwn};
 ghost use Rattle.query_rules.specs.Meaning.{bind_refusal, place_of};
 
 use crate::clause::Place;
 use crate::fault::{BindFault, QueryFault};
 use crate::function::list_holds_function;
-use bound::BlockColumn;
-use scopes::{Resolution, Scopes};
+use crate::resolution::Resolution;
+use crate::scopes::Scopes;
+use parse_tree::{Block, ColumnReference};
+use query_tree::BlockColumn;
 use std::alloc::Global;
-use trees::{Block, ColumnReference};
 
 /// Whether a block is grouped (ISO/IEC 9075:1992, 7.8, syntax rule 1; 7.9, syntax rule 7).
 pub fn is_grouped(query: &Block) -> bool

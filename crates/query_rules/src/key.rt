@@ -6,15 +6,15 @@ ghost use Rattle.definitions.specs.Limits.{most_keys};
 ghost use Rattle.definitions.specs.Refusal.{UnknownKey};
 ghost use Rattle.definitions.specs.Binding.BoundForm.{has_name, key_item, result_name, result_names};
 ghost use Rattle.definitions.specs.Binding.Faults.{IsUnknownKey};
-ghost use Rattle.bound.specs.Bound.{item_of, key_of};
-ghost use Rattle.trees.specs.Trees.{item_of as listed_item_of, key_name_of, key_of as tree_key_of, list_of, name_of};
+ghost use Rattle.query_tree.specs.Bound.{item_of, key_of};
+ghost use Rattle.parse_tree.specs.Trees.{item_of as listed_item_of, key_name_of, key_of as tree_key_of, list_of, name_of};
 ghost use Rattle.query_rules.specs.Keys.{bound_keys, header_of, known_name, known_names, names_by, IsKnownKey, RefusesOrder, SomeKeyIsUnknown};
 ghost use Rattle.query_rules.specs.Meaning.{bind_refusal};
 
 use crate::fault::{BindFault, QueryFault};
-use bound::{Item, Key};
+use parse_tree::{Expr, KeyName, SelectList};
+use query_tree::{Item, Key};
 use std::alloc::{AllocError, Global};
-use trees::{Expr, KeyName, SelectList};
 
 /// How many keys ORDER BY may have (own).
 pub const MAX_KEYS: usize = 16;
@@ -25,7 +25,7 @@ pub fn bound_order<'a>(
     alloc: Global,
     list: &SelectList,
     items: &[Item],
-    order: &'a [trees::Key],
+    order: &'a [parse_tree::Key],
 ) -> Result<Vec<Key>, BindFault<'a>>
     ensures ok { IfOk result (λ keys. map key_of keys.items ≡ bound_keys (names_by (list_of list.now) (map item_of items.now)) (map tree_key_of order.now)) }
     ensures known { OnOk result (SomeKeyIsUnknown (names_by (list_of list.now) (map item_of items.now)) (map tree_key_of order.now) → ⊥) }
@@ -42,7 +42,7 @@ pub fn bound_order<'a>(
 fn keys_by_names<'a>(
     alloc: Global,
     names: &[Option<&str>],
-    order: &'a [trees::Key],
+    order: &'a [parse_tree::Key],
 ) -> Result<Vec<Key>, BindFault<'a>>
     ensures ok { IfOk result (λ keys. map key_of keys.items ≡ bound_keys (known_names names.now) (map tree_key_of order.now)) }
     ensures known { OnOk result (SomeKeyIsUnknown (known_names names.now) (map tree_key_of order.now) → ⊥) }
@@ -131,7 +131,7 @@ fn asterisk_names<'a>(alloc: Global, items: &'a [Item]) -> Result<Vec<Option<&'a
 
 fn listed_names<'a>(
     alloc: Global,
-    list: &'a [trees::Item],
+    list: &'a [parse_tree::Item],
 ) -> Result<Vec<Option<&'a str>>, AllocError>
     ensures { IfOk result (λ names. known_names names.items ≡ result_names (map listed_item_of list.now)) }
 {
@@ -143,7 +143,7 @@ fn listed_names<'a>(
 }
 
 /// The name of a result column: its AS name, or that of a plain column.
-fn column_name(item: &trees::Item) -> Option<&str>
+fn column_name(item: &parse_tree::Item) -> Option<&str>
     ensures { known_name result ≡ result_name (listed_item_of item.now).value (listed_item_of item.now).alias }
 {
     match (&item.alias, &item.value) {

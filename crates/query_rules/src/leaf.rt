@@ -8,11 +8,11 @@ ghost use Rattle.definitions.specs.Table.{Database as Tables};
 ghost use Rattle.definitions.specs.ValueType.{type_of};
 ghost use Rattle.definitions.specs.Binding.Scopes as spec;
 ghost use Rattle.definitions.specs.Binding.BoundForm.{bound_column};
-ghost use Rattle.bound.specs.Bound.{value_of, value_type_of};
-ghost use Rattle.bound.specs.Bound.{column_of as block_column_of};
+ghost use Rattle.query_tree.specs.Bound.{value_of, value_type_of};
+ghost use Rattle.query_tree.specs.Bound.{column_of as block_column_of};
 ghost use Rattle.sqlvalue.specs.Meaning.{type_of as sql_type_of};
-ghost use Rattle.scopes.specs.Meaning.{found_of};
-ghost use Rattle.trees.specs.Trees.{column_of, numeral_of, text_of};
+ghost use Rattle.query_rules.specs.ScopeRules.{found_of};
+ghost use Rattle.parse_tree.specs.Trees.{column_of, numeral_of, text_of};
 ghost use Rattle.query_rules.specs.Judging as judging;
 ghost use Rattle.query_rules.specs.Judging.{PartFaulty};
 ghost use Rattle.query_rules.specs.Leaves.{BindsLeaf, InSight, MayStand, MayNotStand};
@@ -20,10 +20,10 @@ ghost use Rattle.query_rules.specs.Meaning.{bind_refusal, query_refusal, place_o
 
 use crate::clause::{Clause, Place};
 use crate::fault::{BindFault, QueryFault};
-use bound::{BlockColumn, NumberLiteral, ValueExpr, ValueType};
-use scopes::{Found, Resolution};
+use crate::resolution::{Found, Resolution};
+use parse_tree::{ColumnReference, Numeral, StringLiteral};
+use query_tree::{BlockColumn, NumberLiteral, ValueExpr, ValueType};
 use std::alloc::{AllocError, Global};
-use trees::{ColumnReference, Numeral, StringLiteral};
 
 /// The greatest scale of a number (own).
 pub const MAX_SCALE: u8 = 18;

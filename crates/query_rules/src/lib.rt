@@ -1,5 +1,4 @@
-//! What a query may hold when its names are bound: columns in sight, operands whose types go together, groups, keys and
-//! limits; and the faults that refuse it.
+//! The rules of queries: what a name means within nested blocks, and what the clauses of a block may say.
 #![tactic(auto)]
 
 mod clause;
@@ -9,7 +8,13 @@ mod group;
 mod key;
 mod leaf;
 mod limit;
+mod named_table;
 mod operand;
+mod resolution;
+mod scope;
+mod scope_fault;
+mod scopes;
+mod table_columns;
 
 pub use clause::{Clause, Place};
 pub use fault::{BindFault, QueryFault};
@@ -17,5 +22,8 @@ pub use group::{group_columns, is_grouped, shown_place};
 pub use key::{MAX_KEYS, bound_order};
 pub use leaf::{MAX_SCALE, Typed, column, number, string};
 pub use limit::{MAX_CONJUNCTS, MAX_GROUP_COLUMNS, MAX_ITEMS, judge_limits};
+pub use named_table::NamedTable;
 pub use operand::{are_logical, function_type, joined_scale, judge_kinds, number_scale, operator};
-pub use scopes::MAX_FROM_TABLES;
+pub use resolution::{Found, Resolution};
+pub use scope_fault::SourceFault;
+pub use scopes::{MAX_FROM_TABLES, Scopes};

@@ -5,12 +5,12 @@ ghost use Rattle.definitions.specs.Grammar.{operands};
 ghost use Rattle.definitions.specs.Table.{Database as Tables};
 ghost use Rattle.definitions.specs.Binding.Scopes as spec;
 ghost use Rattle.definitions.specs.Binding.Faults.{conjunct_count, is_conjunction, BlockFaulty, IsGrouped};
-ghost use Rattle.trees.specs.Trees.{block_of as query_of, expr_of, operand_of};
+ghost use Rattle.parse_tree.specs.Trees.{block_of as query_of, expr_of, operand_of};
 ghost use Rattle.query_rules.specs.BlockLimits.{IsWithinLimits};
 ghost use Rattle.query_rules.specs.Meaning.{query_refusal};
 
 use crate::fault::QueryFault;
-use trees::{Block, Expr, LineOperator, Operand, SelectList};
+use parse_tree::{Block, Expr, LineOperator, Operand, SelectList};
 
 /// How many result columns, columns of GROUP BY and conjuncts of WHERE a block may have (own).
 pub const MAX_ITEMS: usize = 64;

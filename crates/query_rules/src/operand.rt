@@ -9,8 +9,8 @@ ghost use Rattle.definitions.specs.Binding.BoundForm as form;
 ghost use Rattle.definitions.specs.Binding.Faults.{is_logical};
 ghost use Rattle.definitions.specs.Binding.Types as types;
 ghost use Rattle.definitions.specs.Binding.Types.{joined_type};
-ghost use Rattle.bound.specs.Bound.{operator_of as bound_operator_of, value_type_of};
-ghost use Rattle.trees.specs.Trees.{function_of, operand_of, operator_of};
+ghost use Rattle.query_tree.specs.Bound.{operator_of as bound_operator_of, value_type_of};
+ghost use Rattle.parse_tree.specs.Trees.{function_of, operand_of, operator_of};
 ghost use Rattle.definitions.specs.Value.{Numbers};
 ghost use Rattle.query_rules.specs.Judging.{IsFine};
 ghost use Rattle.query_rules.specs.Leaves.{WantsNumbers};
@@ -18,8 +18,8 @@ ghost use Rattle.query_rules.specs.Meaning.{query_refusal};
 
 use crate::fault::QueryFault;
 use crate::leaf::{MAX_SCALE, Typed};
-use bound::{Operator, ValueType};
-use trees::{Expr, LineOperator, Operand, SetFunction};
+use parse_tree::{Expr, LineOperator, Operand, SetFunction};
+use query_tree::{Operator, ValueType};
 
 /// The digits that a quotient has behind the point, at least (own).
 const QUOTIENT_SCALE: u8 = 6;

@@ -16,8 +16,7 @@ use shapes::{query, script, shape_of};
 use std::alloc::{AllocError, Global};
 use std::rt::Runtime;
 use std::{env, io};
-use test_databases::{apply, block};
-use test_spaces::space;
+use tests_support::{apply, block, space};
 
 /// What was found, and how often a check passed.
 #[derive(Clone, Copy)]

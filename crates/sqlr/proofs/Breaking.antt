@@ -3,8 +3,8 @@ use Rattle.std.proofs.Common.{ℕ, ◌≡◌, ◌≢◌, ◌∙◌, refl, sym, a
 use Rattle.definitions.specs.Statement as tree
 use Rattle.definitions.specs.Statement.{Name, Statement}
 use Rattle.definitions.specs.Table.{Database, table_named}
-use Rattle.scripts.specs.Step as step
-use Rattle.scripts.specs.Step.{Answering, Failing, State, Break, StepBreaks, SinkFailed}
+use Rattle.definitions_execution.specs.Step as step
+use Rattle.definitions_execution.specs.Step.{Answering, Failing, State, Break, StepBreaks, SinkFailed}
 use Rattle.sqlr.specs.declared.outcome.StepFault.{StepFault}
 use Rattle.sqlr.specs.declared.outcome.StepFault.TheVariants as f
 use Rattle.sqlr.specs.Sessions.{BreaksAt, IsStepBlamed, step_break}

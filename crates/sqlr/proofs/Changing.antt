@@ -6,8 +6,8 @@ use Rattle.definitions.specs.Table.{Database}
 use Rattle.definitions.specs.Refusal.{Refusal}
 use Rattle.definitions.specs.Faults.{Faulty}
 use Rattle.definitions.specs.Printing.{refusal_text}
-use Rattle.scripts.specs.Step as step
-use Rattle.scripts.specs.Step.{Answering, State}
+use Rattle.definitions_execution.specs.Step as step
+use Rattle.definitions_execution.specs.Step.{Answering, State}
 use Rattle.catalog.specs.Changes.{RefusesIndex}
 use Rattle.catalog.specs.Meaning.{index_refusal}
 use Rattle.catalog.specs.declared.fault.IndexFault.{IndexFault}

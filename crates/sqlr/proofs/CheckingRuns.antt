@@ -5,15 +5,15 @@ use Rattle.definitions.specs.Printing.{refusal_text}
 use Rattle.definitions.specs.Refusal.{Refusal}
 use Rattle.definitions.specs.Statement.{Select, Statement}
 use Rattle.definitions.specs.Table.{Database}
-use Rattle.scripts.specs.Step.{Answering, Failing, State, AreStatements, FaultLine}
+use Rattle.definitions_execution.specs.Step.{Answering, Failing, State, AreStatements, FaultLine}
 use Rattle.definitions.specs.Binding.Faults as binding
 use Rattle.definitions.specs.Estimates.Version.{current_version}
 use Rattle.definitions.specs.Certificates.Verdicts as verdicts
 use Rattle.definitions.specs.Certificates.Verdicts.{CheckEnded}
-use Rattle.scripts.specs.CheckingRun as run
-use Rattle.scripts.specs.CheckingRun.{asked, nothing_text, Prepares, Checked}
-use Rattle.trees.specs.declared.statement.Statement as tree
-use Rattle.trees.specs.Trees.{statement_of, statements_of}
+use Rattle.definitions_execution.specs.CheckingRun as run
+use Rattle.definitions_execution.specs.CheckingRun.{asked, nothing_text, Prepares, Checked}
+use Rattle.parse_tree.specs.declared.statement.Statement as tree
+use Rattle.parse_tree.specs.Trees.{statement_of, statements_of}
 use Rattle.sqlr.specs.declared.ended.Ended.{Ended}
 use Rattle.sqlr.specs.declared.ended.Ended.TheVariants as e
 use Rattle.sqlr.specs.declared.ended.RunFault.{RunFault}
@@ -21,7 +21,7 @@ use Rattle.sqlr.specs.declared.ended.RunFault.TheVariants as r
 use Rattle.sqlr.specs.declared.outcome.Printed.{Printed}
 use Rattle.sqlr.specs.Devices.{Took, TookBeginning}
 use Rattle.sqlr.specs.Sessions.{BreaksLine, IsLibraryBlamed, IsSinkBlamed, Prints}
-use Rattle.bound.specs.Bound.{block_of}
+use Rattle.query_tree.specs.Bound.{block_of}
 use Rattle.certificate_files.specs.Telling.{check_ended_of}
 use Rattle.sqlr.specs.declared.checked.Checked.TheVariants as c
 use Rattle.sqlr.specs.declared.checked.CheckedFile.{CheckedFile}

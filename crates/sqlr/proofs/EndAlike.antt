@@ -26,10 +26,10 @@ use Rattle.definitions.specs.Queries.BoundBlock.{Key}
 use Rattle.definitions.specs.Queries.Answer.{answer}
 use Rattle.definitions.specs.Queries.Outcomes.{Told, Rows, Exception, Allowed, AllowedOf, names_of, order_of, shown}
 use Rattle.definitions.specs.Binding.BoundForm.{bound_form}
-use Rattle.scripts.specs.RunLaws.{LoadHasOneOutcome}
-use Rattle.scripts.specs.Step as step
-use Rattle.scripts.specs.Step.{Answering, State, Step, Steps, Ended, Well, Faulted, Loaded, FaultLine, AreStatements, Run, both_ended, told_ended}
-use Rattle.scripts.specs.RunLaws.{AnswersOnce, AreOneButForWork, AreAlike, same, faults, outcomes, plans, AllAlike, fault_lines, printed, RunsEndAlike}
+use Rattle.definitions_execution.specs.RunLaws.{LoadHasOneOutcome}
+use Rattle.definitions_execution.specs.Step as step
+use Rattle.definitions_execution.specs.Step.{Answering, State, Step, Steps, Ended, Well, Faulted, Loaded, FaultLine, AreStatements, Run, both_ended, told_ended}
+use Rattle.definitions_execution.specs.RunLaws.{AnswersOnce, AreOneButForWork, AreAlike, same, faults, outcomes, plans, AllAlike, fault_lines, printed, RunsEndAlike}
 use Rattle.definitions.proofs.Loading.{factor}
 use Rattle.definitions.proofs.Lexing.{reads_once}
 use Rattle.definitions.proofs.Grammar.{derives_once}

@@ -15,8 +15,8 @@ use Rattle.definitions.specs.Binding.Formed.{AreWritten, IsFormedSomewhere}
 use Rattle.definitions.specs.Faults as faults
 use Rattle.definitions.specs.Faults.{Faulty, IsAccepted}
 use Rattle.definitions.proofs.BindingTheory.AcceptedQueries.{each_block_is_formed, few_blocks}
-use Rattle.bound.specs.Bound.{block_of}
-use Rattle.bound.specs.declared.block.Block as tree
+use Rattle.query_tree.specs.Bound.{block_of}
+use Rattle.query_tree.specs.declared.block.Block as tree
 use Rattle.sqlr.specs.declared.ended.Ended.TheVariants as e
 use Rattle.sqlr.specs.declared.outcome.Printed.{Printed}
 use Rattle.sqlr.specs.declared.outcome.StepFault.{StepFault}

@@ -2,12 +2,12 @@
 use Rattle.std.proofs.Common.{ℕ, ◌≡◌, ◌≢◌, ◌<◌, ◌∙◌, ◌++◌, refl, sym, ap, subst, suc, List, [], ◌∷◌, Option, Some, None, length, take, drop, get_or, Bor}
 use Rattle.std.specs.Prelude.{true, false, is_some, option_map}
 use Rattle.definitions.specs.Statement.{Select, Statement}
-use Rattle.scripts.specs.Step as step
-use Rattle.scripts.specs.Step.{Answering, Failing, State, Step, StepBreaks}
-use Rattle.scripts.specs.CheckingRun.{asked, Prepared, Prepares}
-use Rattle.trees.specs.declared.statement.Statement as tree
-use Rattle.trees.specs.declared.statement.Select as own
-use Rattle.trees.specs.Trees.{select_of, statement_of, statements_of}
+use Rattle.definitions_execution.specs.Step as step
+use Rattle.definitions_execution.specs.Step.{Answering, Failing, State, Step, StepBreaks}
+use Rattle.definitions_execution.specs.CheckingRun.{asked, Prepared, Prepares}
+use Rattle.parse_tree.specs.declared.statement.Statement as tree
+use Rattle.parse_tree.specs.declared.statement.Select as own
+use Rattle.parse_tree.specs.Trees.{select_of, statement_of, statements_of}
 use Rattle.sqlr.specs.declared.ended.Ended.TheVariants as e
 use Rattle.sqlr.specs.declared.ended.RunFault.{RunFault}
 use Rattle.sqlr.specs.declared.outcome.Printed.{Printed}

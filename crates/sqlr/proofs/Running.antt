@@ -3,10 +3,10 @@ use Rattle.std.proofs.Common.{ℕ, ◌≡◌, ◌<◌, ◌∙◌, ◌++◌, refl
 use Rattle.std.specs.Prelude.{◌+◌}
 use Rattle.std.proofs.lemmas.List.{append-nil, append_assoc}
 use Rattle.definitions.specs.Statement.{Statement}
-use Rattle.scripts.specs.Step as step
-use Rattle.scripts.specs.Step.{Answering, Failing, State, Step, Steps, AreStatements, FaultLine, both_ended, StepBreaks}
-use Rattle.trees.specs.declared.statement.Statement as tree
-use Rattle.trees.specs.Trees.{statement_of, statements_of}
+use Rattle.definitions_execution.specs.Step as step
+use Rattle.definitions_execution.specs.Step.{Answering, Failing, State, Step, Steps, AreStatements, FaultLine, both_ended, StepBreaks}
+use Rattle.parse_tree.specs.declared.statement.Statement as tree
+use Rattle.parse_tree.specs.Trees.{statement_of, statements_of}
 use Rattle.sqlr.specs.declared.ended.Ended.{Ended}
 use Rattle.sqlr.specs.declared.ended.Ended.TheVariants as e
 use Rattle.sqlr.specs.declared.ended.RunFault.{RunFault}

@@ -2,7 +2,7 @@
 use Rattle.std.proofs.Common.{◌≡◌, ℕ, List, Option, Some, None, refl, sym, subst}
 use Rattle.std.specs.Prelude.{option_map, ⊤, MatchOption}
 use Rattle.definitions.specs.Lexing.{LexFault, LexFails}
-use Rattle.scripts.specs.Step as step
+use Rattle.definitions_execution.specs.Step as step
 use Rattle.sqlr.specs.Scripts.{IsFaultLine, lexical_line}
 
 lexical_at : (script : List ℕ) (o : Option LexFault) → MatchOption o ⊤ (LexFails script) → IsFaultLine script (option_map lexical_line o)

@@ -17,9 +17,9 @@ use Rattle.definitions.specs.Estimates.Version.{current_version}
 use Rattle.definitions.specs.NotYet.{CanAnswer, IsPlain}
 use Rattle.definitions.specs.Faults as faults
 use Rattle.definitions.specs.Faults.{Faulty, IsAccepted}
-use Rattle.execution.specs.Total.{IsTotal}
-use Rattle.bound.specs.Bound.{block_of, bound_function_of, column_of, condition_of, key_of}
-use Rattle.bound.specs.declared.block.Block as tree
+use Rattle.definitions_execution.specs.Total.{IsTotal}
+use Rattle.query_tree.specs.Bound.{block_of, bound_function_of, column_of, condition_of, key_of}
+use Rattle.query_tree.specs.declared.block.Block as tree
 use Rattle.sqlr.specs.declared.ended.Ended.TheVariants as e
 use Rattle.sqlr.specs.declared.outcome.Printed.{Printed}
 use Rattle.sqlr.specs.declared.outcome.StepFault.{StepFault}

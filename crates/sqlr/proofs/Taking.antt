@@ -10,8 +10,8 @@ use Rattle.definitions.specs.Faults as faults
 use Rattle.definitions.specs.Loading.{Record, AreFileRecords, FirstFaulty}
 use Rattle.definitions.specs.Printing.{refusal_text, record_refusal_text, loaded_text}
 use Rattle.definitions.specs.Queries.Outcomes.{Rows, Exception}
-use Rattle.scripts.specs.Step as step
-use Rattle.scripts.specs.Step.{Answering, State}
+use Rattle.definitions_execution.specs.Step as step
+use Rattle.definitions_execution.specs.Step.{Answering, State}
 use Rattle.loading.specs.Meaning.{record_refusal}
 use Rattle.loading.specs.declared.fault.RefusedRecord.{RefusedRecord}
 use Rattle.catalog.specs.Loads.{LoadsNamed, RefusesNamed}

@@ -4,8 +4,8 @@ use Rattle.definitions.specs.Statement.{Select, Statement}
 use Rattle.definitions.specs.Table.{Database}
 use Rattle.definitions.specs.Refusal.{Refusal}
 use Rattle.definitions.specs.Printing.{refusal_text}
-use Rattle.scripts.specs.Step as step
-use Rattle.scripts.specs.Step.{Answering, Failing, State, Step, StepBreaks}
+use Rattle.definitions_execution.specs.Step as step
+use Rattle.definitions_execution.specs.Step.{Answering, Failing, State, Step, StepBreaks}
 use Rattle.definitions.specs.Binding.Faults.{Faulty, Binds}
 use Rattle.definitions.specs.Estimates.Version.{current_version}
 use Rattle.definitions.specs.Queries.BoundBlock.{Blocks}
@@ -13,8 +13,8 @@ use Rattle.definitions.specs.Certificates.File.{lines_of}
 use Rattle.definitions.specs.Certificates.Explaining.{certified_from}
 use Rattle.definitions.specs.Certificates.Verdicts as verdicts
 use Rattle.definitions.specs.Certificates.Verdicts.{CheckEnded, AreTold}
-use Rattle.scripts.specs.CheckingRun.{asked, nothing_text, Prepared, Prepares, Checked, CheckBreaks}
-use Rattle.bound.specs.Bound.{block_of}
+use Rattle.definitions_execution.specs.CheckingRun.{asked, nothing_text, Prepared, Prepares, Checked, CheckBreaks}
+use Rattle.query_tree.specs.Bound.{block_of}
 use Rattle.certificate_files.specs.Telling.{check_ended_of}
 use Rattle.certificate_files.specs.declared.checking.FileEnded.{FileEnded}
 use Rattle.sqlr.specs.declared.checked.Checked as own

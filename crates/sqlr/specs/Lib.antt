@@ -1,4 +1,4 @@
-pub use Rattle.scripts.specs.Step
+pub use Rattle.definitions_execution.specs.Step
 pub mod Devices
 pub mod Meaning
 pub mod Outcomes

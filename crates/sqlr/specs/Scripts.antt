@@ -2,8 +2,8 @@
 use Rattle.std.specs.Prelude.{ℕ, ⊤, List, Option, Some, None}
 use Rattle.definitions.specs.Lexing.{LexFault}
 use Rattle.definitions.specs.Printing.{fault_text}
-use Rattle.scripts.specs.Step.{FaultLine}
-use Rattle.refusals.specs.Meaning.{refusal_of}
+use Rattle.definitions_execution.specs.Step.{FaultLine}
+use Rattle.sqlvalue.specs.RefusalMeaning.{refusal_of}
 use Rattle.sqlr.specs.declared.script.ScriptFault.{ScriptFault}
 use Rattle.sqlr.specs.declared.script.ScriptFault.TheVariants as f
 

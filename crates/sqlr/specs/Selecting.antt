@@ -9,8 +9,8 @@ use Rattle.definitions.specs.Queries.Outcomes.{Told, Rows, Exception, AllowedOf,
 use Rattle.definitions.specs.Binding.Faults.{Binds}
 use Rattle.definitions.specs.Estimates.Version.{current_version}
 use Rattle.definitions.specs.Faults.{Faulty, IsAccepted}
-use Rattle.execution.specs.Total.{IsTotal}
-use Rattle.scripts.specs.Step.{told_ended}
+use Rattle.definitions_execution.specs.Total.{IsTotal}
+use Rattle.definitions_execution.specs.Step.{told_ended}
 use Rattle.sqlr.specs.declared.ended.Ended.TheVariants as e
 use Rattle.sqlr.specs.declared.outcome.Printed.{Printed}
 use Rattle.sqlr.specs.Sessions.{ended_of}

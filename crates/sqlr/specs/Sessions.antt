@@ -3,8 +3,8 @@ use Rattle.std.specs.Prelude.{ℕ, ◌≡◌, ◌<◌, List, Option, Some, Resul
 use Rattle.definitions.specs.Statement.{Name, Statement}
 use Rattle.definitions.specs.Table.{Table, Database, table_named}
 use Rattle.definitions.specs.Loading.{Record, AreFileRecords}
-use Rattle.scripts.specs.Step as step
-use Rattle.scripts.specs.Step.{Answering, Failing, State, Step, Steps, Run, Loaded, both_ended, Break, NoMemory, LibraryFailed, SinkFailed, StepBreaks, StepsBreak, Breaks}
+use Rattle.definitions_execution.specs.Step as step
+use Rattle.definitions_execution.specs.Step.{Answering, Failing, State, Step, Steps, Run, Loaded, both_ended, Break, NoMemory, LibraryFailed, SinkFailed, StepBreaks, StepsBreak, Breaks}
 use Rattle.sqlr.specs.declared.ended.Ended.{Ended}
 use Rattle.sqlr.specs.declared.ended.Ended.TheVariants as e
 use Rattle.sqlr.specs.declared.ended.RunFault.{RunFault}

@@ -5,7 +5,7 @@ use catalog::{
     CreateFault, FiguresFault, IndexFault, RefusedRecord, RepeatedRecord, TableFiguresFault,
 };
 use lexer::LexFault;
-use refusals::Refusal;
+use sqlvalue::Refusal;
 use syntax::{ColumnDefinition, Count, IndexFigures, Name, Select, StringLiteral, Unexpected};
 
 /// A refusal and its cause.

@@ -2,7 +2,7 @@
 
 ghost use Rattle.std.specs.Prelude.{◌≡◌, map, IfOk, IfErr, OnErr};
 ghost use Rattle.definitions.specs.Statement as tree;
-ghost use Rattle.trees.specs.Trees.{definitions_of, figures_of, name_of};
+ghost use Rattle.parse_tree.specs.Trees.{definitions_of, figures_of, name_of};
 ghost use Rattle.sqlr.specs.declared.outcome.StepFault.TheVariants as fault;
 ghost use Rattle.sqlr.specs.Outcomes.{Changes};
 

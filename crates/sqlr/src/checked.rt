@@ -1,17 +1,17 @@
 //! A query's certificates, checked.
 
 ghost use Rattle.std.specs.Prelude.{◌≡◌, IfOk, option_map};
-ghost use Rattle.scripts.specs.CheckingRun as run;
-ghost use Rattle.trees.specs.Trees.{select_of, statement_of};
+ghost use Rattle.definitions_execution.specs.CheckingRun as run;
+ghost use Rattle.parse_tree.specs.Trees.{select_of, statement_of};
 ghost use Rattle.sqlr.specs.Checking.{IsChecked, end_of_file};
 
 use crate::cause::{Cause, QueryCause};
 use crate::ended::Ended;
 use crate::outcome::{Printed, StepFault, refused};
 use binder::{BindFault, bind};
-use bound::Block;
 use catalog::Database;
 use certificate_files::{FileEnded, FileTold, check_file};
+use query_tree::Block;
 use std::alloc::Global;
 use syntax::{Select, Statement};
 

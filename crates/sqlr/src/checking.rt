@@ -1,8 +1,8 @@
 //! Checking runs.
 
 ghost use Rattle.std.specs.Prelude.{ℕ, ◌≡◌, ◌≢◌, ◌<◌, List, IfOk, IfErr, OnOk, OnErr};
-ghost use Rattle.scripts.specs.Step.{AreStatements};
-ghost use Rattle.trees.specs.Trees.{statement_of, statements_of};
+ghost use Rattle.definitions_execution.specs.Step.{AreStatements};
+ghost use Rattle.parse_tree.specs.Trees.{statement_of, statements_of};
 ghost use Rattle.sqlr.specs.declared.ended.RunFault.TheVariants as fault;
 ghost use Rattle.sqlr.specs.Devices.{Took, TookBeginning};
 ghost use Rattle.sqlr.specs.Checking.{ArePrepared, BreaksChecking, BreaksLast, BreaksPrepared, BreaksPreparing, Checks, ChecksLast, IsIfRefused, IsPrepared};

@@ -1,7 +1,7 @@
 //! EXPLAIN.
 
 ghost use Rattle.std.specs.Prelude.{◌≡◌, IfOk, IfErr};
-ghost use Rattle.trees.specs.Trees.{select_of};
+ghost use Rattle.parse_tree.specs.Trees.{select_of};
 ghost use Rattle.sqlr.specs.declared.outcome.StepFault.TheVariants as fault;
 ghost use Rattle.sqlr.specs.Explaining.{Explains};
 
@@ -9,7 +9,7 @@ use crate::cause::{Cause, QueryCause};
 use crate::outcome::{Printed, StepFault, done, refused};
 use binder::{BindFault, bind};
 use catalog::Database;
-use explain::explain_text;
+use executor::explain_text;
 use std::alloc::Global;
 use syntax::Select;
 

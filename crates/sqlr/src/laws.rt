@@ -1,8 +1,8 @@
-//! What holds of statements and scripts over every library (the laws of `scripts/specs/RunLaws`, and worked examples of scripts), each
+//! What holds of statements and scripts over every library (the laws of `definitions_execution/specs/RunLaws`, and worked examples of scripts), each
 //! proved as the contract of a function that does nothing.
 
-ghost use Rattle.scripts.specs.RunLaws.{StepKeepsDatabase, FaultsChangeNothing, SelectPrintsAnswer, RunsEndAlike};
-ghost use Rattle.scripts.specs.Examples.{ScriptsRun};
+ghost use Rattle.definitions_execution.specs.RunLaws.{StepKeepsDatabase, FaultsChangeNothing, SelectPrintsAnswer, RunsEndAlike};
+ghost use Rattle.definitions_execution.specs.ScriptExamples.{ScriptsRun};
 
 use crate::library::Library;
 
@@ -22,7 +22,7 @@ pub fn select_prints_answer<L: Library>()
 pub fn runs_end_alike<L: Library>()
     ensures { RunsEndAlike L.answers }
 {
-    scripts::load_has_one_outcome();
+    definitions_execution::load_has_one_outcome();
 }
 
 /// Small scripts and what they print.

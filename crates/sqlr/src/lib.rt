@@ -5,6 +5,7 @@ mod cause;
 mod changes;
 mod checked;
 mod checking;
+mod device_failures;
 mod ended;
 mod explaining;
 pub mod laws;
@@ -22,6 +23,7 @@ pub use cause::{
 pub use certificate_files::FileTold;
 pub use checked::CheckedFile;
 pub use command_line::{request, requests};
+pub use device_failures::Failures;
 pub use ended::{Ended, RunFault, status};
 pub use library::{FetchFault, Fetched, Library};
 pub use session::Session;

@@ -3,9 +3,9 @@
 ghost use Rattle.std.specs.Prelude.{map};
 ghost use Rattle.std.specs.Bool.{Decides};
 ghost use Rattle.definitions.specs.NotYet.{CanAnswer, IsPlain};
-ghost use Rattle.bound.specs.Bound.{block_of};
+ghost use Rattle.query_tree.specs.Bound.{block_of};
 
-use bound::Block;
+use query_tree::Block;
 
 /// Whether the blocks of a query can be answered so far (own).
 pub(crate) fn can_answer(blocks: &[Block]) -> bool

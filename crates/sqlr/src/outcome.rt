@@ -3,7 +3,7 @@
 ghost use Rattle.std.specs.Prelude.{◌≡◌, [], IfOk, IfErr, None, option_map};
 ghost use Rattle.definitions.specs.Printing.{refusal_text, record_refusal_text};
 ghost use Rattle.definitions.specs.Queries.Outcomes.{shown, Exception};
-ghost use Rattle.refusals.specs.Meaning.{refusal_of};
+ghost use Rattle.sqlvalue.specs.RefusalMeaning.{refusal_of};
 ghost use Rattle.sqlvalue.specs.Raises.{raise_of};
 ghost use Rattle.sqlr.specs.declared.ended.Ended.TheVariants as ended;
 ghost use Rattle.sqlr.specs.Outcomes.{Tells};
@@ -11,9 +11,7 @@ ghost use Rattle.sqlr.specs.declared.outcome.StepFault.TheVariants as fault;
 
 use crate::cause::{Cause, Refused};
 use crate::ended::Ended;
-use printing::{write_exception, write_record_refusal, write_refusal};
-use refusals::Refusal;
-use sqlvalue::Raise;
+use sqlvalue::{Raise, Refusal, write_exception, write_record_refusal, write_refusal};
 use std::alloc::{AllocError, Global};
 
 /// What a statement prints, how it ended, why it is refused, if it is, and the work of a SELECT that printed rows: how many it opened.

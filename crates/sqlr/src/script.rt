@@ -1,14 +1,14 @@
 //! From a script's text to its statements.
 
 ghost use Rattle.std.specs.Prelude.{◌≡◌, IfOk, IfErr, option_map};
-ghost use Rattle.trees.specs.Trees.{statements_of};
+ghost use Rattle.parse_tree.specs.Trees.{statements_of};
 ghost use Rattle.lexer.specs.Meaning.{fault_of};
-ghost use Rattle.scripts.specs.Step.{AreStatements};
+ghost use Rattle.definitions_execution.specs.Step.{AreStatements};
 ghost use Rattle.sqlr.specs.Scripts.{IsFault, line_of, lexical_line};
 
 use crate::cause::{Cause, Refused};
 use lexer::{LexFault, lex};
-use refusals::Refusal;
+use sqlvalue::Refusal;
 use std::alloc::Global;
 use syntax::{Statement, SyntaxFault, parse};
 

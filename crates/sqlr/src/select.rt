@@ -1,7 +1,7 @@
 //! Queries.
 
 ghost use Rattle.std.specs.Prelude.{◌≡◌, IfOk, IfErr};
-ghost use Rattle.trees.specs.Trees.{select_of};
+ghost use Rattle.parse_tree.specs.Trees.{select_of};
 ghost use Rattle.sqlr.specs.declared.outcome.StepFault.TheVariants as fault;
 ghost use Rattle.sqlr.specs.Selecting.{Answers};
 
@@ -11,7 +11,7 @@ use crate::outcome::{Printed, StepFault, done, raised, refused};
 use binder::{BindFault, bind};
 use catalog::Database;
 use executor::{AnswerFault, answer_text};
-use refusals::Refusal;
+use sqlvalue::Refusal;
 use std::alloc::Global;
 use syntax::Select;
 

@@ -3,10 +3,10 @@
 ghost use Rattle.std.specs.Prelude.{◌≡◌, ◌≢◌, [], None, IfOk, IfErr, OnErr};
 ghost use Rattle.definitions.specs.Printing.{fault_text};
 ghost use Rattle.definitions.specs.Statement as tree;
-ghost use Rattle.scripts.specs.Step.{AreStatements};
+ghost use Rattle.definitions_execution.specs.Step.{AreStatements};
 ghost use Rattle.definitions.specs.Table.{table_named};
-ghost use Rattle.refusals.specs.Meaning.{refusal_of};
-ghost use Rattle.trees.specs.Trees.{name_of, select_of, statement_of, statements_of, text_of};
+ghost use Rattle.sqlvalue.specs.RefusalMeaning.{refusal_of};
+ghost use Rattle.parse_tree.specs.Trees.{name_of, select_of, statement_of, statements_of, text_of};
 ghost use Rattle.sqlr.specs.declared.outcome.StepFault.TheVariants as fault;
 ghost use Rattle.sqlr.specs.Sessions.{BreaksAt, BreaksIn, BreaksLine, BreaksOff, IsBoth, IsLibraryBlamed, IsSinkBlamed, IsStepBlamed, Prints, Runs, RunsAll, Takes, TakesBytes};
 
@@ -20,8 +20,7 @@ use crate::script::{ScriptFault, parse_script};
 use crate::select::select;
 use crate::sink::Sink;
 use catalog::{Database, LoadFault};
-use printing::{LOADED_ROOM, write_fault, write_loaded};
-use refusals::Refusal;
+use sqlvalue::{LOADED_ROOM, Refusal, write_fault, write_loaded};
 use std::alloc::Global;
 use std::marker::Model;
 use syntax::{Name, Select, Statement, StringLiteral};
@@ -36,7 +35,7 @@ pub struct Session<L: Library> {
 }
 
 impl<L: Library> Model for Session<L> {
-    ghost use Rattle.scripts.specs.Step.{State};
+    ghost use Rattle.definitions_execution.specs.Step.{State};
 
     ghost Value = { State L };
 

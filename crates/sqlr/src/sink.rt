@@ -3,7 +3,7 @@
 ghost use Rattle.std.specs.Prelude.{◌≡◌, ◌<◌, ℕ, List, Option, OnOk, OnErr, map};
 ghost use Rattle.std.specs.List.{AllByRecursion};
 ghost use Rattle.definitions.specs.Binding.Formed.{IsFormedSomewhere};
-ghost use Rattle.bound.specs.Bound.{block_of};
+ghost use Rattle.query_tree.specs.Bound.{block_of};
 ghost use Rattle.sqlr.specs.Devices.{Took, TookBeginning};
 
 use crate::cause::Refused;

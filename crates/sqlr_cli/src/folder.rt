@@ -1,8 +1,7 @@
 //! Files of the working folder.
 
 use crate::standard_error::StandardError;
-use failures::Failures;
-use sqlr::{FetchFault, Fetched, Library};
+use sqlr::{Failures, FetchFault, Fetched, Library};
 use std::alloc::Global;
 use std::fs::{File, OpenFile};
 use std::io::{self, ErrorKind, Read};

@@ -7,12 +7,11 @@ mod standard_error;
 
 ghost use Rattle.std.specs.Prelude.{◌≡◌, ◌<◌};
 
-use diagnostics::{Lines, Place, Reporter};
-use failures::Failures;
 use folder::{FileFault, Folder};
+use messages_statements::{Lines, Place, Reporter};
 use output::Output;
 use sqlr::requests::{Request, Script};
-use sqlr::{RunFault, Session, request, status};
+use sqlr::{Failures, RunFault, Session, request, status};
 use standard_error::StandardError;
 use std::alloc::AllocError;
 use std::io::{self, ErrorKind, IsTerminal};

@@ -2,9 +2,8 @@
 
 use crate::standard_error::StandardError;
 use catalog::Database;
-use diagnostics::Reporter;
-use failures::Failures;
-use sqlr::{CheckedFile, Refused, Sink, SinkFault};
+use messages_statements::Reporter;
+use sqlr::{CheckedFile, Failures, Refused, Sink, SinkFault};
 use std::io::{self, Write};
 use std::rt::Runtime;
 use std::sync::ledger::Ledger;

@@ -1,4 +1,6 @@
 pub use Rattle.definitions.specs.Value
+pub use Rattle.definitions.specs.Refusal
 pub mod Meaning
 pub mod Raises
 pub mod Truths
+pub mod RefusalMeaning

@@ -2,7 +2,7 @@
 use Rattle.std.proofs.Common.{◌≡◌, ◌∙◌, refl, sym, ap, subst, ℕ, zero, suc, ◌-◌, ◌<◌, ◌≤◌, length, map, List, [], ◌∷◌, ◌++◌, Some, None, Result, Ok, Err, Bool, true, false, ◌==◌, arith}
 use Rattle.std.proofs.Common.{Vec, Global}
 use Rattle.std.proofs.lemmas.Bool.Decides.{nat_tests}
-use Rattle.trees.specs.declared.expr.Operand.{Operand}
+use Rattle.parse_tree.specs.declared.expr.Operand.{Operand}
 use Rattle.std.specs.Prelude.{slice_get}
 use Rattle.definitions.specs.Token.{TokenKind}
 use Rattle.definitions.specs.Rule.{Rule, Gives, Then}
@@ -10,15 +10,15 @@ use Rattle.definitions.specs.Grammar as g
 use Rattle.definitions.specs.Grammar.{LineKind, LineOf, operator_in, line, operands, within}
 use Rattle.definitions.specs.Statement as s
 use Rattle.definitions.specs.Statement.{Expr, LineOperator}
-use Rattle.trees.specs.Trees.{operand_of}
+use Rattle.parse_tree.specs.Trees.{operand_of}
 use Rattle.definitions.proofs.Alike.{Alike, then_alike, gives_alike}
 use Rattle.definitions.proofs.Grammar.{within_alike, conjunction_alike, negation_alike, product_alike, sign_alike}
-use Rattle.cursor.specs.declared.stop.Stop.{Stop}
-use Rattle.cursor.specs.Reading.{Place, IsNext, Outcome, viewed}
+use Rattle.syntax_cursor.specs.declared.stop.Stop.{Stop}
+use Rattle.syntax_cursor.specs.Reading.{Place, IsNext, Outcome, viewed}
 use Rattle.syntax.specs.Reading.{LineAt, OperandAt}
-use Rattle.cursor.specs.Reading as r
-use Rattle.cursor.proofs.Outcomes.{then_on, then_fails}
-use Rattle.cursor.proofs.Lists.{Joined, joined, joined_fails, joined_ends, mapped}
+use Rattle.syntax_cursor.specs.Reading as r
+use Rattle.syntax_cursor.proofs.Outcomes.{then_on, then_fails}
+use Rattle.syntax_cursor.proofs.Lists.{Joined, joined, joined_fails, joined_ends, mapped}
 
 -- how loose a line is
 abbrev pub rank : LineKind → ℕ

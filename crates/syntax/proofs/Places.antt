@@ -10,21 +10,21 @@ use Rattle.definitions.specs.Grammar.{op_in, operator_in, sign_in, function_in, 
 use Rattle.lexer.specs.declared.token.Token.{Token}
 use Rattle.lexer.specs.Meaning.{kinds_of, token_of, tokens_of}
 use Rattle.sqlvalue.specs.Meaning.{op_of}
-use Rattle.trees.specs.Trees.{operator_of, function_of}
-use Rattle.trees.specs.declared.expr.Expr.{Expr}
-use Rattle.trees.specs.declared.expr.Expr as e
-use Rattle.trees.specs.declared.expr.Expr.TheViews as v
-use Rattle.trees.specs.declared.expr.Expr.TheVariants as w
-use Rattle.trees.specs.declared.expr.Expr.TheOpen as o
-use Rattle.trees.specs.declared.expr.Expr.TheFolds as folds
-use Rattle.trees.specs.declared.expr.SelectList.TheVariants as o'
-use Rattle.trees.specs.declared.expr.Block.{Block}
-use Rattle.trees.specs.declared.expr.Item.{Item}
-use Rattle.trees.specs.declared.expr.Operand.{Operand}
-use Rattle.cursor.specs.Places.{Leaf, Placed, Reserved, Mark, Stand, Stands, one, if_there, leaf_in, has_leaf, beside, left_at, placed_of, name_leaves, numeral_leaves, string_leaves}
-use Rattle.cursor.specs.Places as s
-use Rattle.cursor.specs.Reading.{Place, Eats, EatsAsterisk, Takes, starts_of}
-use Rattle.cursor.proofs.Places.{stays, past, says_passed}
+use Rattle.parse_tree.specs.Trees.{operator_of, function_of}
+use Rattle.parse_tree.specs.declared.expr.Expr.{Expr}
+use Rattle.parse_tree.specs.declared.expr.Expr as e
+use Rattle.parse_tree.specs.declared.expr.Expr.TheViews as v
+use Rattle.parse_tree.specs.declared.expr.Expr.TheVariants as w
+use Rattle.parse_tree.specs.declared.expr.Expr.TheOpen as o
+use Rattle.parse_tree.specs.declared.expr.Expr.TheFolds as folds
+use Rattle.parse_tree.specs.declared.expr.SelectList.TheVariants as o'
+use Rattle.parse_tree.specs.declared.expr.Block.{Block}
+use Rattle.parse_tree.specs.declared.expr.Item.{Item}
+use Rattle.parse_tree.specs.declared.expr.Operand.{Operand}
+use Rattle.syntax_cursor.specs.Places.{Leaf, Placed, Reserved, Mark, Stand, Stands, one, if_there, leaf_in, has_leaf, beside, left_at, placed_of, name_leaves, numeral_leaves, string_leaves}
+use Rattle.syntax_cursor.specs.Places as s
+use Rattle.syntax_cursor.specs.Reading.{Place, Eats, EatsAsterisk, Takes, starts_of}
+use Rattle.syntax_cursor.proofs.Places.{stays, past, says_passed}
 use Rattle.syntax.specs.Places.{sign_leaf, op_leaf, operator_leaf, function_leaf, all, same, reference_leaves, source_leaves, expr_layer, list_layer, block_layer, item_layer, operand_layer, expr_leaves, list_leaves, block_leaves, item_leaves, operand_leaves}
 
 -- ---- lists of parts

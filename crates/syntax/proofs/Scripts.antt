@@ -11,15 +11,15 @@ use Rattle.definitions.specs.Grammar.{within}
 use Rattle.definitions.proofs.Grammar.{statement_alike, within_alike, no_token_there}
 use Rattle.lexer.specs.declared.token.Token.{Token}
 use Rattle.lexer.specs.Meaning.{token_of, tokens_of}
-use Rattle.cursor.specs.declared.stop.Stop.{Stop}
-use Rattle.cursor.specs.declared.stop.Stop.TheVariants as s
+use Rattle.syntax_cursor.specs.declared.stop.Stop.{Stop}
+use Rattle.syntax_cursor.specs.declared.stop.Stop.TheVariants as s
 use Rattle.syntax.specs.declared.fault.SyntaxFault.{SyntaxFault}
 use Rattle.syntax.specs.declared.fault.SyntaxFault.TheVariants as f
 use Rattle.lexer.specs.Meaning.{kinds_of}
-use Rattle.cursor.specs.Reading.{Place, IsNext, Agree, Nowhere, Stops, Outcome, viewed, opened}
+use Rattle.syntax_cursor.specs.Reading.{Place, IsNext, Agree, Nowhere, Stops, Outcome, viewed, opened}
 use Rattle.syntax.specs.Reading.{ScriptIn, ParsesScript, IsSyntaxFault, TellsStop, start_or}
-use Rattle.cursor.specs.Reading as r
-use Rattle.cursor.proofs.Stopping.{stops_as}
+use Rattle.syntax_cursor.specs.Reading as r
+use Rattle.syntax_cursor.proofs.Stopping.{stops_as}
 
 agrees : (xs more : List TokenKind) (n k : ℕ) (y : TokenKind) → k ≤ n → slice_get xs n ≡ Some y → slice_get (take (suc n) xs ++ more) k ≡ slice_get xs k
 agrees [] more n k y l h = absurd cc

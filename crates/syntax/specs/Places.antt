@@ -4,28 +4,28 @@ use Rattle.definitions.specs.Statement as spec
 use Rattle.definitions.specs.Token as t
 use Rattle.definitions.specs.Word as w
 use Rattle.sqlvalue.specs.Meaning.{op_of}
-use Rattle.trees.specs.Trees.{operator_of, function_of}
-use Rattle.trees.specs.declared.leaf.ColumnReference.{ColumnReference}
-use Rattle.trees.specs.declared.expr.Expr.{Expr}
-use Rattle.trees.specs.declared.expr.Expr.TheOpen.{Expr-F, SelectList-F, Item-F, Operand-F, Block-F}
-use Rattle.trees.specs.declared.expr.Expr.TheOpen as e
-use Rattle.trees.specs.declared.expr.Expr.TheFolds.{fold-Expr, fold-SelectList, fold-Item, fold-Operand, fold-Block}
-use Rattle.trees.specs.declared.expr.SelectList.{SelectList}
-use Rattle.trees.specs.declared.expr.Item.{Item}
-use Rattle.trees.specs.declared.expr.Operand.{Operand}
-use Rattle.trees.specs.declared.expr.Block.{Block}
-use Rattle.trees.specs.declared.expr.Source.{Source}
-use Rattle.trees.specs.declared.statement.KeyName.{KeyName}
-use Rattle.trees.specs.declared.statement.KeyName.TheVariants as k
-use Rattle.trees.specs.declared.statement.Key.{Key}
-use Rattle.trees.specs.declared.statement.Select.{Select}
-use Rattle.trees.specs.declared.statement.ColumnDefinition.{ColumnDefinition}
-use Rattle.trees.specs.declared.statement.Bound.{Bound}
-use Rattle.trees.specs.declared.statement.Range.{Range}
-use Rattle.trees.specs.declared.statement.IndexFigures.{IndexFigures}
-use Rattle.trees.specs.declared.statement.Statement.{Statement}
-use Rattle.trees.specs.declared.statement.Statement.TheVariants as s
-use Rattle.cursor.specs.Places.{Leaf, Placed, Reserved, Mark, one, if_there, name_leaves, numeral_leaves, string_leaves, count_leaves}
+use Rattle.parse_tree.specs.Trees.{operator_of, function_of}
+use Rattle.parse_tree.specs.declared.leaf.ColumnReference.{ColumnReference}
+use Rattle.parse_tree.specs.declared.expr.Expr.{Expr}
+use Rattle.parse_tree.specs.declared.expr.Expr.TheOpen.{Expr-F, SelectList-F, Item-F, Operand-F, Block-F}
+use Rattle.parse_tree.specs.declared.expr.Expr.TheOpen as e
+use Rattle.parse_tree.specs.declared.expr.Expr.TheFolds.{fold-Expr, fold-SelectList, fold-Item, fold-Operand, fold-Block}
+use Rattle.parse_tree.specs.declared.expr.SelectList.{SelectList}
+use Rattle.parse_tree.specs.declared.expr.Item.{Item}
+use Rattle.parse_tree.specs.declared.expr.Operand.{Operand}
+use Rattle.parse_tree.specs.declared.expr.Block.{Block}
+use Rattle.parse_tree.specs.declared.expr.Source.{Source}
+use Rattle.parse_tree.specs.declared.statement.KeyName.{KeyName}
+use Rattle.parse_tree.specs.declared.statement.KeyName.TheVariants as k
+use Rattle.parse_tree.specs.declared.statement.Key.{Key}
+use Rattle.parse_tree.specs.declared.statement.Select.{Select}
+use Rattle.parse_tree.specs.declared.statement.ColumnDefinition.{ColumnDefinition}
+use Rattle.parse_tree.specs.declared.statement.Bound.{Bound}
+use Rattle.parse_tree.specs.declared.statement.Range.{Range}
+use Rattle.parse_tree.specs.declared.statement.IndexFigures.{IndexFigures}
+use Rattle.parse_tree.specs.declared.statement.Statement.{Statement}
+use Rattle.parse_tree.specs.declared.statement.Statement.TheVariants as s
+use Rattle.syntax_cursor.specs.Places.{Leaf, Placed, Reserved, Mark, one, if_there, name_leaves, numeral_leaves, string_leaves, count_leaves}
 
 -- ---- operators
 

@@ -8,9 +8,9 @@ use Rattle.definitions.specs.Grammar as grammar
 use Rattle.definitions.specs.Grammar.{within, LineKind, ScriptAt, SyntaxFails}
 use Rattle.definitions.specs.Statement.{Expr, Statement}
 use Rattle.lexer.specs.declared.token.Token.{Token}
-use Rattle.cursor.specs.declared.stop.Stop.{Stop}
-use Rattle.cursor.specs.declared.stop.Stop.TheVariants as s
-use Rattle.cursor.specs.Reading.{Place, Stops}
+use Rattle.syntax_cursor.specs.declared.stop.Stop.{Stop}
+use Rattle.syntax_cursor.specs.declared.stop.Stop.TheVariants as s
+use Rattle.syntax_cursor.specs.Reading.{Place, Stops}
 use Rattle.syntax.specs.declared.fault.SyntaxFault.{SyntaxFault}
 use Rattle.syntax.specs.declared.fault.SyntaxFault.TheVariants as f
 

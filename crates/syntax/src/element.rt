@@ -2,20 +2,20 @@
 
 ghost use Rattle.std.specs.Prelude.{◌≡◌, ◌<◌, map, length, IfOk};
 ghost use Rattle.definitions.specs.Grammar.{ListOf};
-ghost use Rattle.cursor.specs.Places.{Stands};
-ghost use Rattle.cursor.specs.Reading.{ParsesFlat, viewed};
+ghost use Rattle.syntax_cursor.specs.Places.{Stands};
+ghost use Rattle.syntax_cursor.specs.Reading.{ParsesFlat, viewed};
 ghost use Rattle.syntax.specs.Places.{all};
 
-use cursor::{Cursor, Stop};
 use lexer::Symbol;
+use syntax_cursor::{Cursor, Stop};
 
 /// What stands between commas.
 pub trait Element: Drop {
     ghost use Rattle.std.specs.Prelude.{List, ℕ, IfOk};
     ghost use Rattle.definitions.specs.Rule.{Rule};
     ghost use Rattle.definitions.proofs.Alike.{Alike};
-    ghost use Rattle.cursor.specs.Places.{Placed, Stands};
-    ghost use Rattle.cursor.specs.Reading.{ParsesFlat, viewed};
+    ghost use Rattle.syntax_cursor.specs.Places.{Placed, Stands};
+    ghost use Rattle.syntax_cursor.specs.Reading.{ParsesFlat, viewed};
 
     ghost Tree: { Type 0 };
 

@@ -7,18 +7,18 @@ ghost use Rattle.definitions.specs.Token.{OpenParen, Reserved};
 ghost use Rattle.definitions.specs.Word as words;
 ghost use Rattle.lexer.specs.Meaning.{word_of};
 ghost use Rattle.sqlvalue.specs.Meaning.{op_of};
-ghost use Rattle.trees.specs.Trees.{block_of, column_of, expr_of, function_of, member_of};
-ghost use Rattle.cursor.specs.Leaves.{line_kind};
-ghost use Rattle.cursor.specs.Places as leaf;
-ghost use Rattle.cursor.specs.Places.{GoesOn, Stands, if_there, one};
-ghost use Rattle.cursor.specs.Reading.{Eats, EatsAsterisk, Parses, ParsesFlat, Place, viewed};
+ghost use Rattle.parse_tree.specs.Trees.{block_of, column_of, expr_of, function_of, member_of};
+ghost use Rattle.syntax_cursor.specs.Leaves.{line_kind};
+ghost use Rattle.syntax_cursor.specs.Places as leaf;
+ghost use Rattle.syntax_cursor.specs.Places.{GoesOn, Stands, if_there, one};
+ghost use Rattle.syntax_cursor.specs.Reading.{Eats, EatsAsterisk, Parses, ParsesFlat, Place, viewed};
 ghost use Rattle.syntax.specs.Places.{all, block_leaves, expr_leaves, function_leaf, op_leaf, reference_leaves};
 ghost use Rattle.syntax.specs.Reading.{LineAt, OperandAt};
 
 use crate::query;
-use cursor::{Cursor, LineKind, Stop, TokenClass};
 use lexer::{Symbol, Word};
-use trees::{Block, ColumnReference, Expr, Op, Operand, SetFunction};
+use parse_tree::{Block, ColumnReference, Expr, Op, Operand, SetFunction};
+use syntax_cursor::{Cursor, LineKind, Stop, TokenClass};
 
 /// `operand { operator operand }`, of one of the four kinds (ISO/IEC 9075:1992, 8.12 and 6.12).
 #[cycle(expressions)]

@@ -3,9 +3,9 @@
 ghost use Rattle.std.specs.Prelude.{◌≡◌, slice_get};
 ghost use Rattle.syntax.specs.Reading.{TellsStop, start_or};
 
-use cursor::{Stop, Wanted};
 use lexer::{Token, TokenKind};
 use std::fmt;
+use syntax_cursor::{Stop, Wanted};
 use thiserror::Error;
 
 /// Why tokens are no script.

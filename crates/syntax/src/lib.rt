@@ -8,11 +8,11 @@ mod parser;
 mod query;
 mod statement;
 
-pub use cursor::{TokenClass, Wanted};
 pub use fault::{SyntaxFault, Unexpected};
-pub use parser::{MAX_LEVELS, parse};
-pub use trees::{
+pub use parse_tree::{
     Block, Bound, ColumnDefinition, ColumnReference, Constraint, Count, Expr, IndexFigures, Item,
     Key, KeyName, LineOperator, Name, Numeral, Op, Operand, Quantifier, Range, Select, SelectList,
     SetFunction, Source, Statement, StringLiteral,
 };
+pub use parser::{MAX_LEVELS, parse};
+pub use syntax_cursor::{TokenClass, Wanted};

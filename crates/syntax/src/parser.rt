@@ -3,18 +3,18 @@
 ghost use Rattle.std.specs.Prelude.{◌≡◌, [], IfOk, IfErr};
 ghost use Rattle.definitions.specs.Grammar.{Derives};
 ghost use Rattle.lexer.specs.Meaning.{kinds_of, tokens_of};
-ghost use Rattle.trees.specs.Trees.{statements_of};
-ghost use Rattle.cursor.specs.Places.{Stand, StandIn, left_at};
-ghost use Rattle.cursor.specs.Reading.{viewed};
+ghost use Rattle.parse_tree.specs.Trees.{statements_of};
+ghost use Rattle.syntax_cursor.specs.Places.{Stand, StandIn, left_at};
+ghost use Rattle.syntax_cursor.specs.Reading.{viewed};
 ghost use Rattle.syntax.specs.Places.{all, statement_leaves};
 ghost use Rattle.syntax.specs.Reading.{IsSyntaxFault, ParsesScript};
 
 use crate::fault::{SyntaxFault, fault_of};
 use crate::statement::statement;
-use cursor::{Cursor, Stop, Wanted};
 use lexer::{Symbol, Token, TokenKind};
+use parse_tree::Statement;
 use std::alloc::Global;
-use trees::Statement;
+use syntax_cursor::{Cursor, Stop, Wanted};
 
 /// The levels that parentheses, signs and NOTs may open (own).
 pub const MAX_LEVELS: u8 = 64;

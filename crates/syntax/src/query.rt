@@ -6,19 +6,19 @@ ghost use Rattle.definitions.specs.Word as spec;
 ghost use Rattle.definitions.specs.Grammar as grammar;
 ghost use Rattle.definitions.specs.Grammar.{within};
 ghost use Rattle.lexer.specs.Meaning.{word_of};
-ghost use Rattle.trees.specs.Trees.{block_of, column_of, condition_of, item_of, key_of, key_name_of, list_of, name_of, select_of, source_of};
-ghost use Rattle.cursor.specs.Places as leaf;
-ghost use Rattle.cursor.specs.Places.{Stands, has_leaf, if_there, name_leaves};
-ghost use Rattle.cursor.specs.Reading.{Given, Parses, ParsesFlat, viewed};
+ghost use Rattle.parse_tree.specs.Trees.{block_of, column_of, condition_of, item_of, key_of, key_name_of, list_of, name_of, select_of, source_of};
+ghost use Rattle.syntax_cursor.specs.Places as leaf;
+ghost use Rattle.syntax_cursor.specs.Places.{Stands, has_leaf, if_there, name_leaves};
+ghost use Rattle.syntax_cursor.specs.Reading.{Given, Parses, ParsesFlat, viewed};
 ghost use Rattle.syntax.specs.Places.{all, block_leaves, expr_leaves, item_leaves, key_leaves, key_name_leaves, list_leaves, reference_leaves, select_leaves};
 
 use crate::element::{Element, comma_list};
 use crate::expr;
-use cursor::{Cursor, LineKind, Stop, TokenClass};
 use lexer::{Symbol, Word};
-use trees::{
+use parse_tree::{
     Block, ColumnReference, Expr, Item, Key, KeyName, Name, Select, SelectList, Source, Sources,
 };
+use syntax_cursor::{Cursor, LineKind, Stop, TokenClass};
 
 /// A query block (ISO/IEC 9075:1992, 7.9).
 #[cycle(expressions)]
@@ -185,7 +185,7 @@ impl Element for Source {
     ghost use Rattle.definitions.specs.Statement.{Source};
     ghost use Rattle.definitions.specs.Grammar.{SourceAt};
     ghost use Rattle.definitions.proofs.Grammar.{source_alike};
-    ghost use Rattle.trees.specs.Trees.{source_of};
+    ghost use Rattle.parse_tree.specs.Trees.{source_of};
     ghost use Rattle.syntax.specs.Places.{source_leaves};
 
     ghost Tree = { Source };
@@ -210,7 +210,7 @@ impl Element for ColumnReference {
     ghost use Rattle.definitions.specs.Statement.{ColumnReference};
     ghost use Rattle.definitions.specs.Grammar.{ReferenceAt};
     ghost use Rattle.definitions.proofs.Grammar.{reference_alike};
-    ghost use Rattle.trees.specs.Trees.{column_of};
+    ghost use Rattle.parse_tree.specs.Trees.{column_of};
     ghost use Rattle.syntax.specs.Places.{reference_leaves};
 
     ghost Tree = { ColumnReference };
@@ -232,7 +232,7 @@ impl Element for Key {
     ghost use Rattle.definitions.specs.Statement.{Key};
     ghost use Rattle.definitions.specs.Grammar.{KeyAt};
     ghost use Rattle.definitions.proofs.Grammar.{key_alike};
-    ghost use Rattle.trees.specs.Trees.{key_of};
+    ghost use Rattle.parse_tree.specs.Trees.{key_of};
     ghost use Rattle.syntax.specs.Places.{key_leaves};
 
     ghost Tree = { Key };

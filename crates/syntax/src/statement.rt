@@ -3,18 +3,18 @@
 ghost use Rattle.std.specs.Prelude.{◌≡◌, [], IfOk, map, option_map};
 ghost use Rattle.definitions.specs.Grammar as grammar;
 ghost use Rattle.definitions.specs.Grammar.{within};
-ghost use Rattle.trees.specs.Trees.{bound_of, constraint_of, figures_of, name_of, range_of, statement_of};
+ghost use Rattle.parse_tree.specs.Trees.{bound_of, constraint_of, figures_of, name_of, range_of, statement_of};
 ghost use Rattle.sqlvalue.specs.Meaning.{declared_of};
-ghost use Rattle.cursor.specs.Places.{Stands, if_there, name_leaves};
-ghost use Rattle.cursor.specs.Reading.{Parses, ParsesFlat, viewed};
+ghost use Rattle.syntax_cursor.specs.Places.{Stands, if_there, name_leaves};
+ghost use Rattle.syntax_cursor.specs.Reading.{Parses, ParsesFlat, viewed};
 ghost use Rattle.syntax.specs.Places.{all, bound_leaves, figures_leaves, range_leaves, statement_leaves};
 
 use crate::element::{Element, comma_list};
 use crate::query;
-use cursor::{Cursor, Stop, TokenClass, TypeWord};
 use lexer::{Symbol, Word};
+use parse_tree::{Bound, ColumnDefinition, Constraint, IndexFigures, Name, Range, Statement};
 use sqlvalue::DeclaredType;
-use trees::{Bound, ColumnDefinition, Constraint, IndexFigures, Name, Range, Statement};
+use syntax_cursor::{Cursor, Stop, TokenClass, TypeWord};
 
 pub fn statement(cursor: &mut Cursor, levels: u8) -> Result<Statement, Stop>
     ensures reads { Parses (λ m. grammar.StatementOf (within m)) levels cursor.old cursor.new (viewed statement_of result) }
@@ -245,8 +245,8 @@ impl Element for Name {
     ghost use Rattle.definitions.specs.Statement.{Name};
     ghost use Rattle.definitions.specs.Grammar.{NameAt};
     ghost use Rattle.definitions.proofs.Grammar.{name_alike};
-    ghost use Rattle.trees.specs.Trees.{name_of};
-    ghost use Rattle.cursor.specs.Places.{name_leaves};
+    ghost use Rattle.parse_tree.specs.Trees.{name_of};
+    ghost use Rattle.syntax_cursor.specs.Places.{name_leaves};
 
     ghost Tree = { Name };
 
@@ -267,7 +267,7 @@ impl Element for ColumnDefinition {
     ghost use Rattle.definitions.specs.Statement.{ColumnDefinition};
     ghost use Rattle.definitions.specs.Grammar.{ColumnAt};
     ghost use Rattle.definitions.proofs.Grammar.{column_alike};
-    ghost use Rattle.trees.specs.Trees.{definition_of};
+    ghost use Rattle.parse_tree.specs.Trees.{definition_of};
     ghost use Rattle.syntax.specs.Places.{definition_leaves};
 
     ghost Tree = { ColumnDefinition };

@@ -1,6 +1,6 @@
 use Rattle.std.proofs.Common.{length, map, ◌≡◌, drop, take, ◌++◌, List}
-use Rattle.bound.specs.Bound.{operand_of as bound_operand_of, item_of, value_type_of, condition_of as bound_condition_of, member_of as bound_member_of}
-use Rattle.trees.specs.Trees.{operand_of, item_of as listed_item_of, member_of}
+use Rattle.query_tree.specs.Bound.{operand_of as bound_operand_of, item_of, value_type_of, condition_of as bound_condition_of, member_of as bound_member_of}
+use Rattle.parse_tree.specs.Trees.{operand_of, item_of as listed_item_of, member_of}
 use Rattle.query_rules.specs.Meaning.{place_of}
 use Rattle.binder.specs.Meaning.{progress_of}
 use Rattle.definitions.specs.Grammar.{operands, items, members}

@@ -10,14 +10,13 @@ ghost use Rattle.definitions.specs.Value as spec;
 ghost use Rattle.definitions.specs.Lexing as lexing;
 ghost use Rattle.definitions.specs.Loading.{FieldLoads, IsSign, negated};
 ghost use Rattle.sqlvalue.specs.Meaning.{type_of};
-ghost use Rattle.refusals.specs.Meaning.{field_error_of};
+ghost use Rattle.sqlvalue.specs.RefusalMeaning.{field_error_of};
 ghost use Rattle.columns.specs.Cells.{number_or_null};
 ghost use Rattle.loading.specs.Fields.{IsEqualOf, number_of, WritesShort, WritesNone, Stores, StoresNone};
 
 use super::is_null;
 use crate::written_number::{MAX_DIGITS, WrittenNumber, power_of_ten, units_in};
-use refusals::FieldFault;
-use sqlvalue::SqlType;
+use sqlvalue::{FieldFault, SqlType};
 
 /// The units of the number that a field is stored as in a column of numbers, if it is not null.
 pub(crate) fn number_cell(field: &[u8], sql_type: SqlType) -> Result<Option<i64>, FieldFault>

@@ -6,12 +6,12 @@ ghost use Rattle.std.specs.Option.{option_copied};
 ghost use Rattle.definitions.specs.Characters.{space, is_printable as is_printable_code};
 ghost use Rattle.definitions.specs.Value as spec;
 ghost use Rattle.definitions.specs.Loading.{FieldLoads};
-ghost use Rattle.refusals.specs.Meaning.{field_error_of};
+ghost use Rattle.sqlvalue.specs.RefusalMeaning.{field_error_of};
 ghost use Rattle.columns.specs.Cells.{FitsIn, padded, text_or_null};
 ghost use Rattle.loading.specs.Fields.{Stores, StoresNone};
 
 use super::is_null;
-use refusals::FieldFault;
+use sqlvalue::FieldFault;
 
 /// The characters of the text that a field is stored as in a column of texts of a length, if it is
 /// not null, the blanks at its end apart.

@@ -1,26 +1,26 @@
 use Rattle.std.proofs.Common.{sym, ap, refl, rules, subst, true, false, Result, Ok, ◌≡◌, ◌∙◌}
 use Rattle.definitions.specs.Token.{Mark, CloseParen}
 use Rattle.definitions.specs.Rule.{Past, Gives}
-use Rattle.cursor.specs.declared.stop.Stop.{Stop}
-use Rattle.cursor.specs.Reading.{Place, Outcome, EatsAsterisk}
+use Rattle.syntax_cursor.specs.declared.stop.Stop.{Stop}
+use Rattle.syntax_cursor.specs.Reading.{Place, Outcome, EatsAsterisk}
 use Rattle.syntax.specs.Reading.{LineAt}
 use Rattle.std.proofs.Common.{Result, ap₂, ℕ, suc, map, [], ◌∷◌, ◌++◌, Bool, true, false}
 use Rattle.definitions.specs.Statement as tree
 use Rattle.definitions.specs.Grammar.{within}
 use Rattle.sqlvalue.specs.Meaning.{op_of}
-use Rattle.trees.specs.Trees.{expr_of, quantifier_of, block_of, member_of, item_of, operand_of, function_of}
-use Rattle.cursor.specs.Leaves.{line_kind}
-use Rattle.cursor.proofs.Stopping.{nowhere_never, nowhere_first}
-use Rattle.cursor.proofs.Opening.{inside, opens_past, opens_if, opens_reads, deep_past, deep_if, deep_reads, sign_opens}
-use Rattle.cursor.proofs.Lists.{Lists, list_begins, list_goes_on, list_fails, list_ends, map_push}
-use Rattle.cursor.proofs.Lists as lists
+use Rattle.parse_tree.specs.Trees.{expr_of, quantifier_of, block_of, member_of, item_of, operand_of, function_of}
+use Rattle.syntax_cursor.specs.Leaves.{line_kind}
+use Rattle.syntax_cursor.proofs.Stopping.{nowhere_never, nowhere_first}
+use Rattle.syntax_cursor.proofs.Opening.{inside, opens_past, opens_if, opens_reads, deep_past, deep_if, deep_reads, sign_opens}
+use Rattle.syntax_cursor.proofs.Lists.{Lists, list_begins, list_goes_on, list_fails, list_ends, map_push}
+use Rattle.syntax_cursor.proofs.Lists as lists
 use Rattle.syntax.proofs.Lines.{Lines, is_line, line_begins, line_goes_on, line_fails, line_ends, fewer, alone, several}
-use Rattle.trees.proofs.Views.{of_column, of_numeral, of_string, of_signed, of_not, of_compare, of_compare_all, of_between, of_in_list, of_in_query, of_exists, of_scalar, of_count_rows, of_function, of_line, of_operand, of_item, of_asterisk, of_items, of_block}
+use Rattle.parse_tree.proofs.Views.{of_column, of_numeral, of_string, of_signed, of_not, of_compare, of_compare_all, of_between, of_in_list, of_in_query, of_exists, of_scalar, of_count_rows, of_function, of_line, of_operand, of_item, of_asterisk, of_items, of_block}
 use Rattle.definitions.specs.Grammar as g
 use Rattle.definitions.proofs.Grammar.{closed_alike, optional_alike, list_alike, name_alike, reference_alike, source_alike, distinct_alike, groups_alike, sum_alike, expr_alike, item_alike, select_list_alike, condition_alike, block_alike, subquery_alike, member_alike, within_alike}
-use Rattle.cursor.proofs.Outcomes.{gives_as, then_on, flat_on, past_on, sees_on, misses_on, reads_on, reads_not_on, if_on, gives, past_fails, never_fails, then_fails, no_memory, answers, begins}
-use Rattle.cursor.specs.Places.{Reserved, Mark, one, if_there}
-use Rattle.cursor.proofs.Places.{ok_then, ok_goes_on, ok_behind, ok_behind_either, here, on, stays, still, seen_as, no_more, past, past_leaf, leaf_here, says_leaf, says_passed}
+use Rattle.syntax_cursor.proofs.Outcomes.{gives_as, then_on, flat_on, past_on, sees_on, misses_on, reads_on, reads_not_on, if_on, gives, past_fails, never_fails, then_fails, no_memory, answers, begins}
+use Rattle.syntax_cursor.specs.Places.{Reserved, Mark, one, if_there}
+use Rattle.syntax_cursor.proofs.Places.{ok_then, ok_goes_on, ok_behind, ok_behind_either, here, on, stays, still, seen_as, no_more, past, past_leaf, leaf_here, says_leaf, says_passed}
 use Rattle.syntax.specs.Places.{all, expr_leaves, block_leaves, item_leaves, operand_leaves, sign_leaf, op_leaf, function_leaf}
 use Rattle.syntax.proofs.Places as leaves
 use Rattle.definitions.specs.Word as words

@@ -1,10 +1,10 @@
 use Rattle.std.proofs.Common.{◌+◌, ◌*◌, ◌-◌, ◌++◌, length, map}
 use Rattle.definitions.specs.Grammar as g
 use Rattle.definitions.specs.Grammar.{within}
-use Rattle.trees.specs.Trees.{expr_of, item_of, member_of, operand_of}
-use Rattle.cursor.specs.Leaves.{line_kind}
-use Rattle.cursor.specs.Places.{Stands, if_there}
-use Rattle.cursor.proofs.Lists.{Lists}
+use Rattle.parse_tree.specs.Trees.{expr_of, item_of, member_of, operand_of}
+use Rattle.syntax_cursor.specs.Leaves.{line_kind}
+use Rattle.syntax_cursor.specs.Places.{Stands, if_there}
+use Rattle.syntax_cursor.proofs.Lists.{Lists}
 use Rattle.syntax.specs.Places.{all, expr_leaves, item_leaves, operand_leaves}
 use Rattle.syntax.proofs.Lines.{rank, Lines}
 use Rattle.syntax.proofs.+expressions.Given as goal

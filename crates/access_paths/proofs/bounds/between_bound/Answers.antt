@@ -1,6 +1,6 @@
 use Rattle.std.proofs.Common.{[], ◌∷◌}
 use Rattle.definitions.specs.Queries.Conjuncts.{tables_in, tables_named}
-use Rattle.bound.specs.Bound.{value_of}
+use Rattle.query_tree.specs.Bound.{value_of}
 use Rattle.conjuncts.proofs.Naming.{left_few, right_few}
 use Rattle.access_paths.proofs.bounds.between_bound.Goals as goal
 

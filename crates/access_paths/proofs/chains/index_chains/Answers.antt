@@ -1,5 +1,5 @@
 use Rattle.std.proofs.Common.{◌∙◌, map, ap, arith}
-use Rattle.bound.specs.Bound.{block_of}
+use Rattle.query_tree.specs.Bound.{block_of}
 use Rattle.access_paths.specs.Matches.{index_chains, with_column}
 use Rattle.access_paths.specs.Views.{chain_told, match_told}
 use Rattle.access_paths.proofs.Rooms.{onto, all_onto, next_onto, next_done, none_done, same_room, room_left}

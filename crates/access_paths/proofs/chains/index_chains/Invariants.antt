@@ -1,5 +1,5 @@
 use Rattle.std.proofs.Common.{◌≡◌, length, map}
-use Rattle.bound.specs.Bound.{block_of}
+use Rattle.query_tree.specs.Bound.{block_of}
 use Rattle.access_paths.specs.Matches.{index_chains}
 use Rattle.access_paths.specs.Views.{chain_told}
 use Rattle.access_paths.proofs.Rooms.{onto, AreWithinDone}

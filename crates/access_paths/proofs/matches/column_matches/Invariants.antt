@@ -1,5 +1,5 @@
 use Rattle.std.proofs.Common.{◌≡◌, ◌++◌, map}
-use Rattle.bound.specs.Bound.{block_of, column_of}
+use Rattle.query_tree.specs.Bound.{block_of, column_of}
 use Rattle.access_paths.specs.Matches.{column_matches}
 use Rattle.access_paths.specs.Views.{match_told}
 use Rattle.access_paths.proofs.Early.{matches_from}

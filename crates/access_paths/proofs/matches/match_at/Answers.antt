@@ -1,7 +1,7 @@
 use Rattle.std.proofs.Common.{◌≡◌, ◌∙◌, ◌<◌, sym, ap, length, subst}
 use Rattle.std.specs.Prelude.{option_map}
 use Rattle.definitions.specs.Queries.Conjuncts.{conjuncts}
-use Rattle.bound.specs.Bound.{block_of, column_of}
+use Rattle.query_tree.specs.Bound.{block_of, column_of}
 use Rattle.estimate.specs.PlanConjuncts.{condition_told}
 use Rattle.access_paths.specs.Views.{bound_told, match_told}
 use Rattle.access_paths.proofs.Early.{same_count, condition_at, early_at, few_at, late_matches_none, early_matches, match_of}

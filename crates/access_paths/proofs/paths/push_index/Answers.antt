@@ -2,7 +2,7 @@ use Rattle.std.proofs.Common.{◌≡◌, ◌∙◌, ◌++◌, refl, sym, ap, sub
 use Rattle.std.specs.Prelude.{option_and_then, slice_get}
 use Rattle.std.specs.List.{AllByRecursion}
 use Rattle.definitions.specs.Table.{Table}
-use Rattle.bound.specs.Bound.{block_of}
+use Rattle.query_tree.specs.Bound.{block_of}
 use Rattle.access_paths.specs.Found.{path_told}
 use Rattle.access_paths.specs.Listing.{scans_found}
 use Rattle.access_paths.specs.Matches.{index_chains}

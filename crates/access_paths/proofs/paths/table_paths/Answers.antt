@@ -1,7 +1,7 @@
 use Rattle.std.proofs.Common.{◌∙◌, sym, ap, subst, map}
 use Rattle.std.specs.Prelude.{filter}
 use Rattle.std.specs.List.{AllByRecursion}
-use Rattle.bound.specs.Bound.{block_of}
+use Rattle.query_tree.specs.Bound.{block_of}
 use Rattle.access_paths.specs.Found.{path_told, directions_with, is_open, CostsAsPath}
 use Rattle.access_paths.specs.Listing.{number_found, table_found}
 use Rattle.access_paths.proofs.Opening.{path_in, open_as_paths}

@@ -1,6 +1,6 @@
 use Rattle.std.proofs.Common.{◌≡◌, ◌++◌, map, drop}
 use Rattle.std.specs.Prelude.{flat_map}
-use Rattle.bound.specs.Bound.{block_of}
+use Rattle.query_tree.specs.Bound.{block_of}
 use Rattle.access_paths.specs.Found.{path_told, directions_with}
 use Rattle.access_paths.specs.Listing.{number_found, table_found}
 use Rattle.access_paths.proofs.paths.table_paths.Given as goal

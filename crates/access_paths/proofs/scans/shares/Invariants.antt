@@ -1,6 +1,6 @@
 use Rattle.std.proofs.Common.{◌≡◌, drop}
 use Rattle.definitions.specs.Estimates.PathCost.{shares}
-use Rattle.bound.specs.Bound.{block_of}
+use Rattle.query_tree.specs.Bound.{block_of}
 use Rattle.access_paths.proofs.scans.shares.Given as goal
 
 abbrev pub invariant-conjuncts : goal.invariant-conjuncts

@@ -1,6 +1,6 @@
 use Rattle.std.proofs.Common.{◌≡◌, ◌++◌, map, drop}
-use Rattle.bound.specs.Bound.{item_of}
-use Rattle.scopes.specs.Meaning.{found_of}
+use Rattle.query_tree.specs.Bound.{item_of}
+use Rattle.query_rules.specs.ScopeRules.{found_of}
 use Rattle.binder.proofs.StarItems.{star_of}
 use Rattle.binder.proofs.items.all_columns.Given as goal
 

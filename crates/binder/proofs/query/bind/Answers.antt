@@ -5,9 +5,9 @@ use Rattle.definitions.specs.Limits.{most_keys}
 use Rattle.definitions.specs.Binding.Formed.{AreFormed}
 use Rattle.definitions.specs.Binding.Faults.{list_of as spec_list_of}
 use Rattle.definitions.proofs.BindingTheory.AcceptedQueries.{accepted_queries_are_formed}
-use Rattle.bound.specs.Bound.{block_of, item_of, key_of, value_type_of}
-use Rattle.trees.specs.Trees.{block_of as query_of, key_of as tree_key_of, list_of, select_of}
-use Rattle.trees.proofs.Views.{of_block}
+use Rattle.query_tree.specs.Bound.{block_of, item_of, key_of, value_type_of}
+use Rattle.parse_tree.specs.Trees.{block_of as query_of, key_of as tree_key_of, list_of, select_of}
+use Rattle.parse_tree.proofs.Views.{of_block}
 use Rattle.query_rules.specs.Judging.{BindsBlock, RefusesBlock}
 use Rattle.query_rules.specs.Keys.{names_by, bound_keys, SomeKeyIsUnknown, RefusesOrder}
 use Rattle.query_rules.specs.Meaning.{bind_refusal}

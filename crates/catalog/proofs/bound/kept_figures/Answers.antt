@@ -1,6 +1,6 @@
 use Rattle.std.proofs.Common.{rules}
 use Rattle.sqlvalue.specs.Meaning.{type_of}
-use Rattle.trees.specs.Trees.{figures_of, range_of}
+use Rattle.parse_tree.specs.Trees.{figures_of, range_of}
 use Rattle.catalog.proofs.Bounds.{given_refused}
 use Rattle.catalog.proofs.bound.kept_figures.Goals as goal
 

@@ -1,7 +1,7 @@
 use Rattle.std.proofs.Common.{rules}
 use Rattle.std.specs.Prelude.{◌≤ℤ◌, ◌<ℤ◌}
 use Rattle.sqlvalue.specs.Meaning.{type_of}
-use Rattle.trees.specs.Trees.{range_of}
+use Rattle.parse_tree.specs.Trees.{range_of}
 use Rattle.catalog.proofs.Bounds.{falls, rises}
 use Rattle.catalog.proofs.bound.kept_range.Goals as goal
 

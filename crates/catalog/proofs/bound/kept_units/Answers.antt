@@ -1,5 +1,5 @@
 use Rattle.sqlvalue.specs.Meaning.{type_of}
-use Rattle.trees.specs.Trees.{bound_of}
+use Rattle.parse_tree.specs.Trees.{bound_of}
 use Rattle.catalog.proofs.Bounds.{never, bound_is}
 use Rattle.catalog.proofs.bound.kept_units.Goals as goal
 

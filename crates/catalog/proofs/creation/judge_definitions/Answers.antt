@@ -1,6 +1,6 @@
 use Rattle.std.proofs.Common.{refl, arith}
 use Rattle.std.proofs.lemmas.List.{length-map}
-use Rattle.trees.specs.Trees.{definition_of}
+use Rattle.parse_tree.specs.Trees.{definition_of}
 use Rattle.catalog.proofs.Creating.{names_alike}
 use Rattle.catalog.proofs.creation.judge_definitions.Goals as goal
 

@@ -1,8 +1,8 @@
 use Rattle.std.proofs.Common.{◌≡◌, take}
 use Rattle.std.specs.Prelude.{count_by}
 use Rattle.definitions.specs.Table.{is_key}
-use Rattle.trees.specs.Trees.{constraint_of}
-use Rattle.trees.specs.declared.statement.ColumnDefinition.{ColumnDefinition}
+use Rattle.parse_tree.specs.Trees.{constraint_of}
+use Rattle.parse_tree.specs.declared.statement.ColumnDefinition.{ColumnDefinition}
 use Rattle.catalog.proofs.creation.key_count.Given as goal
 
 -- those so far

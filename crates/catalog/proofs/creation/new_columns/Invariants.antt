@@ -1,5 +1,5 @@
 use Rattle.std.proofs.Common.{◌≡◌, map, take}
-use Rattle.trees.specs.Trees.{definitions_of}
+use Rattle.parse_tree.specs.Trees.{definitions_of}
 use Rattle.catalog.specs.Creates.{AreTypes, empty_column}
 use Rattle.catalog.proofs.creation.new_columns.Given as goal
 

@@ -2,7 +2,7 @@ use Rattle.std.proofs.Common.{◌∙◌, sym, ap, map, [], arith}
 use Rattle.std.proofs.lemmas.List.{get_or-map, length-map}
 use Rattle.definitions.specs.Table.{column_number}
 use Rattle.loading.specs.Stored.{headers}
-use Rattle.trees.specs.Trees.{name_of}
+use Rattle.parse_tree.specs.Trees.{name_of}
 use Rattle.catalog.proofs.Lists.{numbers_none}
 use Rattle.catalog.proofs.naming.numbers.Goals as goal
 

@@ -2,7 +2,7 @@ use Rattle.std.proofs.Common.{◌≡◌, ◌<◌, length, map, take, Some}
 use Rattle.std.specs.List.{AllByRecursion}
 use Rattle.definitions.specs.Table.{column_numbers}
 use Rattle.loading.specs.Stored.{headers}
-use Rattle.trees.specs.Trees.{name_of}
+use Rattle.parse_tree.specs.Trees.{name_of}
 use Rattle.catalog.proofs.naming.numbers.Given as goal
 
 -- the numbers of the names so far

@@ -1,6 +1,6 @@
 use Rattle.plan_space.specs.Planned.{space_in}
 use Rattle.std.proofs.Common.{ℕ, ◌<◌}
-use Rattle.certificate.specs.Certificates.{certificate_of}
+use Rattle.plan_tree.specs.Certificates.{certificate_of}
 use Rattle.cert_check.specs.Checks.{AccessesHoldOf}
 use Rattle.cert_check.proofs.accesses.access_failing.Given as goal
 

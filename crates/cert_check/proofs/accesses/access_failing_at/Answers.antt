@@ -1,6 +1,6 @@
 use Rattle.plan_space.specs.Planned.{space_in}
-use Rattle.certificate.specs.Certificates.{certificate_of}
-use Rattle.block_paths.specs.Items.{item_of}
+use Rattle.plan_tree.specs.Certificates.{certificate_of}
+use Rattle.plan_space.specs.Items.{item_of}
 use Rattle.plan_space.proofs.Lists.{goes_on, head_has}
 use Rattle.plan_space.proofs.PathItems.{IsPathItem, each_path}
 use Rattle.cert_check.specs.Checks.{AccessesHoldOf, AccessHolds}

@@ -1,5 +1,5 @@
 use Rattle.plan_space.specs.Planned.{space_in}
-use Rattle.certificate.specs.Certificates.{certificate_of}
+use Rattle.plan_tree.specs.Certificates.{certificate_of}
 use Rattle.plan_space.proofs.Lists.{Leads}
 use Rattle.plan_space.proofs.PathItems.{IsPathItem}
 use Rattle.cert_check.specs.Checks.{AccessesHoldOf, AccessHolds}

@@ -1,8 +1,8 @@
 use Rattle.plan_space.specs.Planned.{space_in}
 use Rattle.std.proofs.Common.{arith}
 use Rattle.cert_check.specs.Checks.{JoinFails}
-use Rattle.certificate.specs.declared.states.State.{State}
-use Rattle.certificate.specs.Certificates.{state_of, certificate_of}
+use Rattle.plan_tree.specs.declared.states.State.{State}
+use Rattle.plan_tree.specs.Certificates.{state_of, certificate_of}
 use Rattle.plan_space.proofs.Deciding.{holds, fails}
 use Rattle.cert_check.proofs.JoinRule.{joins_hold}
 use Rattle.cert_check.proofs.Listed.{listed, one_more_state, every_listed, listed_bound, listed_set, listed_small}

@@ -1,7 +1,7 @@
 use Rattle.plan_space.specs.Planned.{space_in}
 use Rattle.std.proofs.Common.{arith}
-use Rattle.table_sets.specs.Sets.{set_of}
-use Rattle.certificate.specs.Certificates.{certificate_of}
+use Rattle.plan_tree.specs.Sets.{set_of}
+use Rattle.plan_tree.specs.Certificates.{certificate_of}
 use Rattle.plan_space.proofs.Deciding.{yes, no_never, holds, fails}
 use Rattle.plan_space.proofs.Lists.{one_more}
 use Rattle.cert_check.specs.Checks.{JoinFailsBy}

@@ -1,7 +1,7 @@
 use Rattle.plan_space.specs.Planned.{space_in}
 use Rattle.std.proofs.Common.{inl, inr}
-use Rattle.table_sets.specs.Sets.{set_of}
-use Rattle.certificate.specs.Certificates.{certificate_of}
+use Rattle.plan_tree.specs.Sets.{set_of}
+use Rattle.plan_tree.specs.Certificates.{certificate_of}
 use Rattle.plan_space.proofs.Deciding.{yes, no_never, holds, fails, decided}
 use Rattle.cert_check.proofs.JoinRule.{none_follows, join_fails_by, join_holds_by}
 use Rattle.cert_check.proofs.joins.join_fails_by.Goals as goal

@@ -1,5 +1,5 @@
 use Rattle.plan_space.specs.Planned.{space_in}
-use Rattle.table_sets.specs.Sets.{set_of}
+use Rattle.plan_tree.specs.Sets.{set_of}
 use Rattle.plan_space.proofs.PathItems.{each_path}
 use Rattle.cert_check.proofs.JoinRule.{loops_stay}
 use Rattle.cert_check.proofs.joins.loop_leads_below.Goals as goal

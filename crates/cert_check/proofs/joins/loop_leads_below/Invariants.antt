@@ -1,5 +1,5 @@
 use Rattle.plan_space.specs.Planned.{space_in}
-use Rattle.table_sets.specs.Sets.{set_of}
+use Rattle.plan_tree.specs.Sets.{set_of}
 use Rattle.plan_space.proofs.Lists.{Leads}
 use Rattle.plan_space.proofs.PathItems.{IsPathItem}
 use Rattle.cert_check.specs.Checks.{LoopLeadsBelow, LoopStays}

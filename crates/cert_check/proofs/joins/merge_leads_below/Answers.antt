@@ -1,7 +1,7 @@
 use Rattle.plan_space.specs.Planned.{space_in}
-use Rattle.table_sets.specs.Sets.{set_of}
-use Rattle.block_merges.specs.Merges.{merge_of}
-use Rattle.block_merges.specs.Merge.{IsMergeItem}
+use Rattle.plan_tree.specs.Sets.{set_of}
+use Rattle.plan_space.specs.Merges.{merge_of}
+use Rattle.plan_space.specs.Merge.{IsMergeItem}
 use Rattle.plan_space.proofs.Deciding.{fails}
 use Rattle.plan_space.proofs.Lists.{goes_on, head_has}
 use Rattle.cert_check.specs.Checks.{MergeLeadsBelow, MergeStays}

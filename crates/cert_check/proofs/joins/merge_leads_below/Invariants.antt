@@ -1,6 +1,6 @@
 use Rattle.plan_space.specs.Planned.{space_in}
-use Rattle.table_sets.specs.Sets.{set_of}
-use Rattle.block_merges.specs.Merge.{IsMergeItem}
+use Rattle.plan_tree.specs.Sets.{set_of}
+use Rattle.plan_space.specs.Merge.{IsMergeItem}
 use Rattle.plan_space.proofs.Lists.{Leads}
 use Rattle.cert_check.specs.Checks.{MergeLeadsBelow, MergeStays}
 use Rattle.cert_check.proofs.joins.merge_leads_below.Given as goal

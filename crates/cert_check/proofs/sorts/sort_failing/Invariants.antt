@@ -1,8 +1,8 @@
 use Rattle.plan_space.specs.Planned.{space_in}
 use Rattle.std.proofs.Common.{ℕ, ◌<◌, get_or}
 use Rattle.definitions.specs.Plans.Checking.{SortFails}
-use Rattle.certificate.specs.declared.states.State.{State}
-use Rattle.certificate.specs.Certificates.{state_of, certificate_of}
+use Rattle.plan_tree.specs.declared.states.State.{State}
+use Rattle.plan_tree.specs.Certificates.{state_of, certificate_of}
 use Rattle.cert_check.proofs.sorts.sort_failing.Given as goal
 
 abbrev pub invariant-states : goal.invariant-states

@@ -1,8 +1,8 @@
 use Rattle.plan_space.specs.Planned.{space_in}
 use Rattle.std.proofs.Common.{arith, refl}
 use Rattle.definitions.specs.Plans.Certificate.{IsListed}
-use Rattle.table_sets.specs.Sets.{set_of}
-use Rattle.certificate.specs.Certificates.{certificate_of}
+use Rattle.plan_tree.specs.Sets.{set_of}
+use Rattle.plan_tree.specs.Certificates.{certificate_of}
 use Rattle.plan_space.proofs.Deciding.{holds}
 use Rattle.cert_check.specs.Checks.{IsFinal}
 use Rattle.cert_check.proofs.Listed.{listed, every_listed}

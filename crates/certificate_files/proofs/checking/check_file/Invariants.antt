@@ -1,5 +1,5 @@
 use Rattle.std.proofs.Common.{◌≡◌, ◌≤◌, length, drop, map}
-use Rattle.bound.specs.Bound.{block_of}
+use Rattle.query_tree.specs.Bound.{block_of}
 use Rattle.definitions.specs.Certificates.File.{lines_of}
 use Rattle.certificate_files.specs.Telling.{check_ended_of}
 use Rattle.certificate_files.proofs.Checked.{TellsTo}

@@ -1,9 +1,9 @@
 use Rattle.std.proofs.Common.{rules, ◌≡◌, ◌∙◌, refl, sym, ap, ◌++◌, ◌∷◌, [], map}
 use Rattle.std.proofs.lemmas.List.{drop_all}
 use Rattle.definitions.specs.Queries.Conjuncts.{condition_tables, conjuncts_of_parts}
-use Rattle.bound.specs.Bound.{condition_of, conditions}
-use Rattle.bound.specs.declared.condition.Condition.{the_lemmas}
-use Rattle.bound.proofs.Views.{of_and}
+use Rattle.query_tree.specs.Bound.{condition_of, conditions}
+use Rattle.query_tree.specs.declared.condition.Condition.{the_lemmas}
+use Rattle.query_tree.proofs.Views.{of_and}
 use Rattle.conjuncts.specs.Naming.{AreFew, NamesFew}
 use Rattle.conjuncts.specs.Parts.{condition_in, HasItsTables, IsJudged}
 use Rattle.conjuncts.proofs.Naming.{part_few, still_few, tables_from}

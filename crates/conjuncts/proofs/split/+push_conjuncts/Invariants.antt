@@ -1,7 +1,7 @@
 use Rattle.std.proofs.Common.{◌≡◌, ◌++◌, drop, map}
 use Rattle.std.specs.List.{AllByRecursion}
 use Rattle.definitions.specs.Queries.Conjuncts.{conjuncts_of, conjuncts_of_parts}
-use Rattle.bound.specs.Bound.{condition_of, conditions}
+use Rattle.query_tree.specs.Bound.{condition_of, conditions}
 use Rattle.conjuncts.specs.Parts.{condition_in, HasItsTables, IsJudged}
 use Rattle.conjuncts.proofs.split.+push_conjuncts.Given as goal
 

@@ -1,10 +1,10 @@
 use Rattle.std.proofs.Common.{rules, ◌∙◌, ap, [], ◌∷◌, map, drop, ◌+◌}
 use Rattle.std.proofs.lemmas.List.{drop_all}
 use Rattle.definitions.specs.Queries.Conjuncts.{condition_tables, member_values, values_of}
-use Rattle.bound.specs.Bound.{condition_of, member_of, value_of}
-use Rattle.bound.specs.declared.condition.Condition.{the_lemmas}
-use Rattle.bound.proofs.Views.{of_quantified, of_is_null, of_between, of_like, of_in_list, of_in_query}
-use Rattle.table_sets.specs.Sets.{set_of}
+use Rattle.query_tree.specs.Bound.{condition_of, member_of, value_of}
+use Rattle.query_tree.specs.declared.condition.Condition.{the_lemmas}
+use Rattle.query_tree.proofs.Views.{of_quantified, of_is_null, of_between, of_like, of_in_list, of_in_query}
+use Rattle.plan_tree.specs.Sets.{set_of}
 use Rattle.conjuncts.specs.Naming.{AreFew, NamesFew}
 use Rattle.conjuncts.proofs.Naming.{all_done, first_few, list_tables, next_done, next_few, next_part, only_value, others_few, tables_from}
 use Rattle.conjuncts.proofs.tables.+condition_tables.Goals as goal

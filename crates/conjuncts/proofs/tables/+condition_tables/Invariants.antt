@@ -1,9 +1,9 @@
 use Rattle.std.proofs.Common.{◌≡◌, drop, map}
 use Rattle.std.specs.Prelude.{bit_or}
 use Rattle.definitions.specs.Queries.Conjuncts.{condition_tables}
-use Rattle.bound.specs.Bound.{condition_of, conditions}
+use Rattle.query_tree.specs.Bound.{condition_of, conditions}
 use Rattle.conjuncts.proofs.Naming.{part_tables}
-use Rattle.table_sets.specs.Sets.{set_of}
+use Rattle.plan_tree.specs.Sets.{set_of}
 use Rattle.conjuncts.proofs.tables.+condition_tables.Given as goal
 
 abbrev pub decreases-condition_tables : goal.decreases-condition_tables

@@ -1,10 +1,10 @@
 use Rattle.std.proofs.Common.{rules, ◌∙◌, ap, drop, ◌+◌}
 use Rattle.std.proofs.lemmas.List.{drop_all}
 use Rattle.definitions.specs.Queries.Conjuncts.{tables_named}
-use Rattle.bound.specs.Bound.{value_of}
-use Rattle.bound.specs.declared.value.ValueExpr.{the_lemmas}
-use Rattle.bound.proofs.Views.{of_chain, of_column}
-use Rattle.table_sets.specs.Sets.{set_of}
+use Rattle.query_tree.specs.Bound.{value_of}
+use Rattle.query_tree.specs.declared.value.ValueExpr.{the_lemmas}
+use Rattle.query_tree.proofs.Views.{of_chain, of_column}
+use Rattle.plan_tree.specs.Sets.{set_of}
 use Rattle.conjuncts.specs.Naming.{AreFew}
 use Rattle.conjuncts.proofs.Naming.{all_done, left_few, line_tables, next_done, next_few, next_operand, still_few, table_few}
 use Rattle.conjuncts.proofs.tables.+value_tables.Goals as goal

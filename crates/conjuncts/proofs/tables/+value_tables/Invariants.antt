@@ -1,8 +1,8 @@
 use Rattle.std.proofs.Common.{◌≡◌, drop, map}
 use Rattle.std.specs.Prelude.{bit_or}
 use Rattle.definitions.specs.Queries.Conjuncts.{tables_named, operands_tables}
-use Rattle.bound.specs.Bound.{operand_of, operands, value_of}
-use Rattle.table_sets.specs.Sets.{set_of}
+use Rattle.query_tree.specs.Bound.{operand_of, operands, value_of}
+use Rattle.plan_tree.specs.Sets.{set_of}
 use Rattle.conjuncts.proofs.tables.+value_tables.Given as goal
 
 abbrev pub decreases-value_tables : goal.decreases-value_tables

@@ -1,7 +1,7 @@
 use Rattle.std.proofs.Common.{ap, [], ◌∷◌, map, drop, ◌+◌}
 use Rattle.std.proofs.lemmas.List.{drop_all}
-use Rattle.bound.specs.Bound.{member_of}
-use Rattle.table_sets.specs.Sets.{set_of}
+use Rattle.query_tree.specs.Bound.{member_of}
+use Rattle.plan_tree.specs.Sets.{set_of}
 use Rattle.conjuncts.proofs.Naming.{all_done, list_tables, next_done, next_few, next_member}
 use Rattle.conjuncts.proofs.tables.list_tables.Goals as goal
 

@@ -1,8 +1,8 @@
 use Rattle.std.proofs.Common.{◌≡◌, drop, map}
 use Rattle.std.specs.Prelude.{bit_or}
-use Rattle.bound.specs.Bound.{member_of}
+use Rattle.query_tree.specs.Bound.{member_of}
 use Rattle.conjuncts.proofs.Naming.{list_tables}
-use Rattle.table_sets.specs.Sets.{set_of}
+use Rattle.plan_tree.specs.Sets.{set_of}
 use Rattle.conjuncts.proofs.tables.list_tables.Given as goal
 
 abbrev pub invariant-loop-member : goal.invariant-loop-member

@@ -1,6 +1,6 @@
 use Rattle.std.proofs.Common.{◌∙◌, sym, ap, [], ◌∷◌}
 use Rattle.definitions.specs.Queries.Conjuncts.{tables_named, tables_in, member_values}
-use Rattle.bound.specs.Bound.{member_of, value_of}
+use Rattle.query_tree.specs.Bound.{member_of, value_of}
 use Rattle.conjuncts.proofs.Naming.{left_few, still_few, tables_of_one}
 use Rattle.conjuncts.proofs.tables.member_tables.Goals as goal
 

@@ -1,7 +1,7 @@
 use Rattle.std.proofs.Common.{[], ◌∷◌}
 use Rattle.definitions.specs.Queries.Conjuncts.{tables_named, tables_in}
-use Rattle.bound.specs.Bound.{value_of}
-use Rattle.table_sets.specs.Sets.{set_of}
+use Rattle.query_tree.specs.Bound.{value_of}
+use Rattle.plan_tree.specs.Sets.{set_of}
 use Rattle.conjuncts.proofs.Naming.{left_few, right_few, tables_of_two}
 use Rattle.conjuncts.proofs.tables.pair_tables.Goals as goal
 

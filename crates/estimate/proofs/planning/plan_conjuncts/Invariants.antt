@@ -4,7 +4,7 @@ use Rattle.definitions.specs.Queries.BoundBlock.{Block}
 use Rattle.definitions.specs.Estimates.PlanConjuncts.{plan_conjunct}
 use Rattle.conjuncts.specs.Parts.{condition_in}
 use Rattle.conjuncts.specs.declared.split.Conjunct.{Conjunct}
-use Rattle.selectivity.specs.Tables.{tables_of, AreTablesOf}
+use Rattle.estimate.specs.Tables.{tables_of, AreTablesOf}
 use Rattle.estimate.specs.PlanConjuncts.{condition_told, conjunct_of}
 use Rattle.estimate.proofs.planning.plan_conjuncts.Given as goal
 

@@ -1,6 +1,6 @@
 use Rattle.std.proofs.Common.{◌≡◌, ◌≤◌, drop, map}
 use Rattle.definitions.specs.Estimates.Cardinality.{is_completed, left_by}
-use Rattle.table_sets.specs.Sets.{set_of}
+use Rattle.plan_tree.specs.Sets.{set_of}
 use Rattle.estimate.specs.PlanConjuncts.{conjunct_of}
 use Rattle.estimate.proofs.shares.left_by_completed.Given as goal
 

@@ -1,8 +1,8 @@
 use Rattle.std.proofs.Common.{◌∙◌, sym, ap, subst}
 use Rattle.definitions.specs.Estimates.Version.{current_version}
-use Rattle.plans.specs.Plans.{plan_of}
+use Rattle.plan_tree.specs.Plans.{plan_of}
 use Rattle.operators.specs.Running.{left_of}
-use Rattle.answers.specs.Telling.{ArrangePassing}
+use Rattle.executor.specs.Telling.{ArrangePassing}
 use Rattle.executor.proofs.Arranged.{outermost, stand_for_passing}
 use Rattle.executor.proofs.Totals.{is_total}
 use Rattle.executor.proofs.answer.run.Goals as goal

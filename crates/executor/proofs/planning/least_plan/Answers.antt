@@ -1,7 +1,7 @@
 use Rattle.std.proofs.Common.{◌∙◌, subst}
 use Rattle.definitions.specs.Estimates.Version.{current_version}
 use Rattle.definitions.specs.Plans.Least.{IsLeast}
-use Rattle.plans.specs.Plans.{plan_of}
+use Rattle.plan_tree.specs.Plans.{plan_of}
 use Rattle.executor.proofs.Planned.{has_plans, same_space}
 use Rattle.executor.proofs.planning.least_plan.Goals as goal
 

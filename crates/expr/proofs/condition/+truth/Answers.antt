@@ -10,9 +10,9 @@ use Rattle.definitions.specs.Queries.Conjuncts.{values_of}
 use Rattle.definitions.specs.Queries.Evaluation.{value, truth, member, in_order, column_values, on_one, on_two}
 use Rattle.definitions.specs.Queries.Laws.{FitsTypes}
 use Rattle.definitions.specs.Queries.Telling.{MayAnswer}
-use Rattle.bound.specs.Bound.{condition_of, conditions, member_of, value_of as tree_of}
-use Rattle.bound.specs.declared.condition.Condition.{the_lemmas}
-use Rattle.bound.proofs.Views.{of_compare, of_is_null, of_between, of_like, of_in_list, of_in_query, of_and, of_or}
+use Rattle.query_tree.specs.Bound.{condition_of, conditions, member_of, value_of as tree_of}
+use Rattle.query_tree.specs.declared.condition.Condition.{the_lemmas}
+use Rattle.query_tree.proofs.Views.{of_compare, of_is_null, of_between, of_like, of_in_list, of_in_query, of_and, of_or}
 use Rattle.expr.specs.Answers.{IsTyped, truth_answer_of}
 use Rattle.expr.proofs.Telling.{fused}
 use Rattle.expr.proofs.Parts.{Joined, AreFit, and_is, or_is, join, joined_next, joined_all, fit_part, part_next}

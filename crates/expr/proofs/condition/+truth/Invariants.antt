@@ -1,6 +1,6 @@
 use Rattle.std.proofs.Common.{map, drop}
 use Rattle.definitions.specs.Truth.{True, False, and, or, all_true, any_true}
-use Rattle.bound.specs.Bound.{condition_of, conditions}
+use Rattle.query_tree.specs.Bound.{condition_of, conditions}
 use Rattle.expr.specs.Answers.{truth_answer_of}
 use Rattle.expr.proofs.Parts.{Joined, and_is, or_is}
 use Rattle.expr.proofs.condition.+truth.Given as goal

@@ -3,7 +3,7 @@ use Rattle.definitions.specs.Statement.{Equals}
 use Rattle.definitions.specs.Truth.{compared}
 use Rattle.definitions.specs.Queries.Evaluation.{member, on_two}
 use Rattle.definitions.specs.Queries.Laws.{FitsTypes}
-use Rattle.bound.specs.Bound.{member_of}
+use Rattle.query_tree.specs.Bound.{member_of}
 use Rattle.expr.specs.Answers.{IsTyped, truth_answer_of}
 use Rattle.expr.proofs.Members.{Sought, seek, sought_next, member_at, member_next}
 use Rattle.expr.proofs.condition.is_member.Goals as goal

@@ -2,7 +2,7 @@ use Rattle.std.proofs.Common.{map, drop}
 use Rattle.definitions.specs.Value.{Value}
 use Rattle.definitions.specs.Arithmetic.{Meaning}
 use Rattle.definitions.specs.Queries.Telling.{MayAnswer}
-use Rattle.bound.specs.Bound.{member_of}
+use Rattle.query_tree.specs.Bound.{member_of}
 use Rattle.expr.specs.Answers.{answer_of, truth_answer_of}
 use Rattle.expr.proofs.Members.{Sought}
 use Rattle.expr.proofs.condition.is_member.Given as goal

@@ -3,9 +3,9 @@ use Rattle.definitions.specs.ValueType.{ValueType}
 use Rattle.definitions.specs.Queries.BoundBlock as spec
 use Rattle.definitions.specs.Queries.BoundTypes.{value_type}
 use Rattle.definitions.specs.Queries.Laws.{FitsTypes}
-use Rattle.bound.specs.Bound.{operand_of, operands, operator_of, value_of as tree_of}
-use Rattle.bound.specs.declared.value.ValueExpr.{the_lemmas}
-use Rattle.bound.proofs.Views.{of_chain}
+use Rattle.query_tree.specs.Bound.{operand_of, operands, operator_of, value_of as tree_of}
+use Rattle.query_tree.specs.declared.value.ValueExpr.{the_lemmas}
+use Rattle.query_tree.proofs.Views.{of_chain}
 use Rattle.definitions.specs.Queries.Evaluation.{value}
 use Rattle.definitions.specs.Queries.Telling.{MayAnswer}
 use Rattle.expr.specs.Answers.{answer_of}

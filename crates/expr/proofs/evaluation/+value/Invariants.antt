@@ -1,6 +1,6 @@
 use Rattle.std.proofs.Common.{map, drop}
 use Rattle.definitions.specs.Queries.Evaluation as meaning
-use Rattle.bound.specs.Bound.{operand_of, operands, value_of as tree_of}
+use Rattle.query_tree.specs.Bound.{operand_of, operands, value_of as tree_of}
 use Rattle.expr.specs.Answers.{answer_of}
 use Rattle.expr.proofs.Chains.{Reached}
 use Rattle.expr.proofs.evaluation.+value.Given as goal

@@ -3,7 +3,7 @@ use Rattle.definitions.specs.Queries.Evaluation.{quantified}
 use Rattle.definitions.specs.Queries.Telling.{MayAnswer}
 use Rattle.sqlvalue.specs.Meaning.{op_of, value_of}
 use Rattle.sqlvalue.specs.Truths.{truth_of}
-use Rattle.trees.specs.Trees.{quantifier_of}
+use Rattle.parse_tree.specs.Trees.{quantifier_of}
 use Rattle.expr.proofs.Telling.{on_two_ok}
 use Rattle.expr.proofs.predicate.quantified.Goals as goal
 

@@ -2,7 +2,7 @@ use Rattle.std.proofs.Common.{◌≡◌, ◌∙◌, sym, ap, map, drop, ◌+◌,
 use Rattle.std.specs.Prelude.{◌||◌}
 use Rattle.std.proofs.lemmas.List.{drop_all}
 use Rattle.definitions.specs.Queries.Conjuncts.{condition_can_raise}
-use Rattle.bound.specs.Bound.{condition_of, conditions}
+use Rattle.query_tree.specs.Bound.{condition_of, conditions}
 use Rattle.expr.proofs.RaisingParts.{parts_can_raise, under, next_part}
 use Rattle.expr.proofs.raising.+condition_can_raise.Goals as goal
 

@@ -1,6 +1,6 @@
 use Rattle.std.proofs.Common.{◌≡◌, drop, map}
 use Rattle.definitions.specs.Queries.Conjuncts as conjuncts
-use Rattle.bound.specs.Bound.{condition_of, conditions}
+use Rattle.query_tree.specs.Bound.{condition_of, conditions}
 use Rattle.expr.proofs.RaisingParts.{parts_can_raise}
 use Rattle.expr.proofs.raising.+condition_can_raise.Given as goal
 

@@ -2,8 +2,8 @@ use Rattle.std.proofs.Common.{◌≡◌, ◌∙◌, sym, ap, map, drop, ◌+◌,
 use Rattle.std.specs.Prelude.{option_map}
 use Rattle.std.proofs.lemmas.List.{drop_all}
 use Rattle.definitions.specs.Queries.BoundBlock as spec
-use Rattle.bound.specs.Bound.{operand_of, operands, operator_of, value_of as tree_of}
-use Rattle.bound.proofs.Views.{of_chain, of_number}
+use Rattle.query_tree.specs.Bound.{operand_of, operands, operator_of, value_of as tree_of}
+use Rattle.query_tree.proofs.Views.{of_chain, of_number}
 use Rattle.expr.specs.Sizes.{size_of, safe_size, safe_joined}
 use Rattle.expr.proofs.Items.{item_next}
 use Rattle.expr.proofs.Sizes.{safe_line, chain_is_safe}

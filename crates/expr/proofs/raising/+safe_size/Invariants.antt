@@ -1,6 +1,6 @@
 use Rattle.std.proofs.Common.{◌≡◌, drop, map}
 use Rattle.std.specs.Prelude.{option_map}
-use Rattle.bound.specs.Bound.{operand_of, operands, value_of as tree_of}
+use Rattle.query_tree.specs.Bound.{operand_of, operands, value_of as tree_of}
 use Rattle.expr.specs.Sizes.{size_of, safe_size}
 use Rattle.expr.proofs.Sizes.{safe_line}
 use Rattle.expr.proofs.raising.+safe_size.Given as goal

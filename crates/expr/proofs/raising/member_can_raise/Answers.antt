@@ -1,7 +1,7 @@
 use Rattle.std.proofs.Common.{◌∙◌, refl, sym, ap, map, drop, ◌+◌}
 use Rattle.std.specs.Prelude.{◌||◌}
 use Rattle.std.proofs.lemmas.List.{drop_all}
-use Rattle.bound.specs.Bound.{member_of}
+use Rattle.query_tree.specs.Bound.{member_of}
 use Rattle.expr.proofs.RaisingParts.{members_can_raise, next_member}
 use Rattle.expr.proofs.raising.member_can_raise.Goals as goal
 

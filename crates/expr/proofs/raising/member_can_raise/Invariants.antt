@@ -1,5 +1,5 @@
 use Rattle.std.proofs.Common.{◌≡◌, drop, map}
-use Rattle.bound.specs.Bound.{member_of}
+use Rattle.query_tree.specs.Bound.{member_of}
 use Rattle.expr.proofs.RaisingParts.{members_can_raise}
 use Rattle.expr.proofs.raising.member_can_raise.Given as goal
 

@@ -1,7 +1,7 @@
 use Rattle.std.proofs.Common.{◌≡◌, map, drop}
 use Rattle.definitions.specs.Arithmetic.{Is}
 use Rattle.definitions.specs.Queries.Evaluation as meaning
-use Rattle.bound.specs.Bound.{operand_of, operands, value_of as tree_of}
+use Rattle.query_tree.specs.Bound.{operand_of, operands, value_of as tree_of}
 use Rattle.expr.specs.Shorts.{short_of}
 use Rattle.expr.proofs.short.+short_value.Given as goal
 

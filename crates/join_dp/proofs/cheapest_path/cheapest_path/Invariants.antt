@@ -1,7 +1,7 @@
 use Rattle.plan_space.specs.Planned.{space_in}
 use Rattle.std.specs.Prelude.{option_map}
-use Rattle.block_paths.specs.Items.{item_of}
-use Rattle.table_sets.specs.Sets.{set_of}
+use Rattle.plan_space.specs.Items.{item_of}
+use Rattle.plan_tree.specs.Sets.{set_of}
 use Rattle.join_dp.proofs.LeastPaths.{Chosen}
 use Rattle.join_dp.proofs.cheapest_path.cheapest_path.Given as goal
 

@@ -1,8 +1,8 @@
 use Rattle.plan_space.specs.Planned.{space_in}
 use Rattle.std.proofs.Common.{length, ap, arith}
 use Rattle.std.proofs.lemmas.List.{length-map}
-use Rattle.block_paths.specs.Item.{Item}
-use Rattle.block_paths.specs.Items.{item_of}
+use Rattle.plan_space.specs.Item.{Item}
+use Rattle.plan_space.specs.Items.{item_of}
 use Rattle.join_dp.proofs.Found.{ends_low}
 use Rattle.join_dp.proofs.Offering.{offered_steps}
 use Rattle.join_dp.proofs.Leading.{accesses_begin, access_within, accesses_go}

@@ -1,6 +1,6 @@
 use Rattle.plan_space.specs.Planned.{space_in}
 use Rattle.std.proofs.Common.{length, arith}
-use Rattle.table_sets.specs.Sets.{set_of}
+use Rattle.plan_tree.specs.Sets.{set_of}
 use Rattle.join_dp.specs.States.{states_in}
 use Rattle.join_dp.specs.Views.{join_of}
 use Rattle.join_dp.proofs.Offering.{joins_go}

@@ -1,7 +1,7 @@
 use Rattle.plan_space.specs.Planned.{space_in}
 use Rattle.std.proofs.Common.{◌∙◌, ap, arith}
 use Rattle.definitions.specs.Plans.TableSet.{with_table}
-use Rattle.table_sets.specs.Sets.{set_of}
+use Rattle.plan_tree.specs.Sets.{set_of}
 use Rattle.plan_space.proofs.Deciding.{holds, fails}
 use Rattle.join_dp.specs.Solving.{Solved}
 use Rattle.join_dp.specs.States.{states_in}

@@ -2,8 +2,8 @@ use Rattle.plan_space.specs.Planned.{space_in}
 use Rattle.std.proofs.Common.{◌≡◌, length, subst, sym, arith}
 use Rattle.std.proofs.lemmas.Bool.Decides.{Decides-eqb}
 use Rattle.definitions.specs.Plans.TableSet.{only, with_table}
-use Rattle.table_sets.specs.Sets.{set_of}
-use Rattle.table_sets.proofs.Tests.{has_it, lacks_it}
+use Rattle.plan_tree.specs.Sets.{set_of}
+use Rattle.plan_tree.proofs.Tests.{has_it, lacks_it}
 use Rattle.plan_space.proofs.Deciding.{holds, fails}
 use Rattle.join_dp.specs.Solving.{AreUnsorted}
 use Rattle.join_dp.specs.States.{states_in}

@@ -1,8 +1,8 @@
 use Rattle.plan_space.specs.Planned.{space_in}
 use Rattle.std.proofs.Common.{length, arith}
-use Rattle.block_paths.specs.Items.{item_of}
-use Rattle.table_sets.specs.Sets.{set_of}
-use Rattle.plans.specs.Plans.{path_of}
+use Rattle.plan_space.specs.Items.{item_of}
+use Rattle.plan_tree.specs.Sets.{set_of}
+use Rattle.plan_tree.specs.Plans.{path_of}
 use Rattle.join_dp.specs.States.{states_in}
 use Rattle.join_dp.proofs.LeastPaths.{some_path, once_each, none_dearer, low_by_dearer, loop_least}
 use Rattle.join_dp.proofs.Found.{below_same}

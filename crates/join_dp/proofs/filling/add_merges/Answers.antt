@@ -1,8 +1,8 @@
 use Rattle.plan_space.specs.Planned.{space_in}
 use Rattle.std.proofs.Common.{◌∙◌, length, ap, arith}
-use Rattle.table_sets.specs.Sets.{set_of}
-use Rattle.block_merges.specs.Merges.{merge_of}
-use Rattle.block_merges.specs.Merge.{IsMergeItem}
+use Rattle.plan_tree.specs.Sets.{set_of}
+use Rattle.plan_space.specs.Merges.{merge_of}
+use Rattle.plan_space.specs.Merge.{IsMergeItem}
 use Rattle.plan_space.proofs.Lists.{head_has}
 use Rattle.join_dp.specs.States.{states_in}
 use Rattle.join_dp.proofs.LeastPaths.{dearer_later}

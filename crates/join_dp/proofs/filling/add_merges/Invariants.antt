@@ -1,7 +1,7 @@
 use Rattle.plan_space.specs.Planned.{space_in}
 use Rattle.std.proofs.Common.{◌+◌, ◌*◌, ◌≤◌, List, length}
-use Rattle.block_merges.specs.Merge.{Merge as MergeItem, AreMerges}
-use Rattle.table_sets.specs.Sets.{set_of}
+use Rattle.plan_space.specs.Merge.{Merge as MergeItem, AreMerges}
+use Rattle.plan_tree.specs.Sets.{set_of}
 use Rattle.join_dp.specs.States.{states_in}
 use Rattle.join_dp.proofs.Leading.{Merged}
 use Rattle.join_dp.proofs.filling.add_merges.Given as goal

@@ -1,6 +1,6 @@
 use Rattle.plan_space.specs.Planned.{space_in}
 use Rattle.std.proofs.Common.{sym, arith}
-use Rattle.table_sets.specs.Sets.{set_of}
+use Rattle.plan_tree.specs.Sets.{set_of}
 use Rattle.join_dp.specs.Views.{candidate_of}
 use Rattle.join_dp.proofs.Found.{below_same}
 use Rattle.join_dp.proofs.Least.{stands}

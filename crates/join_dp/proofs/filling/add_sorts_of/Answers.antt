@@ -1,6 +1,6 @@
 use Rattle.plan_space.specs.Planned.{space_in}
 use Rattle.std.proofs.Common.{◌∙◌, length, ap, subst, arith}
-use Rattle.table_sets.specs.Sets.{set_of}
+use Rattle.plan_tree.specs.Sets.{set_of}
 use Rattle.join_dp.specs.Solving.{SortsAreLow}
 use Rattle.join_dp.specs.Views.{candidate_of}
 use Rattle.join_dp.proofs.Found.{ends_low}

@@ -1,7 +1,7 @@
 use Rattle.plan_space.specs.Planned.{space_in}
 use Rattle.std.proofs.Common.{ℕ, ◌+◌, ◌≤◌, List, length}
-use Rattle.order_uses.specs.Sorts.{AreSorts}
-use Rattle.table_sets.specs.Sets.{set_of}
+use Rattle.interesting_orders.specs.Sorts.{AreSorts}
+use Rattle.plan_tree.specs.Sets.{set_of}
 use Rattle.join_dp.proofs.Sorting.{Sorted}
 use Rattle.join_dp.proofs.filling.add_sorts_of.Given as goal
 

@@ -1,7 +1,7 @@
 use Rattle.plan_space.specs.Planned.{space_in}
 use Rattle.std.proofs.Common.{ℕ, ◌+◌, ◌≤◌}
 use Rattle.join_dp.specs.Counting.{AreCounts, most_lasts}
-use Rattle.table_sets.specs.Sets.{set_of}
+use Rattle.plan_tree.specs.Sets.{set_of}
 use Rattle.join_dp.specs.States.{states_in}
 use Rattle.join_dp.proofs.Lasting.{Filled}
 use Rattle.join_dp.proofs.filling.fill_row.Given as goal

@@ -1,6 +1,6 @@
 use Rattle.std.proofs.Common.{◌≡◌, ◌∙◌, ◌-◌, ap₂, subst, sym, arith}
 use Rattle.definitions.specs.Plans.TableSet.{Lacks, with_table}
-use Rattle.table_sets.specs.Sets.{set_of}
+use Rattle.plan_tree.specs.Sets.{set_of}
 use Rattle.join_dp.proofs.LessSets.{is_less, lacks_it, with_it}
 use Rattle.join_dp.proofs.filling.without.Goals as goal
 

@@ -1,9 +1,9 @@
 use Rattle.std.proofs.Common.{◌≡◌, ◌∙◌, Some, None, ap, sym, subst}
 use Rattle.std.proofs.lemmas.Result.{IfOk-weaker}
 use Rattle.definitions.specs.Plans.Plan.{Access, Sort}
-use Rattle.plans.specs.Plans.{path_of, plan_of}
-use Rattle.plans.specs.declared.plan.Plan.{Plan as Code}
-use Rattle.plans.proofs.Views.{of_access, of_sort}
+use Rattle.plan_tree.specs.Plans.{path_of, plan_of}
+use Rattle.plan_tree.specs.declared.plan.Plan.{Plan as Code}
+use Rattle.plan_tree.proofs.Views.{of_access, of_sort}
 use Rattle.join_dp.specs.Planned.{IsPlanAt, IsStepPlanAt}
 use Rattle.join_dp.specs.Solving.{Solved}
 use Rattle.join_dp.specs.States.{states_in}

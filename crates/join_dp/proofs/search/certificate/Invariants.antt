@@ -1,7 +1,7 @@
 use Rattle.std.proofs.Common.{◌≡◌, ◌++◌, map, drop, nat_lt}
 use Rattle.std.specs.Prelude.{filter}
 use Rattle.definitions.specs.Plans.Certificate.{StateCost}
-use Rattle.certificate.specs.Certificates.{state_of}
+use Rattle.plan_tree.specs.Certificates.{state_of}
 use Rattle.join_dp.specs.Solved.{told_all}
 use Rattle.join_dp.specs.States.{solved_of, states_in}
 use Rattle.join_dp.proofs.search.certificate.Given as goal

@@ -1,7 +1,7 @@
 use Rattle.plan_space.specs.Planned.{space_in}
 use Rattle.std.proofs.Common.{ap}
-use Rattle.plans.specs.Plans.{plan_of}
-use Rattle.certificate.specs.Certificates.{certificate_of}
+use Rattle.plan_tree.specs.Plans.{plan_of}
+use Rattle.plan_tree.specs.Certificates.{certificate_of}
 use Rattle.join_dp.specs.Solving.{Solved}
 use Rattle.join_dp.specs.States.{states_in, starts_in}
 use Rattle.join_dp.proofs.Finals.{some_final, valid, exact, is_least, fewer_listed, short, solutions}

@@ -1,5 +1,5 @@
 use Rattle.std.proofs.Common.{◌≡◌, ◌++◌, map, drop}
-use Rattle.table_sets.specs.Sets.{set_of}
+use Rattle.plan_tree.specs.Sets.{set_of}
 use Rattle.join_dp.specs.Solving.{entries_from}
 use Rattle.join_dp.specs.States.{solved_of}
 use Rattle.join_dp.proofs.states.push_states.Given as goal

@@ -2,7 +2,7 @@ use Rattle.std.proofs.Common.{◌≡◌, ◌∙◌, sym, true, false, Err}
 use Rattle.std.specs.Prelude.{bytes_eq}
 use Rattle.definitions.specs.Loading.{FieldLoads, null_field}
 use Rattle.definitions.specs.Table.{may_be_null}
-use Rattle.refusals.specs.Meaning.{field_error_of}
+use Rattle.sqlvalue.specs.RefusalMeaning.{field_error_of}
 use Rattle.loading.proofs.Pushing.{refused_is}
 use Rattle.loading.proofs.Stored.{null_refused, column_loads, column_faulty}
 use Rattle.loading.proofs.file.push_field.Goals as goal

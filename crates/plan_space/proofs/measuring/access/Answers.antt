@@ -1,8 +1,8 @@
 use Rattle.std.proofs.Common.{◌∙◌, ap, refl, subst}
 use Rattle.std.specs.Prelude.{Some}
 use Rattle.definitions.specs.Plans.TableSet.{TableSet, only}
-use Rattle.plans.specs.Plans.{path_of}
-use Rattle.block_paths.specs.Items.{item_of}
+use Rattle.plan_tree.specs.Plans.{path_of}
+use Rattle.plan_space.specs.Items.{item_of}
 use Rattle.plan_space.specs.Measures.{IsPathFound}
 use Rattle.plan_space.specs.Planned.{space_in}
 use Rattle.plan_space.proofs.Plans.{an_access}

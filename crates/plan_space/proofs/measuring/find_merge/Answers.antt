@@ -1,7 +1,7 @@
 use Rattle.std.proofs.Common.{ℕ, subst}
-use Rattle.plans.specs.Plans.{inner_of}
-use Rattle.table_sets.specs.Sets.{set_of}
-use Rattle.block_merges.specs.Merge.{AreMerges}
+use Rattle.plan_tree.specs.Plans.{inner_of}
+use Rattle.plan_tree.specs.Sets.{set_of}
+use Rattle.plan_space.specs.Merge.{AreMerges}
 use Rattle.plan_space.specs.Planned.{space_in}
 use Rattle.plan_space.proofs.Plans.{all_merges_left}
 use Rattle.plan_space.proofs.measuring.find_merge.Goals as goal

@@ -1,8 +1,8 @@
 use Rattle.std.proofs.Common.{refl, ◌≡◌, List, ℕ, true, false, subst}
-use Rattle.plans.specs.Plans.{path_of}
-use Rattle.table_sets.specs.Sets.{set_of}
-use Rattle.block_paths.specs.Item.{Item, AreItems}
-use Rattle.block_paths.specs.Items.{item_of}
+use Rattle.plan_tree.specs.Plans.{path_of}
+use Rattle.plan_tree.specs.Sets.{set_of}
+use Rattle.plan_space.specs.Item.{Item, AreItems}
+use Rattle.plan_space.specs.Items.{item_of}
 use Rattle.plan_space.specs.Planned.{space_in}
 use Rattle.plan_space.proofs.Plans.{IsLeft, all_left, one_passed, here}
 use Rattle.plan_space.proofs.measuring.find_path.Goals as goal

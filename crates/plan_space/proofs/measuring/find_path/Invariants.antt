@@ -1,5 +1,5 @@
-use Rattle.plans.specs.Plans.{path_of}
-use Rattle.table_sets.specs.Sets.{set_of}
+use Rattle.plan_tree.specs.Plans.{path_of}
+use Rattle.plan_tree.specs.Sets.{set_of}
 use Rattle.plan_space.specs.Planned.{space_in}
 use Rattle.plan_space.proofs.Plans.{IsLeft}
 use Rattle.plan_space.proofs.measuring.find_path.Given as goal

@@ -4,9 +4,9 @@ use Rattle.definitions.specs.Plans.Cost.{saturated}
 use Rattle.definitions.specs.Plans.Path.{table_of}
 use Rattle.definitions.specs.Plans.PlanSpace.{MayFollow}
 use Rattle.definitions.specs.Plans.TableSet.{only, with_table}
-use Rattle.plans.specs.Plans.{path_of}
-use Rattle.table_sets.specs.Sets.{set_of}
-use Rattle.block_paths.specs.Items.{item_of}
+use Rattle.plan_tree.specs.Plans.{path_of}
+use Rattle.plan_tree.specs.Sets.{set_of}
+use Rattle.plan_space.specs.Items.{item_of}
 use Rattle.plan_space.specs.Planned.{space_in}
 use Rattle.plan_space.proofs.Plans.{not_following, no_path, a_loop}
 use Rattle.plan_space.proofs.measuring.looped.Goals as goal

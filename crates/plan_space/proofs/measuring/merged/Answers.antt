@@ -4,10 +4,10 @@ use Rattle.definitions.specs.Plans.Cost.{saturated}
 use Rattle.definitions.specs.Plans.Path.{table_of}
 use Rattle.definitions.specs.Plans.PlanSpace.{MayFollow}
 use Rattle.definitions.specs.Plans.TableSet.{only, with_table}
-use Rattle.plans.specs.Plans.{inner_of}
-use Rattle.table_sets.specs.Sets.{set_of}
-use Rattle.order_uses.specs.Merges.{GoesBy}
-use Rattle.block_merges.specs.Merges.{merge_of}
+use Rattle.plan_tree.specs.Plans.{inner_of}
+use Rattle.plan_tree.specs.Sets.{set_of}
+use Rattle.interesting_orders.specs.Merges.{GoesBy}
+use Rattle.plan_space.specs.Merges.{merge_of}
 use Rattle.plan_space.specs.Planned.{space_in}
 use Rattle.plan_space.proofs.Plans.{not_following_merge, not_going, no_merge, a_merge}
 use Rattle.plan_space.proofs.measuring.merged.Goals as goal

@@ -1,6 +1,6 @@
 use Rattle.std.proofs.Common.{◌≡◌, ◌∙◌, ◌+◌, ap₂, refl}
 use Rattle.definitions.specs.Plans.Cost.{saturated}
-use Rattle.table_sets.specs.Sets.{set_of}
+use Rattle.plan_tree.specs.Sets.{set_of}
 use Rattle.plan_space.specs.Planned.{space_in}
 use Rattle.plan_space.proofs.Plans.{a_sort}
 use Rattle.plan_space.proofs.measuring.sorted.Goals as goal

@@ -1,7 +1,7 @@
 use Rattle.std.proofs.Common.{◌∙◌, sym}
 use Rattle.definitions.specs.Estimates.BlockSpace.{space_of}
-use Rattle.bound.specs.Bound.{block_of}
-use Rattle.plan_orders.specs.Versions.{version_of}
+use Rattle.query_tree.specs.Bound.{block_of}
+use Rattle.interesting_orders.specs.Versions.{version_of}
 use Rattle.plan_space.proofs.space.table_links.Goals as goal
 
 pub returns : goal.returns

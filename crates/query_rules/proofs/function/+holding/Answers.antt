@@ -1,7 +1,7 @@
 use Rattle.std.proofs.Common.{◌∙◌, sym, ap, map}
 use Rattle.definitions.specs.Grammar.{members}
-use Rattle.trees.specs.Trees.{expr_of, member_of}
-use Rattle.trees.proofs.Views.{of_in_list}
+use Rattle.parse_tree.specs.Trees.{expr_of, member_of}
+use Rattle.parse_tree.proofs.Views.{of_in_list}
 use Rattle.query_rules.proofs.FunctionScan.{members_left}
 use Rattle.query_rules.proofs.function.+holding.Goals as goal
 

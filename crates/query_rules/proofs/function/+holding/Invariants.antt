@@ -2,7 +2,7 @@ use Rattle.std.proofs.Common.{◌≡◌, map, drop}
 use Rattle.std.specs.List.{list_any}
 use Rattle.definitions.specs.Grammar.{members, operands}
 use Rattle.definitions.specs.Binding.Parts.{is_function, member_parts, operand_parts}
-use Rattle.trees.specs.Trees.{member_of, operand_of}
+use Rattle.parse_tree.specs.Trees.{member_of, operand_of}
 use Rattle.query_rules.proofs.function.+holding.Given as goal
 
 abbrev pub invariant-some_member_holds_function-members :

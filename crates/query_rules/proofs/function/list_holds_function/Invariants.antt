@@ -3,7 +3,7 @@ use Rattle.std.specs.List.{list_any}
 use Rattle.definitions.specs.Grammar.{items}
 use Rattle.definitions.specs.Statement.{Listed}
 use Rattle.definitions.specs.Binding.Parts.{is_function, item_values, parts}
-use Rattle.trees.specs.Trees.{item_of, list_of}
+use Rattle.parse_tree.specs.Trees.{item_of, list_of}
 use Rattle.query_rules.proofs.function.list_holds_function.Given as goal
 
 abbrev pub invariant-items : goal.invariant-items

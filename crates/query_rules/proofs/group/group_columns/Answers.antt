@@ -1,7 +1,7 @@
 use Rattle.std.proofs.Common.{◌∙◌, refl, sym, ap, map, drop, ◌+◌}
 use Rattle.definitions.specs.Binding.BoundForm.{own_column}
-use Rattle.bound.specs.Bound.{column_of}
-use Rattle.trees.specs.Trees.{column_of as reference_of}
+use Rattle.query_tree.specs.Bound.{column_of}
+use Rattle.parse_tree.specs.Trees.{column_of as reference_of}
 use Rattle.query_rules.proofs.Groups.{past_group, fault_at_group, groups_are_own, next_reference, no_reference, pushed_column}
 use Rattle.query_rules.proofs.group.group_columns.Goals as goal
 

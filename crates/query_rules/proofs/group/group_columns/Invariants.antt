@@ -1,6 +1,6 @@
 use Rattle.std.proofs.Common.{map, drop}
-use Rattle.bound.specs.Bound.{column_of}
-use Rattle.trees.specs.Trees.{column_of as reference_of}
+use Rattle.query_tree.specs.Bound.{column_of}
+use Rattle.parse_tree.specs.Trees.{column_of as reference_of}
 use Rattle.query_rules.proofs.Groups.{GroupsLeft}
 use Rattle.query_rules.proofs.group.group_columns.Given as goal
 

@@ -1,6 +1,6 @@
 use Rattle.std.proofs.Common.{◌∙◌, ap, Some, map}
-use Rattle.bound.specs.Bound.{item_of}
-use Rattle.bound.specs.declared.block.Item.{Item}
+use Rattle.query_tree.specs.Bound.{item_of}
+use Rattle.query_tree.specs.declared.block.Item.{Item}
 use Rattle.query_rules.specs.Keys.{header_of, known_name}
 use Rattle.query_rules.proofs.Keys.{one_more_name, all_names, headers_of}
 use Rattle.query_rules.proofs.key.asterisk_names.Goals as goal

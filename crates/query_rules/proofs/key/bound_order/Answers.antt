@@ -1,6 +1,6 @@
 use Rattle.std.proofs.Common.{map}
-use Rattle.bound.specs.Bound.{item_of}
-use Rattle.trees.specs.Trees.{list_of, key_of as tree_key_of}
+use Rattle.query_tree.specs.Bound.{item_of}
+use Rattle.parse_tree.specs.Trees.{list_of, key_of as tree_key_of}
 use Rattle.query_rules.specs.Keys.{names_by}
 use Rattle.std.proofs.Common.{map}
 use Rattle.query_rules.proofs.Keys.{refused_order}

@@ -1,6 +1,6 @@
 use Rattle.std.proofs.Common.{◌∙◌, ap, map}
-use Rattle.trees.specs.Trees.{list_of, item_of}
-use Rattle.trees.proofs.Views.{of_items}
+use Rattle.parse_tree.specs.Trees.{list_of, item_of}
+use Rattle.parse_tree.proofs.Views.{of_items}
 use Rattle.query_rules.proofs.Keys.{listed_items}
 use Rattle.query_rules.proofs.key.column_names.Goals as goal
 

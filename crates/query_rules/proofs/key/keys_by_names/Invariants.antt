@@ -1,6 +1,6 @@
 use Rattle.std.proofs.Common.{map, drop}
-use Rattle.bound.specs.Bound.{key_of}
-use Rattle.trees.specs.Trees.{key_of as tree_key_of}
+use Rattle.query_tree.specs.Bound.{key_of}
+use Rattle.parse_tree.specs.Trees.{key_of as tree_key_of}
 use Rattle.query_rules.specs.Keys.{known_names}
 use Rattle.query_rules.proofs.Keys.{KeysLeft}
 use Rattle.query_rules.proofs.key.keys_by_names.Given as goal

@@ -1,6 +1,6 @@
 use Rattle.std.proofs.Common.{◌∙◌, ap, map}
-use Rattle.trees.specs.Trees.{item_of}
-use Rattle.trees.specs.declared.expr.Item.{Item as TreeItem}
+use Rattle.parse_tree.specs.Trees.{item_of}
+use Rattle.parse_tree.specs.declared.expr.Item.{Item as TreeItem}
 use Rattle.definitions.specs.Binding.BoundForm.{result_name}
 use Rattle.query_rules.specs.Keys.{known_name}
 use Rattle.query_rules.proofs.Keys.{one_more_name, all_names, result_names_of}

@@ -1,6 +1,6 @@
 use Rattle.std.proofs.Common.{◌≡◌, map, take}
-use Rattle.trees.specs.Trees.{item_of}
-use Rattle.trees.specs.declared.expr.Item.{Item as TreeItem}
+use Rattle.parse_tree.specs.Trees.{item_of}
+use Rattle.parse_tree.specs.declared.expr.Item.{Item as TreeItem}
 use Rattle.definitions.specs.Binding.BoundForm.{result_name}
 use Rattle.query_rules.specs.Keys.{known_name}
 use Rattle.query_rules.proofs.key.listed_names.Given as goal

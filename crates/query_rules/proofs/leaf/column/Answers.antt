@@ -1,4 +1,4 @@
-use Rattle.scopes.specs.Meaning.{found_of}
+use Rattle.query_rules.specs.ScopeRules.{found_of}
 use Rattle.query_rules.proofs.LeafParts.{not_there, not_one, may_not, binds_column}
 use Rattle.query_rules.proofs.leaf.column.Goals as goal
 

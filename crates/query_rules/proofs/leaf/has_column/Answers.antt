@@ -1,6 +1,6 @@
 use Rattle.std.proofs.Common.{◌≡◌, refl, slice_index_or}
-use Rattle.bound.specs.Bound.{column_of}
-use Rattle.bound.specs.declared.leaf.BlockColumn.{BlockColumn}
+use Rattle.query_tree.specs.Bound.{column_of}
+use Rattle.query_tree.specs.declared.leaf.BlockColumn.{BlockColumn}
 use Rattle.query_rules.proofs.FoundColumns.{any_here, same_column}
 use Rattle.query_rules.proofs.leaf.has_column.Goals as goal
 

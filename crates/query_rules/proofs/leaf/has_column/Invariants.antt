@@ -1,6 +1,6 @@
 use Rattle.std.proofs.Common.{◌≡◌, map, drop}
 use Rattle.definitions.specs.Lists.{AnyOf}
-use Rattle.bound.specs.Bound.{column_of}
+use Rattle.query_tree.specs.Bound.{column_of}
 use Rattle.query_rules.proofs.leaf.has_column.Given as goal
 
 abbrev pub invariant-loop-other : goal.invariant-loop-other

@@ -1,5 +1,5 @@
 use Rattle.std.proofs.Common.{◌≡◌, ◌∙◌, sym, ap, map, true, false}
-use Rattle.bound.specs.Bound.{column_of}
+use Rattle.query_tree.specs.Bound.{column_of}
 use Rattle.query_rules.specs.Leaves.{outer, ungrouped}
 use Rattle.query_rules.specs.Meaning.{place_of}
 use Rattle.query_rules.proofs.leaf.judge_place.Goals as goal

@@ -1,7 +1,7 @@
 use Rattle.std.proofs.Common.{◌≡◌, ◌+◌, map, drop}
 use Rattle.definitions.specs.Grammar.{operands}
 use Rattle.definitions.specs.Binding.Faults.{conjunct_count, operands_count}
-use Rattle.trees.specs.Trees.{expr_of, operand_of}
+use Rattle.parse_tree.specs.Trees.{expr_of, operand_of}
 use Rattle.query_rules.proofs.limit.+conjuncts_left.Given as goal
 
 abbrev pub invariant-operands : goal.invariant-operands

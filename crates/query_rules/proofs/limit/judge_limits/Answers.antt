@@ -1,7 +1,7 @@
 use Rattle.std.proofs.Common.{◌∙◌, ap, arith}
 use Rattle.std.specs.Prelude.{not}
-use Rattle.trees.specs.Trees.{list_of}
-use Rattle.trees.proofs.Views.{of_asterisk, of_items}
+use Rattle.parse_tree.specs.Trees.{list_of}
+use Rattle.parse_tree.proofs.Views.{of_asterisk, of_items}
 use Rattle.query_rules.proofs.BlockLimits.{star_refused, items_refused, groups_refused, conjuncts_refused, within_limits, few_when_asterisk, few_when_items, few_conjuncts, no_conjuncts, room_left}
 use Rattle.query_rules.proofs.limit.judge_limits.Goals as goal
 use Rattle.query_rules.proofs.limit.judge_limits.Goals.{in-Asterisk+else-grouped, in-Items+else-len-gt-MAX_ITEMS, in_default-condition-via-in-Some+else-is_none, in_default-condition-via-in_default-condition}

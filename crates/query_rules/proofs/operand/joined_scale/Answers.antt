@@ -1,4 +1,4 @@
-use Rattle.trees.specs.Trees.{operator_of}
+use Rattle.parse_tree.specs.Trees.{operator_of}
 use Rattle.query_rules.proofs.Operators.{great_product}
 use Rattle.query_rules.proofs.operand.joined_scale.Goals as goal
 

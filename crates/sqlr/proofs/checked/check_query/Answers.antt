@@ -1,7 +1,7 @@
 use Rattle.std.proofs.Common.{map}
-use Rattle.bound.specs.Bound.{block_of}
-use Rattle.refusals.specs.Meaning.{refusal_of}
-use Rattle.trees.specs.Trees.{select_of}
+use Rattle.query_tree.specs.Bound.{block_of}
+use Rattle.sqlvalue.specs.RefusalMeaning.{refusal_of}
+use Rattle.parse_tree.specs.Trees.{select_of}
 use Rattle.sqlr.proofs.CheckingRuns.{query_refused}
 use Rattle.sqlr.proofs.Explained.{blocks_formed, blocks_few}
 use Rattle.sqlr.proofs.Written.{written}

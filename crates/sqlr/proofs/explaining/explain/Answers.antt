@@ -3,8 +3,8 @@ use Rattle.std.specs.Global.{Vec}
 use Rattle.definitions.specs.Table.{Database}
 use Rattle.definitions.specs.Certificates.Explaining.{certified_from, AreExplained}
 use Rattle.definitions.specs.Estimates.Version.{current_version}
-use Rattle.bound.specs.Bound.{block_of}
-use Rattle.trees.specs.Trees.{select_of}
+use Rattle.query_tree.specs.Bound.{block_of}
+use Rattle.parse_tree.specs.Trees.{select_of}
 use Rattle.sqlr.specs.Explaining.{told}
 use Rattle.sqlr.proofs.Explained.{fault_told, accepted, blocks_formed, blocks_few}
 use Rattle.sqlr.proofs.Written.{written}

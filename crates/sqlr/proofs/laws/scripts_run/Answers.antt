@@ -1,4 +1,4 @@
-use Rattle.scripts.proofs.Runs.{scripts_run}
+use Rattle.definitions_execution.proofs.Runs.{scripts_run}
 use Rattle.sqlr.proofs.laws.scripts_run.Goals as goal
 
 pub returns : goal.returns

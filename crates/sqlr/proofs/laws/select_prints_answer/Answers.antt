@@ -1,4 +1,4 @@
-use Rattle.scripts.proofs.Runs.{select_prints_answer}
+use Rattle.definitions_execution.proofs.Runs.{select_prints_answer}
 use Rattle.sqlr.proofs.laws.select_prints_answer.Goals as goal
 
 pub returns : goal.returns

@@ -1,5 +1,5 @@
-use Rattle.scripts.proofs.Steps.{step_keeps_database}
-use Rattle.scripts.proofs.Runs.{faults_change_nothing}
+use Rattle.definitions_execution.proofs.ScriptSteps.{step_keeps_database}
+use Rattle.definitions_execution.proofs.Runs.{faults_change_nothing}
 use Rattle.sqlr.proofs.laws.statements_keep_databases.Goals as goal
 
 pub returns-clause-kept : goal.returns-clause-kept

@@ -1,5 +1,5 @@
 use Rattle.std.proofs.Common.{refl}
-use Rattle.scripts.specs.Step as s
+use Rattle.definitions_execution.specs.Step as s
 use Rattle.sqlr.proofs.Scripts.{lexical_told}
 use Rattle.sqlr.proofs.script.parse_script.Goals as goal
 

@@ -3,8 +3,8 @@ use Rattle.std.proofs.lemmas.Bool.Decides.{not_from_Decides}
 use Rattle.definitions.specs.Faults as faults
 use Rattle.definitions.specs.Binding.Faults.{Binds}
 use Rattle.definitions.specs.NotYet.{CanAnswer}
-use Rattle.bound.specs.Bound.{block_of}
-use Rattle.trees.specs.Trees.{select_of}
+use Rattle.query_tree.specs.Bound.{block_of}
+use Rattle.parse_tree.specs.Trees.{select_of}
 use Rattle.sqlr.proofs.Selecting.{fault_told, not_yet, formed_block, only_block, rows_told, raise_told}
 use Rattle.sqlr.proofs.Written.{written}
 use Rattle.sqlr.proofs.select.select.Goals as goal

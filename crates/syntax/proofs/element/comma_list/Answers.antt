@@ -1,8 +1,8 @@
 use Rattle.std.proofs.Common.{◌∙◌, refl, lit<, sym, ap, subst, rules, length, arith, map, [], ◌∷◌, ◌++◌}
 use Rattle.std.proofs.lemmas.List.{length_push}
-use Rattle.cursor.proofs.Outcomes.{then_fails, no_memory, answers}
-use Rattle.cursor.proofs.Lists.{Lists, list_begins, list_goes_on, list_fails, list_ends, map_push, fewer}
-use Rattle.cursor.proofs.Places.{on, past, seen_as, stays}
+use Rattle.syntax_cursor.proofs.Outcomes.{then_fails, no_memory, answers}
+use Rattle.syntax_cursor.proofs.Lists.{Lists, list_begins, list_goes_on, list_fails, list_ends, map_push, fewer}
+use Rattle.syntax_cursor.proofs.Places.{on, past, seen_as, stays}
 use Rattle.syntax.specs.Places.{all}
 use Rattle.syntax.proofs.Places.{all_push}
 use Rattle.syntax.proofs.element.comma_list.Goals as goal

@@ -1,6 +1,6 @@
 use Rattle.std.proofs.Common.{◌-◌, ◌<◌, ℕ, length, map}
-use Rattle.cursor.specs.Places.{Stands}
-use Rattle.cursor.proofs.Lists.{Lists}
+use Rattle.syntax_cursor.specs.Places.{Stands}
+use Rattle.syntax_cursor.proofs.Lists.{Lists}
 use Rattle.syntax.specs.Places.{all}
 use Rattle.syntax.proofs.element.comma_list.Given as goal
 

@@ -1,8 +1,8 @@
 use Rattle.std.proofs.Common.{rules}
 use Rattle.definitions.specs.Grammar as g
 use Rattle.definitions.proofs.Grammar.{name_alike}
-use Rattle.cursor.proofs.Outcomes.{flat_on, misses_on, if_on, gives, then_fails, answers}
-use Rattle.cursor.proofs.Places.{on, stays, past}
+use Rattle.syntax_cursor.proofs.Outcomes.{flat_on, misses_on, if_on, gives, then_fails, answers}
+use Rattle.syntax_cursor.proofs.Places.{on, stays, past}
 use Rattle.std.proofs.Common.{refl}
 use Rattle.syntax.proofs.expr.column_reference.Goals as goal
 

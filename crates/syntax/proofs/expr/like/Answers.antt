@@ -1,13 +1,13 @@
 use Rattle.std.proofs.Common.{ap, refl, rules, ◌∙◌}
-use Rattle.trees.proofs.Views.{of_like}
+use Rattle.parse_tree.proofs.Views.{of_like}
 use Rattle.definitions.specs.Statement as tree
-use Rattle.trees.specs.Trees.{expr_of, text_of}
+use Rattle.parse_tree.specs.Trees.{expr_of, text_of}
 use Rattle.definitions.specs.Grammar as g
 use Rattle.definitions.proofs.Grammar.{string_alike}
-use Rattle.cursor.proofs.Outcomes.{gives_as, flat_on, then_fails, no_memory, answers}
-use Rattle.cursor.proofs.Places.{on, seen_as}
+use Rattle.syntax_cursor.proofs.Outcomes.{gives_as, flat_on, then_fails, no_memory, answers}
+use Rattle.syntax_cursor.proofs.Places.{on, seen_as}
 use Rattle.syntax.proofs.Places as leaves
-use Rattle.cursor.specs.Places.{Reserved, one, string_leaves}
+use Rattle.syntax_cursor.specs.Places.{Reserved, one, string_leaves}
 use Rattle.syntax.specs.Places.{expr_leaves}
 use Rattle.definitions.specs.Word as words
 use Rattle.std.proofs.Common.{◌++◌}

@@ -1,13 +1,13 @@
 use Rattle.std.proofs.Common.{ap, refl, rules, ◌∙◌}
-use Rattle.trees.proofs.Views.{of_is_null}
+use Rattle.parse_tree.proofs.Views.{of_is_null}
 use Rattle.definitions.specs.Statement as tree
-use Rattle.trees.specs.Trees.{expr_of}
+use Rattle.parse_tree.specs.Trees.{expr_of}
 use Rattle.definitions.specs.Grammar as g
 use Rattle.definitions.proofs.Grammar.{maybe_alike}
-use Rattle.cursor.proofs.Outcomes.{gives_as, flat_on, past_on, past_fails, no_memory, maybe, answers}
-use Rattle.cursor.proofs.Places.{seen_as, past}
+use Rattle.syntax_cursor.proofs.Outcomes.{gives_as, flat_on, past_on, past_fails, no_memory, maybe, answers}
+use Rattle.syntax_cursor.proofs.Places.{seen_as, past}
 use Rattle.syntax.proofs.Places as leaves
-use Rattle.cursor.specs.Places.{Reserved, one}
+use Rattle.syntax_cursor.specs.Places.{Reserved, one}
 use Rattle.syntax.specs.Places.{expr_leaves}
 use Rattle.definitions.specs.Word as words
 use Rattle.std.proofs.Common.{◌++◌}

@@ -1,5 +1,5 @@
 use Rattle.std.proofs.Common.{◌∙◌, ap, subst, []}
-use Rattle.cursor.specs.Places.{Stand, left_at}
+use Rattle.syntax_cursor.specs.Places.{Stand, left_at}
 use Rattle.syntax.specs.Places.{all, statement_leaves}
 use Rattle.syntax.proofs.Places.{left_at_first}
 use Rattle.syntax.proofs.Scripts.{script_fails}

@@ -1,9 +1,9 @@
 use Rattle.std.proofs.Common.{sym, ap, refl, rules, subst, ◌∙◌}
 use Rattle.std.proofs.Common.{map}
-use Rattle.trees.specs.Trees.{statement_of}
-use Rattle.cursor.proofs.Lists.{map_push}
+use Rattle.parse_tree.specs.Trees.{statement_of}
+use Rattle.syntax_cursor.proofs.Lists.{map_push}
 use Rattle.syntax.proofs.Scripts.{Scripts, script_begins, script_goes_on, script_ends, script_fails_at, statement_fails, semicolon_fails, fewer, answered, for_memory}
-use Rattle.cursor.proofs.Places.{here, on, seen_as, past}
+use Rattle.syntax_cursor.proofs.Places.{here, on, seen_as, past}
 use Rattle.syntax.proofs.Places as leaves
 use Rattle.syntax.specs.Places.{all, statement_leaves}
 use Rattle.syntax.proofs.parser.script.Goals as goal

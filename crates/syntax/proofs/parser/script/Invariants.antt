@@ -1,6 +1,6 @@
 use Rattle.std.proofs.Common.{◌-◌, length, map}
-use Rattle.trees.specs.Trees.{statement_of}
-use Rattle.cursor.specs.Places.{Stands}
+use Rattle.parse_tree.specs.Trees.{statement_of}
+use Rattle.syntax_cursor.specs.Places.{Stands}
 use Rattle.syntax.specs.Places.{all, statement_leaves}
 use Rattle.syntax.proofs.Scripts.{Scripts}
 use Rattle.syntax.proofs.parser.script.Given as goal

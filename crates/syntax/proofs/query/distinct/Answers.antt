@@ -1,6 +1,6 @@
 use Rattle.definitions.specs.Grammar as g
-use Rattle.cursor.proofs.Outcomes.{misses_on, if_on, gives, maybe}
-use Rattle.cursor.proofs.Places.{here, stays, past}
+use Rattle.syntax_cursor.proofs.Outcomes.{misses_on, if_on, gives, maybe}
+use Rattle.syntax_cursor.proofs.Places.{here, stays, past}
 use Rattle.syntax.proofs.Places as leaves
 use Rattle.std.proofs.Common.{refl}
 use Rattle.syntax.proofs.query.distinct.Goals as goal

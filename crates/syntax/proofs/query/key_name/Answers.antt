@@ -1,8 +1,8 @@
 use Rattle.std.proofs.Common.{rules}
 use Rattle.definitions.specs.Grammar as g
 use Rattle.definitions.proofs.Grammar.{count_alike}
-use Rattle.cursor.proofs.Outcomes.{flat_on, reads_on, reads_not_on, gives, then_fails, no_memory, answers}
-use Rattle.cursor.proofs.Places.{on}
+use Rattle.syntax_cursor.proofs.Outcomes.{flat_on, reads_on, reads_not_on, gives, then_fails, no_memory, answers}
+use Rattle.syntax_cursor.proofs.Places.{on}
 use Rattle.syntax.proofs.query.key_name.Goals as goal
 
 pub returns-in_err-name-clause-reads : goal.returns-in_err-name-clause-reads

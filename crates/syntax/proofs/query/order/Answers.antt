@@ -1,9 +1,9 @@
 use Rattle.std.proofs.Common.{ap, rules}
 use Rattle.std.proofs.Common.{map}
-use Rattle.trees.specs.Trees.{key_of}
+use Rattle.parse_tree.specs.Trees.{key_of}
 use Rattle.definitions.specs.Grammar as g
-use Rattle.cursor.proofs.Outcomes.{gives_as, past_on, misses_on, if_on, past_fails, answers}
-use Rattle.cursor.proofs.Places.{ok_then, here, on, stays, seen_as, past}
+use Rattle.syntax_cursor.proofs.Outcomes.{gives_as, past_on, misses_on, if_on, past_fails, answers}
+use Rattle.syntax_cursor.proofs.Places.{ok_then, here, on, stays, seen_as, past}
 use Rattle.std.proofs.Common.{refl}
 use Rattle.syntax.specs.Places.{all, key_leaves}
 use Rattle.syntax.proofs.query.order.Goals as goal

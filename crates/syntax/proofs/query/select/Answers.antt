@@ -1,8 +1,8 @@
 use Rattle.std.proofs.Common.{rules}
 use Rattle.definitions.specs.Grammar as g
 use Rattle.definitions.proofs.Grammar.{block_alike, within_alike, order_alike}
-use Rattle.cursor.proofs.Outcomes.{then_on, flat_on, gives, then_fails, answers}
-use Rattle.cursor.proofs.Places.{on}
+use Rattle.syntax_cursor.proofs.Outcomes.{then_on, flat_on, gives, then_fails, answers}
+use Rattle.syntax_cursor.proofs.Places.{on}
 use Rattle.syntax.proofs.query.select.Goals as goal
 
 pub returns-in_err-block-clause-reads : goal.returns-in_err-block-clause-reads

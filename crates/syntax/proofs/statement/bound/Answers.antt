@@ -2,11 +2,11 @@ use Rattle.std.proofs.Common.{Some, None, false, Result}
 use Rattle.std.proofs.Common.{ap₂, ℕ, Bool, Option, unwrap_or, Result}
 use Rattle.definitions.specs.Statement as tree
 use Rattle.definitions.specs.Rule.{Reads}
-use Rattle.cursor.specs.declared.stop.Stop.{Stop}
-use Rattle.cursor.specs.Reading.{Place, Takes, Outcome}
+use Rattle.syntax_cursor.specs.declared.stop.Stop.{Stop}
+use Rattle.syntax_cursor.specs.Reading.{Place, Takes, Outcome}
 use Rattle.definitions.specs.Grammar as g
-use Rattle.cursor.proofs.Outcomes.{gives_as, reads_on, reads_not_on, says_not, begins}
-use Rattle.cursor.proofs.Places.{here, on}
+use Rattle.syntax_cursor.proofs.Outcomes.{gives_as, reads_on, reads_not_on, says_not, begins}
+use Rattle.syntax_cursor.proofs.Places.{here, on}
 use Rattle.syntax.proofs.Places as leaves
 use Rattle.syntax.proofs.statement.bound.Goals as goal
 

@@ -1,7 +1,7 @@
 use Rattle.std.proofs.Common.{rules}
 use Rattle.definitions.specs.Grammar as g
-use Rattle.cursor.proofs.Outcomes.{past_on, misses_on, if_on, gives, past_fails, answers}
-use Rattle.cursor.proofs.Places.{here, stays, past}
+use Rattle.syntax_cursor.proofs.Outcomes.{past_on, misses_on, if_on, gives, past_fails, answers}
+use Rattle.syntax_cursor.proofs.Places.{here, stays, past}
 use Rattle.std.proofs.Common.{refl}
 use Rattle.syntax.proofs.statement.constraint.Goals as goal
 

@@ -1,6 +1,6 @@
 use Rattle.definitions.specs.Grammar as g
-use Rattle.cursor.proofs.Outcomes.{misses_on, if_on}
-use Rattle.cursor.proofs.Places.{ok_then, here, on, stays, past}
+use Rattle.syntax_cursor.proofs.Outcomes.{misses_on, if_on}
+use Rattle.syntax_cursor.proofs.Places.{ok_then, here, on, stays, past}
 use Rattle.std.proofs.Common.{refl}
 use Rattle.syntax.proofs.statement.create.Goals as goal
 

@@ -1,8 +1,8 @@
 use Rattle.std.proofs.Common.{rules}
 use Rattle.definitions.specs.Grammar as g
 use Rattle.definitions.proofs.Grammar.{maybe_alike, name_alike, names_alike}
-use Rattle.cursor.proofs.Outcomes.{flat_on, past_on, gives, past_fails, then_fails, maybe, answers}
-use Rattle.cursor.proofs.Places.{here, on, past}
+use Rattle.syntax_cursor.proofs.Outcomes.{flat_on, past_on, gives, past_fails, then_fails, maybe, answers}
+use Rattle.syntax_cursor.proofs.Places.{here, on, past}
 use Rattle.syntax.proofs.Places as leaves
 use Rattle.std.proofs.Common.{refl}
 use Rattle.syntax.proofs.statement.create_index.Goals as goal

@@ -1,8 +1,8 @@
 use Rattle.std.proofs.Common.{rules}
 use Rattle.definitions.specs.Grammar as g
 use Rattle.definitions.proofs.Grammar.{enclosed_alike, list_alike, name_alike, column_alike}
-use Rattle.cursor.proofs.Outcomes.{then_on, flat_on, past_on, gives, past_fails, then_fails, answers}
-use Rattle.cursor.proofs.Places.{on, past}
+use Rattle.syntax_cursor.proofs.Outcomes.{then_on, flat_on, past_on, gives, past_fails, then_fails, answers}
+use Rattle.syntax_cursor.proofs.Places.{on, past}
 use Rattle.std.proofs.Common.{refl}
 use Rattle.syntax.proofs.statement.create_table.Goals as goal
 

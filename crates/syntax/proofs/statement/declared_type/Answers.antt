@@ -1,6 +1,6 @@
 use Rattle.definitions.specs.Grammar as g
-use Rattle.cursor.proofs.Outcomes.{reads_on, gives, says_not, begins}
-use Rattle.cursor.proofs.Places.{ok_then, here, no_more, says_passed}
+use Rattle.syntax_cursor.proofs.Outcomes.{reads_on, gives, says_not, begins}
+use Rattle.syntax_cursor.proofs.Places.{ok_then, here, no_more, says_passed}
 use Rattle.syntax.proofs.Places as leaves
 use Rattle.syntax.proofs.statement.declared_type.Goals as goal
 

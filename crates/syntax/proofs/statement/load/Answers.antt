@@ -1,8 +1,8 @@
 use Rattle.std.proofs.Common.{rules}
 use Rattle.definitions.specs.Grammar as g
 use Rattle.definitions.proofs.Grammar.{name_alike, string_alike}
-use Rattle.cursor.proofs.Outcomes.{flat_on, past_on, gives, past_fails, then_fails, answers}
-use Rattle.cursor.proofs.Places.{on, past}
+use Rattle.syntax_cursor.proofs.Outcomes.{flat_on, past_on, gives, past_fails, then_fails, answers}
+use Rattle.syntax_cursor.proofs.Places.{on, past}
 use Rattle.std.proofs.Common.{refl}
 use Rattle.syntax.proofs.statement.load.Goals as goal
 

@@ -4,8 +4,8 @@ use Rattle.definitions.specs.Rule.{Gives, Then}
 use Rattle.definitions.proofs.Alike.{Alike, gives_alike, then_alike}
 use Rattle.definitions.specs.Grammar as g
 use Rattle.definitions.proofs.Grammar.{count_alike, scale_alike}
-use Rattle.cursor.proofs.Outcomes.{then_on, flat_on, past_on, gives, past_fails, then_fails, answers}
-use Rattle.cursor.proofs.Places.{here, no_more, past}
+use Rattle.syntax_cursor.proofs.Outcomes.{then_on, flat_on, past_on, gives, past_fails, then_fails, answers}
+use Rattle.syntax_cursor.proofs.Places.{here, no_more, past}
 use Rattle.syntax.proofs.Places as leaves
 use Rattle.std.proofs.Common.{refl}
 use Rattle.syntax.proofs.statement.numeric_parameters.Goals as goal

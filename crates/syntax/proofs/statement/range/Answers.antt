@@ -6,8 +6,8 @@ use Rattle.definitions.specs.Rule.{Rule, Gives, Past, Then}
 use Rattle.definitions.proofs.Alike.{Alike, gives_alike, past_alike, then_alike}
 use Rattle.definitions.specs.Grammar as g
 use Rattle.definitions.proofs.Grammar.{bound_alike}
-use Rattle.cursor.proofs.Outcomes.{then_on, flat_on, past_on, misses_on, if_on, gives, past_fails, then_fails, answers}
-use Rattle.cursor.proofs.Places.{here, on, stays, past}
+use Rattle.syntax_cursor.proofs.Outcomes.{then_on, flat_on, past_on, misses_on, if_on, gives, past_fails, then_fails, answers}
+use Rattle.syntax_cursor.proofs.Places.{here, on, stays, past}
 use Rattle.std.proofs.Common.{refl}
 use Rattle.syntax.proofs.statement.range.Goals as goal
 

@@ -1,7 +1,7 @@
 use Rattle.std.proofs.Common.{rules}
 use Rattle.definitions.specs.Grammar as g
-use Rattle.cursor.proofs.Outcomes.{misses_on, if_on, gives, answers}
-use Rattle.cursor.proofs.Places.{here, stays, no_more, past}
+use Rattle.syntax_cursor.proofs.Outcomes.{misses_on, if_on, gives, answers}
+use Rattle.syntax_cursor.proofs.Places.{here, stays, no_more, past}
 use Rattle.syntax.proofs.Places as leaves
 use Rattle.std.proofs.Common.{refl}
 use Rattle.syntax.proofs.statement.scale.Goals as goal

@@ -1,8 +1,8 @@
 use Rattle.std.proofs.Common.{rules}
 use Rattle.definitions.specs.Grammar as g
 use Rattle.definitions.proofs.Grammar.{within_alike, select_alike}
-use Rattle.cursor.proofs.Outcomes.{then_on, misses_on, if_on, gives, then_fails, answers}
-use Rattle.cursor.proofs.Places.{ok_then, here, on, stays, past}
+use Rattle.syntax_cursor.proofs.Outcomes.{then_on, misses_on, if_on, gives, then_fails, answers}
+use Rattle.syntax_cursor.proofs.Places.{ok_then, here, on, stays, past}
 use Rattle.std.proofs.Common.{refl}
 use Rattle.syntax.proofs.statement.statement.Goals as goal
 

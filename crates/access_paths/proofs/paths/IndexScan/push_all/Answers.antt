@@ -1,7 +1,7 @@
 use Rattle.std.proofs.Common.{◌<◌, length, map}
 use Rattle.std.specs.List.{AllByRecursion}
 use Rattle.definitions.specs.Queries.Conjuncts.{conjuncts}
-use Rattle.bound.specs.Bound.{block_of}
+use Rattle.query_tree.specs.Bound.{block_of}
 use Rattle.access_paths.specs.Found.{path_told}
 use Rattle.access_paths.specs.Listing.{whole_found, matching_found}
 use Rattle.access_paths.specs.Matches.{Chain}

@@ -1,6 +1,6 @@
 use Rattle.std.proofs.Common.{◌≡◌, ◌++◌, map, drop}
 use Rattle.definitions.specs.Table.{Index}
-use Rattle.bound.specs.Bound.{block_of}
+use Rattle.query_tree.specs.Bound.{block_of}
 use Rattle.access_paths.specs.Found.{path_told}
 use Rattle.access_paths.specs.Listing.{matching_found, scans_found}
 use Rattle.access_paths.specs.Scans.{IsSizeOf}

@@ -3,7 +3,7 @@ use Rattle.std.proofs.lemmas.Result.{err_from_is_err_and}
 use Rattle.std.specs.Result.{is_ok}
 use Rattle.definitions.specs.Limits.{most_tables}
 use Rattle.definitions.specs.Faults as faults
-use Rattle.trees.specs.Trees.{definitions_of}
+use Rattle.parse_tree.specs.Trees.{definitions_of}
 use Rattle.catalog.proofs.NamedTables.{taken, not_taken}
 use Rattle.catalog.proofs.Creating.{accepted, untyped, misjudged, on_ok, database_pushed, made_pushed}
 use Rattle.catalog.proofs.database.Database.create_table.Goals as goal

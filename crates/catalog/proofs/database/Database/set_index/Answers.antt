@@ -1,5 +1,5 @@
 use Rattle.std.proofs.Common.{sym, map}
-use Rattle.trees.specs.Trees.{name_of, figures_of}
+use Rattle.parse_tree.specs.Trees.{name_of, figures_of}
 use Rattle.definitions.specs.Refusal.{NotFound}
 use Rattle.definitions.specs.IndexFaults as index
 use Rattle.definitions.specs.Faults as faults

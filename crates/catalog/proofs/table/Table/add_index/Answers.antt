@@ -1,8 +1,8 @@
 use Rattle.std.proofs.Common.{map}
 use Rattle.std.specs.String.{string_bytes}
 use Rattle.std.specs.Result.{is_ok}
-use Rattle.trees.specs.Trees.{name_of}
-use Rattle.table_indexes.specs.Meaning.{table_figures_of}
+use Rattle.parse_tree.specs.Trees.{name_of}
+use Rattle.indexes.specs.Meaning.{table_figures_of}
 use Rattle.catalog.proofs.TableIndexes.{pushed_index}
 use Rattle.catalog.proofs.table.Table.add_index.Goals as goal
 

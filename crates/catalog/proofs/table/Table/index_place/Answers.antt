@@ -1,7 +1,7 @@
 use Rattle.std.proofs.Common.{◌∙◌, sym, ap, List, Bool, ℕ}
 use Rattle.std.specs.List.{position_from}
 use Rattle.definitions.specs.Table.{is_on}
-use Rattle.table_indexes.specs.Indexes.{StoredIndex}
+use Rattle.indexes.specs.Indexes.{StoredIndex}
 use Rattle.catalog.proofs.Rows.{of_view, position_found, position_further, position_none, position-map}
 use Rattle.catalog.proofs.table.Table.index_place.Goals as goal
 

@@ -1,7 +1,7 @@
 use Rattle.std.proofs.Common.{◌≡◌, drop}
 use Rattle.std.specs.List.{position_from}
 use Rattle.definitions.specs.Table.{is_on}
-use Rattle.table_indexes.specs.Indexes.{StoredIndex}
+use Rattle.indexes.specs.Indexes.{StoredIndex}
 use Rattle.catalog.proofs.table.Table.index_place.Given as goal
 
 -- the indexes that are left answer as all do

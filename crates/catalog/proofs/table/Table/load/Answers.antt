@@ -3,7 +3,7 @@ use Rattle.std.specs.Vec.{with_items}
 use Rattle.std.specs.String.{string_bytes}
 use Rattle.std.proofs.lemmas.List.{with_items_is}
 use Rattle.definitions.specs.Invariant.{IsTable}
-use Rattle.table_indexes.specs.Meaning.{table_figures_of}
+use Rattle.indexes.specs.Meaning.{table_figures_of}
 use Rattle.catalog.specs.Tables.{table_of}
 use Rattle.catalog.proofs.Rows.{of_view}
 use Rattle.catalog.proofs.TableGrowth.{LoadedTable, loading_own, loaded_own, types_now, own_refusal, columns_back, columns_long}

@@ -1,6 +1,6 @@
 use Rattle.std.proofs.Common.{◌∙◌, refl, arith, rules}
 use Rattle.std.specs.String.{string_bytes}
-use Rattle.trees.specs.Trees.{definitions_of}
+use Rattle.parse_tree.specs.Trees.{definitions_of}
 use Rattle.catalog.proofs.Creating.{empty_filled}
 use Rattle.catalog.proofs.NewTables.{new_is, new_valid, types_of_new}
 use Rattle.catalog.proofs.table.Table.new.Goals as goal

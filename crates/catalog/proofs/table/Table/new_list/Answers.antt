@@ -2,7 +2,7 @@ use Rattle.std.proofs.Common.{◌≡◌, ◌∙◌, refl, sym, ap, map, length, 
 use Rattle.std.proofs.lemmas.List.{length-map}
 use Rattle.definitions.specs.Table.{column_numbers, index_on}
 use Rattle.loading.specs.Stored.{headers}
-use Rattle.trees.specs.Trees.{name_of}
+use Rattle.parse_tree.specs.Trees.{name_of}
 use Rattle.catalog.proofs.Rows.{of_view, columns_many, indexes_many}
 use Rattle.catalog.proofs.TableIndexes.{index_found, index_free}
 use Rattle.catalog.proofs.table.Table.new_list.Goals as goal

@@ -7,8 +7,8 @@ use Rattle.definitions.specs.Table.{column_numbers, index_on}
 use Rattle.definitions.specs.Change.{first_type}
 use Rattle.sqlvalue.specs.Meaning.{type_of}
 use Rattle.loading.specs.Stored.{headers}
-use Rattle.trees.specs.Trees.{name_of, figures_of}
-use Rattle.table_indexes.specs.Meaning.{index_figures_of, table_figures_of}
+use Rattle.parse_tree.specs.Trees.{name_of, figures_of}
+use Rattle.indexes.specs.Meaning.{index_figures_of, table_figures_of}
 use Rattle.catalog.proofs.Rows.{of_view, type_at}
 use Rattle.catalog.proofs.TableIndexes.{index_free}
 use Rattle.catalog.proofs.SetFigures.{first_within, first_type_is, figures_set_at, refused_figures}

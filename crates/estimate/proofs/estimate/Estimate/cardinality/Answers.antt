@@ -1,6 +1,6 @@
 use Rattle.std.proofs.Common.{◌∙◌, ◌<◌, sym, ap, length, arith}
-use Rattle.bound.specs.Bound.{block_of}
-use Rattle.table_sets.specs.Sets.{set_of}
+use Rattle.query_tree.specs.Bound.{block_of}
+use Rattle.plan_tree.specs.Sets.{set_of}
 use Rattle.estimate.proofs.Members.{next_joined, same_joined}
 use Rattle.estimate.proofs.estimate.Estimate.cardinality.Goals as goal
 use Rattle.estimate.proofs.estimate.Estimate.cardinality.Goals.{then-has, else-has}

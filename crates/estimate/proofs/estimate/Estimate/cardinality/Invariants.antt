@@ -1,8 +1,8 @@
 use Rattle.std.proofs.Common.{◌≡◌, ◌≤◌, length}
 use Rattle.definitions.specs.Plans.Cost.{limit}
 use Rattle.definitions.specs.Estimates.Cardinality.{cardinality, taking}
-use Rattle.bound.specs.Bound.{block_of}
-use Rattle.table_sets.specs.Sets.{set_of}
+use Rattle.query_tree.specs.Bound.{block_of}
+use Rattle.plan_tree.specs.Sets.{set_of}
 use Rattle.estimate.proofs.Members.{members_from}
 use Rattle.estimate.proofs.estimate.Estimate.cardinality.Given as goal
 

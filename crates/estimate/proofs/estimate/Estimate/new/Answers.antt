@@ -1,5 +1,5 @@
 use Rattle.std.proofs.Common.{rules}
-use Rattle.bound.specs.Bound.{block_of}
+use Rattle.query_tree.specs.Bound.{block_of}
 use Rattle.conjuncts.proofs.FormedBlocks.{formed_conjuncts_few, formed_few}
 use Rattle.estimate.proofs.estimate.Estimate.new.Goals as goal
 

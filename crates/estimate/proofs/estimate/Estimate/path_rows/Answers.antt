@@ -1,6 +1,6 @@
 use Rattle.std.proofs.Common.{ap, ◌∙◌, ◌<◌, length, map, arith}
-use Rattle.bound.specs.Bound.{block_of}
-use Rattle.table_sets.specs.Sets.{set_of}
+use Rattle.query_tree.specs.Bound.{block_of}
+use Rattle.plan_tree.specs.Sets.{set_of}
 use Rattle.estimate.specs.Estimated.{Estimated}
 use Rattle.estimate.specs.PlanConjuncts.{conjunct_of}
 use Rattle.estimate.proofs.Left.{known_told}

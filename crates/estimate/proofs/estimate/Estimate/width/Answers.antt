@@ -1,6 +1,6 @@
 use Rattle.std.proofs.Common.{◌∙◌, ◌<◌, sym, length, arith}
-use Rattle.bound.specs.Bound.{block_of}
-use Rattle.table_sets.specs.Sets.{set_of}
+use Rattle.query_tree.specs.Bound.{block_of}
+use Rattle.plan_tree.specs.Sets.{set_of}
 use Rattle.estimate.proofs.Members.{next_width, same_width}
 use Rattle.estimate.proofs.Sizes.{width_told}
 use Rattle.estimate.proofs.estimate.Estimate.width.Goals as goal

@@ -1,7 +1,7 @@
 use Rattle.std.proofs.Common.{◌≡◌, ◌≤◌, ◌*◌, length}
 use Rattle.definitions.specs.Estimates.Cardinality.{width}
-use Rattle.bound.specs.Bound.{block_of}
-use Rattle.table_sets.specs.Sets.{set_of}
+use Rattle.query_tree.specs.Bound.{block_of}
+use Rattle.plan_tree.specs.Sets.{set_of}
 use Rattle.estimate.specs.Widths.{widest}
 use Rattle.estimate.proofs.Members.{members_from, width_from}
 use Rattle.estimate.proofs.estimate.Estimate.width.Given as goal

@@ -4,7 +4,7 @@ use Rattle.indexes.specs.Keys.{key_in}
 use Rattle.indexes.specs.Runs.{Index}
 use Rattle.std.specs.Ordering.{is_eq}
 use Rattle.indexes.proofs.Entries.{key_there}
-use Rattle.indexes.proofs.Counting.{first_anew, later_anew, never_anew}
+use Rattle.indexes.proofs.IndexCounting.{first_anew, later_anew, never_anew}
 use Rattle.indexes.proofs.run.KeyRun.is_new.Goals as goal
 
 pub returns-then-place-eq0 : goal.returns-then-place-eq0

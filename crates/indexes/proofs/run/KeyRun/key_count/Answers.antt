@@ -1,7 +1,7 @@
 use Rattle.std.proofs.Common.{◌≡◌, ◌∙◌, ◌<◌, ◌≤◌, ◌+◌, sym, ap, ap₂, length, rules, arith}
 use Rattle.indexes.specs.Runs.{Index}
 use Rattle.indexes.proofs.Entries.{length-entries_at}
-use Rattle.indexes.proofs.Counting.{counted_place, counted_all, counts_one}
+use Rattle.indexes.proofs.IndexCounting.{counted_place, counted_all, counts_one}
 use Rattle.indexes.proofs.run.KeyRun.key_count.Goals as goal
 
 pub is_new-requires : goal.is_new-requires

@@ -1,4 +1,4 @@
-use Rattle.table_sets.specs.Sets.{set_of}
+use Rattle.plan_tree.specs.Sets.{set_of}
 use Rattle.join_dp.specs.States.{states_in, starts_in}
 use Rattle.join_dp.proofs.Indexed.{places_rise}
 use Rattle.join_dp.proofs.states.States.places.Goals as goal

@@ -1,6 +1,6 @@
 use Rattle.std.proofs.Common.{◌≤◌, length, map, arith}
 use Rattle.std.proofs.lemmas.List.{length-map}
-use Rattle.table_sets.specs.Sets.{set_of}
+use Rattle.plan_tree.specs.Sets.{set_of}
 use Rattle.join_dp.specs.States.{solved_of, states_in}
 use Rattle.join_dp.proofs.Ending.{still_counted}
 use Rattle.join_dp.proofs.states.States.push_row.Goals as goal

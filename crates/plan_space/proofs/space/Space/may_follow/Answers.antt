@@ -1,5 +1,5 @@
 use Rattle.std.proofs.Common.{sym, subst, Option}
-use Rattle.table_links.specs.declared.links.TableLinks.{TableLinks}
+use Rattle.plan_space.specs.declared.join_graph.TableLinks.{TableLinks}
 use Rattle.plan_space.specs.Planned.{space_in}
 use Rattle.plan_space.specs.Inside.{planned}
 use Rattle.plan_space.specs.Links.{LinksSay}

@@ -1,8 +1,8 @@
 use Rattle.std.proofs.Common.{◌≡◌, ◌∙◌, ◌*◌, ap₂, subst}
 use Rattle.definitions.specs.Plans.Cost.{saturated}
 use Rattle.definitions.specs.Plans.TableSet.{only}
-use Rattle.table_sets.specs.Sets.{set_of}
-use Rattle.block_merges.specs.Lists.{AreBlockMerges}
+use Rattle.plan_tree.specs.Sets.{set_of}
+use Rattle.plan_space.specs.MergeLists.{AreBlockMerges}
 use Rattle.plan_space.specs.Planned.{Planned, space_in}
 use Rattle.plan_space.proofs.space.Space.merges.Goals as goal
 

@@ -1,8 +1,8 @@
 use Rattle.std.proofs.Common.{sym, subst}
 use Rattle.definitions.specs.Plans.Space.{Space}
-use Rattle.table_sets.specs.Sets.{set_of}
-use Rattle.plan_orders.specs.Versions.{version_of}
-use Rattle.block_paths.specs.Item.{AreItems}
+use Rattle.plan_tree.specs.Sets.{set_of}
+use Rattle.interesting_orders.specs.Versions.{version_of}
+use Rattle.plan_space.specs.Item.{AreItems}
 use Rattle.plan_space.specs.Inside.{planned}
 use Rattle.plan_space.proofs.Facts.{is_space}
 use Rattle.plan_space.proofs.space.Space.paths.Goals as goal

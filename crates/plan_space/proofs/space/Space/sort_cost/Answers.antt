@@ -1,6 +1,6 @@
 use Rattle.std.proofs.Common.{◌∙◌, sym}
-use Rattle.bound.specs.Bound.{block_of}
-use Rattle.table_sets.specs.Sets.{set_of}
+use Rattle.query_tree.specs.Bound.{block_of}
+use Rattle.plan_tree.specs.Sets.{set_of}
 use Rattle.plan_space.specs.Inside.{planned}
 use Rattle.plan_space.proofs.Facts.{sort_cost_is}
 use Rattle.plan_space.proofs.space.Space.sort_cost.Goals as goal

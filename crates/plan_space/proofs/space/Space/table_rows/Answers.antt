@@ -2,7 +2,7 @@ use Rattle.std.proofs.Common.{◌∙◌, ◌<◌, ◌^◌, ap, sym, subst, arith
 use Rattle.std.proofs.lemmas.Nat.{pow_below}
 use Rattle.definitions.specs.Estimates.Cardinality.{cardinality}
 use Rattle.definitions.specs.Plans.TableSet.{only}
-use Rattle.bound.specs.Bound.{block_of}
+use Rattle.query_tree.specs.Bound.{block_of}
 use Rattle.plan_space.specs.Planned.{Planned, space_in}
 use Rattle.plan_space.specs.Inside.{planned}
 use Rattle.plan_space.proofs.Facts.{cardinality_is}

@@ -1,6 +1,6 @@
 use Rattle.std.proofs.Common.{sym, map}
-use Rattle.bound.specs.Bound.{block_of}
-use Rattle.trees.specs.Trees.{select_of}
+use Rattle.query_tree.specs.Bound.{block_of}
+use Rattle.parse_tree.specs.Trees.{select_of}
 use Rattle.sqlr.proofs.CheckingRuns.{binds_of, refused_put, refused_begun, told_put, told_begun}
 use Rattle.sqlr.proofs.Explained.{blocks_formed}
 use Rattle.sqlr.proofs.Written.{written}

@@ -1,5 +1,5 @@
 use Rattle.std.proofs.Common.{rules, refl, ◌≡◌, length}
-use Rattle.scripts.specs.CheckingRun.{nothing_text}
+use Rattle.definitions_execution.specs.CheckingRun.{nothing_text}
 use Rattle.definitions.specs.Certificates.Verdicts as verdicts
 use Rattle.sqlr.proofs.CheckingRuns.{text_begun, no_statement_checked, last_checked, last_broke, refused_line, refused_line_begun, preparing_broke}
 use Rattle.sqlr.proofs.CheckingRuns.{library_unasked, sink_blamed, sink_apart, never_library}

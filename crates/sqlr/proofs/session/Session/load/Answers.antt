@@ -2,8 +2,8 @@ use Rattle.std.proofs.Common.{◌≡◌, ◌≢◌, ◌∙◌, refl, sym, ap, ap
 use Rattle.std.proofs.lemmas.Result.{IfOk-weaker}
 use Rattle.definitions.specs.Faults as faults
 use Rattle.definitions.specs.Table.{table_named}
-use Rattle.scripts.specs.Step.{State}
-use Rattle.trees.specs.Trees.{name_of}
+use Rattle.definitions_execution.specs.Step.{State}
+use Rattle.parse_tree.specs.Trees.{name_of}
 use Rattle.sqlr.proofs.Taking.{refusal_told, no_file_told, bytes_taken, none_named, some_named}
 use Rattle.sqlr.proofs.Breaking.{none_blamed, nothing_changed, answered_at, failed_at, all_kept, as_it_was}
 use Rattle.sqlr.specs.declared.outcome.StepFault.TheVariants as fault

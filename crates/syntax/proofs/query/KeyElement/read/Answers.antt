@@ -1,8 +1,8 @@
 use Rattle.std.proofs.Common.{rules}
 use Rattle.definitions.specs.Grammar as g
 use Rattle.definitions.proofs.Grammar.{key_name_alike, direction_alike}
-use Rattle.cursor.proofs.Outcomes.{flat_on, gives, then_fails, answers}
-use Rattle.cursor.proofs.Places.{no_more}
+use Rattle.syntax_cursor.proofs.Outcomes.{flat_on, gives, then_fails, answers}
+use Rattle.syntax_cursor.proofs.Places.{no_more}
 use Rattle.syntax.proofs.query.KeyElement.read.Goals as goal
 
 pub returns-in_err-name-clause-reads : goal.returns-in_err-name-clause-reads

@@ -1,9 +1,9 @@
 use Rattle.std.proofs.Common.{rules}
-use Rattle.trees.specs.Trees.{name_of}
+use Rattle.parse_tree.specs.Trees.{name_of}
 use Rattle.definitions.specs.Grammar as g
 use Rattle.definitions.proofs.Grammar.{name_alike}
-use Rattle.cursor.proofs.Outcomes.{maybe_says, flat_on, then_fails, no_memory, answers}
-use Rattle.cursor.proofs.Places.{on}
+use Rattle.syntax_cursor.proofs.Outcomes.{maybe_says, flat_on, then_fails, no_memory, answers}
+use Rattle.syntax_cursor.proofs.Places.{on}
 use Rattle.syntax.proofs.query.SourceElement.read.Goals as goal
 
 pub returns-in_err-table-clause-reads : goal.returns-in_err-table-clause-reads

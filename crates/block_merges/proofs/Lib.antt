@@ -1,5 +1,0 @@
-pub mod Sides
-mod Ways
-mod Adding
-mod Walking
-mod Opening

@@ -1,2 +1,0 @@
-mod Columns
-mod Made

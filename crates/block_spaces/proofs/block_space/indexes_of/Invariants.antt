@@ -1,8 +1,0 @@
-use Rattle.std.proofs.Common.{◌≡◌, map, take}
-use Rattle.definitions.specs.Certificates.Explaining.{indexes_at}
-use Rattle.bound.specs.Bound.{block_of}
-use Rattle.certificate_text.specs.Blocks.{columns_in}
-use Rattle.block_spaces.proofs.block_space.indexes_of.Given as goal
-
-abbrev pub invariant-tables : goal.invariant-tables
-invariant-tables l = map columns_in l.all.items ≡ map (indexes_at l.estimate.database) (take l.number (block_of l.estimate.block).tables)

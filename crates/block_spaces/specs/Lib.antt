@@ -1,2 +1,0 @@
-pub use Rattle.definitions.specs.Certificates.Explaining
-pub mod Spaces

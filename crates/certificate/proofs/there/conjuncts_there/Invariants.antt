@@ -1,0 +1,7 @@
+use Rattle.definitions.specs.Certificates.Spelling.{IsConjunct}
+use Rattle.certificate.specs.Blocks.{block_in}
+use Rattle.certificate.proofs.Elements.{UpTo}
+use Rattle.certificate.proofs.there.conjuncts_there.Given as goal
+
+abbrev pub invariant-conjuncts : goal.invariant-conjuncts
+invariant-conjuncts l = UpTo (IsConjunct (block_in l.block)) l.conjuncts l.conjunct-index

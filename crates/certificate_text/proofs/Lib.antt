@@ -1,8 +1,0 @@
-mod SaidAndMeant
-mod Same
-mod Wholes
-mod Elements
-mod Alike
-mod Rising
-mod Over
-mod Read

@@ -1,7 +1,0 @@
-use Rattle.definitions.specs.Certificates.Spelling.{IsConjunct}
-use Rattle.certificate_text.specs.Blocks.{block_in}
-use Rattle.certificate_text.proofs.Elements.{UpTo}
-use Rattle.certificate_text.proofs.there.conjuncts_there.Given as goal
-
-abbrev pub invariant-conjuncts : goal.invariant-conjuncts
-invariant-conjuncts l = UpTo (IsConjunct (block_in l.block)) l.conjuncts l.conjunct-index

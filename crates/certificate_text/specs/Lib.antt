@@ -1,4 +1,0 @@
-pub use Rattle.definitions.specs.Certificates
-pub mod Blocks
-pub mod Lines
-pub mod Reads

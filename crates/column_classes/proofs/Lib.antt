@@ -1,4 +1,0 @@
-mod Merging
-mod Passing
-mod Labelling
-mod Rows

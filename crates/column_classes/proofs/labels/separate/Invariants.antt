@@ -1,5 +1,0 @@
-use Rattle.column_classes.proofs.Passing.{Changed}
-use Rattle.column_classes.proofs.labels.separate.Given as goal
-
-abbrev pub invariant-places : goal.invariant-places
-invariant-places l = Changed (λ place label. place) l.initial.labels l.labels l.i

@@ -1,3 +1,0 @@
-pub use Rattle.definitions.specs.Plans.ColumnClass
-pub mod Labels
-pub mod Classes

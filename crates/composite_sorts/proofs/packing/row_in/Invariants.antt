@@ -1,6 +1,0 @@
-use Rattle.std.proofs.Common.{◌≡◌, drop}
-use Rattle.composite_sorts.specs.Packing.{row_in}
-use Rattle.composite_sorts.proofs.packing.row_in.Given as goal
-
-abbrev pub invariant-places : goal.invariant-places
-invariant-places l = row_in (drop l.place l.members) (drop l.place l.rows) l.table ≡ row_in l.members l.rows l.table

@@ -1,7 +1,0 @@
-pub use Rattle.path_runs.specs.Sources
-pub mod Values
-pub mod CompositeLists
-pub mod Packing
-pub mod Keeping
-pub mod Keys
-pub mod Inside

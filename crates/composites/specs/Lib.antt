@@ -1,3 +1,0 @@
-pub use Rattle.path_runs.specs.Sources
-pub mod Composites
-pub mod Pulls

@@ -1,0 +1,46 @@
+//! The late conjuncts of a block.
+
+ghost use Rattle.std.specs.Prelude.{◌≡◌, [], Contains, IfErr, IfOk, OnOk};
+ghost use Rattle.std.specs.List.{AllByRecursion};
+ghost use Rattle.definitions.specs.Queries.Conjuncts.{late_conjuncts};
+ghost use Rattle.scans.specs.Asks.{CanEvaluate};
+ghost use Rattle.scans.specs.Sources.{block_in};
+ghost use Rattle.sqlvalue.specs.Raises.{raise_of};
+ghost use Rattle.executor.specs.Views.{conditions_of};
+ghost use Rattle.executor.specs.OneComposite.{are_true_in, raised_in};
+
+use expr::{Surroundings, truth};
+use query_tree::Condition;
+use scans::Source;
+use sqlvalue::Raise;
+use std::alloc::{AllocError, Global};
+
+/// The late conjuncts of a block, in text order.
+pub(crate) fn late_conditions<'s>(
+    alloc: Global,
+    source: &'s Source<'s>,
+) -> Result<Vec<&'s Condition>, AllocError>
+    ensures { IfOk result (λ conditions. conditions_of conditions.items ≡ late_conjuncts (block_in source.now)) }
+{
+    let mut conditions = Vec::new(alloc);
+    'conjuncts: for conjunct in source.conjuncts() {
+        if conjunct.late {
+            conditions.push(conjunct.condition)?;
+        }
+    }
+    Ok(conditions)
+}
+
+/// Whether all conditions are true. All are evaluated, whatever the others say, and the first that raises is told (own).
+pub(crate) fn try_all<S: Surroundings>(conditions: &[&Condition], env: &S) -> Result<bool, Raise>
+    requires { AllByRecursion (CanEvaluate (S.environment env.now)) (conditions_of conditions.now) }
+    ensures truth { IfOk result (λ all. all ≡ are_true_in (S.environment env.now) (conditions_of conditions.now)) }
+    ensures quiet { OnOk result (raised_in (S.environment env.now) (conditions_of conditions.now) ≡ []) }
+    ensures raised { IfErr result (λ raise. Contains (raised_in (S.environment env.now) (conditions_of conditions.now)) (raise_of raise)) }
+{
+    let mut all = true;
+    'conditions: for condition in conditions {
+        all = truth(condition, env)?.is_true() && all;
+    }
+    Ok(all)
+}

@@ -1,4 +1,0 @@
-mod Few
-mod PathsThere
-mod PlansSpelled
-mod Explained

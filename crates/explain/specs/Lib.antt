@@ -1,1 +1,0 @@
-pub use Rattle.definitions.specs.Certificates.Explaining

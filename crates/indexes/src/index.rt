@@ -1,0 +1,165 @@
+//! Indexes of a table.
+
+ghost use Rattle.std.specs.Prelude.{◌≡◌, ◌≤◌, ◌<◌, ℕ, IfOk, IfErr, length, map, bytes_eq};
+ghost use Rattle.std.specs.List.{AllByRecursion};
+ghost use Rattle.definitions.specs.Limits.{most_columns, most_index_columns, most_rows};
+ghost use Rattle.definitions.specs.Table as spec;
+ghost use Rattle.definitions.specs.Key.{key_of};
+ghost use Rattle.definitions.specs.IndexRun.{IsRun, equal_part, range_part, rows_of as numbers_of};
+ghost use Rattle.loading.specs.Stored.{AreFilled, headers, rows_of};
+ghost use Rattle.sqlvalue.specs.Meaning.{value_of};
+ghost use Rattle.columns.specs.Starts.{limit_of};
+ghost use Rattle.indexes.specs.Meaning.{index_figures_of};
+ghost use Rattle.indexes.specs.Indexes.{AreIndexColumns, IsIndexOn, RefusesIndexOn, IsBeginning};
+
+use crate::counting::counted;
+use crate::figures::IndexFigures;
+use crate::key_columns::key_columns;
+use crate::order::Order;
+use crate::ordered::OrderedIndex;
+use crate::unique::UniqueFault;
+use loading::Column;
+use sqlvalue::Value;
+use std::alloc::Global;
+use std::marker::Model;
+use std::ops::Bound;
+
+/// An index of a table: the numbers of its columns, from 0, the order of its rows, and its figures.
+#[derive(Drop)]
+pub struct Index {
+    columns: Vec<usize>,
+    order: Order,
+    figures: IndexFigures,
+}
+
+impl Model for Index {
+    ghost use Rattle.indexes.specs.Indexes.{StoredIndex};
+
+    ghost Value = { StoredIndex };
+
+    ghost use Rattle.indexes.specs.Inside.{stored_index, IsStoredIndex};
+
+    ghost view = { stored_index };
+
+    ghost invariant = { IsStoredIndex };
+}
+
+impl Index {
+    /// The index on one to four columns of a table of so many rows, with its figures counted over them. Where it is
+    /// unique and a key comes again, tells of the first row that repeats one (ISO/IEC 9075:1992, 8.9).
+    pub fn new(
+        alloc: Global,
+        columns: &[Column],
+        rows: usize,
+        numbers: Vec<usize>,
+        unique: bool,
+    ) -> Result<Index, UniqueFault>
+        requires on { AreIndexColumns (length columns.now) numbers.items }
+        requires filled { AreFilled rows columns.now }
+        requires few { rows ≤ most_rows }
+        ensures ok { IfOk result (IsIndexOn (headers columns.now) (rows_of rows columns.now) numbers.items unique) }
+        ensures refused { IfErr result (RefusesIndexOn (rows_of rows columns.now) numbers.items unique) }
+    {
+        let keys = match key_columns(alloc, columns, numbers.as_slice()) {
+            Ok(keys) => keys,
+            Err(_) => return Err(UniqueFault::Memory),
+        };
+        let order = match Order::build(alloc, keys.as_slice(), unique) {
+            Ok(order) => order,
+            Err(fault) => return Err(fault),
+        };
+        let figures = counted(columns, rows, numbers.as_slice(), &order);
+        Ok(Index {
+            columns: numbers,
+            order,
+            figures,
+        })
+    }
+
+    /// The index on the same columns with more rows behind those that this one has, with its figures counted over all.
+    pub fn extended(
+        &self,
+        alloc: Global,
+        columns: &[Column],
+        rows: usize,
+    ) -> Result<Index, UniqueFault>
+        requires on { AreIndexColumns (length columns.now) self.now.index.columns }
+        requires filled { AreFilled rows columns.now }
+        requires few { rows ≤ most_rows }
+        requires beginning { IsBeginning (rows_of rows columns.now) self.now }
+        ensures ok { IfOk result (IsIndexOn (headers columns.now) (rows_of rows columns.now) self.now.index.columns self.now.index.unique) }
+        ensures refused { IfErr result (RefusesIndexOn (rows_of rows columns.now) self.now.index.columns self.now.index.unique) }
+    {
+        let keys = match key_columns(alloc, columns, self.columns.as_slice()) {
+            Ok(keys) => keys,
+            Err(_) => return Err(UniqueFault::Memory),
+        };
+        let numbers = match Vec::from_slice(alloc, self.columns.as_slice()) {
+            Ok(numbers) => numbers,
+            Err(_) => return Err(UniqueFault::Memory),
+        };
+        let order = match self.order.extended(alloc, keys.as_slice()) {
+            Ok(order) => order,
+            Err(fault) => return Err(fault),
+        };
+        let figures = counted(columns, rows, numbers.as_slice(), &order);
+        Ok(Index {
+            columns: numbers,
+            order,
+            figures,
+        })
+    }
+
+    /// The numbers of the columns, from 0, the one that counts most first.
+    pub fn columns(&self) -> &[usize]
+        ensures { result.now ≡ self.now.index.columns }
+    {
+        self.columns.as_slice()
+    }
+
+    /// Whether no key comes twice.
+    pub fn is_unique(&self) -> bool
+        ensures { result ≡ self.now.index.unique }
+    {
+        self.order.is_unique()
+    }
+
+    /// Whether the index is on this list of columns.
+    pub fn is_on(&self, columns: &[usize]) -> bool
+        ensures { result ≡ spec.is_on columns.now self.now.index }
+    {
+        self.columns.as_slice() == columns
+    }
+
+    pub fn figures(&self) -> IndexFigures
+        ensures { index_figures_of result ≡ self.now.index.figures }
+    {
+        self.figures
+    }
+
+    /// Replaces the figures.
+    pub fn set_figures(&mut self, figures: IndexFigures)
+        ensures index { self.new.index ≡ record self.old.index { figures = index_figures_of figures } }
+        ensures entries { self.new.entries ≡ self.old.entries }
+    {
+        self.figures = figures;
+    }
+}
+
+impl OrderedIndex for Index {
+    ghost entries = { λ s. s.entries };
+
+    ghost width = { λ s. length s.index.columns };
+
+    fn all(&self) -> &[u32] {
+        self.order.all()
+    }
+
+    fn equal(&self, values: &[Value]) -> &[u32] {
+        self.order.equal(values)
+    }
+
+    fn range(&self, values: &[Value], low: Bound<Value>, high: Bound<Value>) -> &[u32] {
+        self.order.range(values, low, high)
+    }
+}

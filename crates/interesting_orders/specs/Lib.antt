@@ -1,0 +1,15 @@
+pub use Rattle.definitions.specs.Plans.ColumnClass
+pub use Rattle.definitions.specs.Estimates
+pub use Rattle.definitions.specs.Plans.Folding
+pub mod Labels
+pub mod Classes
+pub mod Versions
+pub mod Keys
+pub mod Adding
+pub mod Each
+pub mod Places
+pub mod Reach
+pub mod Merges
+pub mod Equated
+pub mod Uses
+pub mod Sorts

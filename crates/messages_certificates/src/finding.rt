@@ -1,0 +1,190 @@
+//! Why the text of a block is refused, and where.
+
+ghost use Rattle.definitions.specs.Binding.Formed.{IsFormedSomewhere};
+ghost use Rattle.definitions.specs.Plans.Certificate.{IsCertificate};
+ghost use Rattle.query_tree.specs.Bound.{block_of};
+ghost use Rattle.plan_tree.specs.Certificates.{certificate_of};
+ghost use Rattle.plan_space.specs.Planned.{space_in};
+
+use crate::lacking::{missing_found, state_found};
+use crate::places::{Spot, offset_of};
+use crate::reason::{Ending, Reason};
+use crate::steps::{access_below, join_below, sort_below, state_at};
+use crate::target::target_missed;
+use catalog::Database;
+use certificate::{BlockSpace, Spelled, Version, read_text};
+use certificate_files::{Expected, FileTold, Place, Rule, TextFault, Told};
+use query_tree::Block;
+use std::alloc::{AllocError, Global};
+
+/// What is told of a block whose text is refused.
+#[derive(Drop)]
+pub(crate) struct Message {
+    /// The number of the block, from 0.
+    pub block: usize,
+    /// The byte of the file that the message is about.
+    pub offset: usize,
+    pub reason: Reason,
+}
+
+/// A text that is refused, of the block of a number, from 0.
+#[derive(Clone, Copy)]
+pub(crate) struct Refused<'a> {
+    pub number: u64,
+    pub version: Version,
+    pub text: &'a [u8],
+}
+
+/// Where in a text it is refused, and why.
+#[derive(Drop)]
+pub(crate) struct Found {
+    pub at: usize,
+    pub reason: Reason,
+}
+
+/// What is told of the block of a number, if its text is refused.
+pub(crate) fn block_message(
+    alloc: Global,
+    database: &Database,
+    block: &Block,
+    number: usize,
+    file: &[u8],
+    told: &FileTold,
+) -> Option<Message>
+    requires { IsFormedSomewhere database.now (block_of block.now) }
+{
+    let own = told.blocks.get(number)?;
+    let refused = Refused {
+        number: number as u64,
+        version: own.version,
+        text: file
+            .get(own.start..end_of(file, told, number))
+            .unwrap_or(&[]),
+    };
+    let found = refusal(alloc, database, block, refused, own.told)?;
+    Some(Message {
+        block: number,
+        offset: own.start.saturating_add(found.at),
+        reason: found.reason,
+    })
+}
+
+/// Where the text of the block of a number ends.
+fn end_of(file: &[u8], told: &FileTold, number: usize) -> usize {
+    match told.blocks.get(number.saturating_add(1)) {
+        Some(next) => next.start,
+        None => told.rest.unwrap_or(file.len()),
+    }
+}
+
+/// Where and why a text is refused, if it is.
+fn refusal(
+    alloc: Global,
+    database: &Database,
+    block: &Block,
+    refused: Refused<'_>,
+    told: Told,
+) -> Option<Found>
+    requires { IsFormedSomewhere database.now (block_of block.now) }
+{
+    match told {
+        Told::Passes => None,
+        Told::Faulty(TextFault::Form { at, expected }) => Some(form_found(refused, at, expected)),
+        Told::Faulty(TextFault::Missing(missing)) => {
+            Some(missing_found(alloc, database, block, refused, missing))
+        }
+        Told::Faulty(TextFault::States(bad)) => Some(state_found(alloc, refused, bad)),
+        Told::Faulty(TextFault::Memory) => Some(plain(told)),
+        Told::Fails { rule, place } => {
+            match rule_found(alloc, database, block, refused, rule, place) {
+                Ok(Some(found)) => Some(found),
+                Ok(None) | Err(_) => Some(plain(told)),
+            }
+        }
+    }
+}
+
+/// No more than what is printed.
+fn plain(told: Told) -> Found {
+    Found {
+        at: 0,
+        reason: Reason::Plain(told),
+    }
+}
+
+fn form_found(refused: Refused<'_>, at: usize, expected: Expected) -> Found {
+    let left = refused.text.get(at..).unwrap_or(&[]);
+    Found {
+        at,
+        reason: Reason::Form {
+            expected,
+            ending: ending_of(left),
+        },
+    }
+}
+
+/// How the line ends of which something is left.
+fn ending_of(left: &[u8]) -> Ending {
+    let mut before = b' ';
+    for byte in left {
+        if *byte == b'\n' {
+            return if before == b'\r' {
+                Ending::CarriageReturn
+            } else {
+                Ending::LineFeed
+            };
+        }
+        before = *byte;
+    }
+    if left.is_empty() {
+        Ending::Nothing
+    } else {
+        Ending::Open
+    }
+}
+
+/// What makes a rule fail of a text.
+fn rule_found(
+    alloc: Global,
+    database: &Database,
+    block: &Block,
+    refused: Refused<'_>,
+    rule: Rule,
+    place: Place,
+) -> Result<Option<Found>, AllocError>
+    requires { IsFormedSomewhere database.now (block_of block.now) }
+{
+    let own = BlockSpace::new(alloc, database, block, refused.number, refused.version)?;
+    match read_text(alloc, &own.certified(), refused.text) {
+        Ok(spelled) => Ok(rule_failing(&own, &spelled, refused.text, rule, place)),
+        Err(_) => Ok(None),
+    }
+}
+
+/// What makes a rule fail of what a text spells.
+fn rule_failing(
+    own: &BlockSpace<'_>,
+    spelled: &Spelled,
+    text: &[u8],
+    rule: Rule,
+    place: Place,
+) -> Option<Found>
+    requires { IsCertificate (space_in own.now.space) (certificate_of spelled.now.certificate) }
+{
+    let certificate = &spelled.certificate;
+    // the bound of a state that isn't listed is the target
+    let (listed, spot) = match state_at(certificate, place) {
+        Some(number) => (certificate.states.get(number), Spot::StateTables(number)),
+        None => (None, Spot::Target),
+    };
+    let step = match rule {
+        Rule::Accesses => access_below(own, certificate, place)?,
+        Rule::Joins => join_below(own, certificate, *listed?)?,
+        Rule::Sorts => sort_below(own, certificate, *listed?)?,
+        Rule::Target => return Some(target_missed(own, spelled, text, place)),
+    };
+    Some(Found {
+        at: offset_of(text, spot),
+        reason: Reason::Step(step),
+    })
+}

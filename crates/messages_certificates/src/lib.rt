@@ -1,0 +1,21 @@
+//! What people are told of texts of certificates that are refused, beside their printed lines: where in the file each is refused, and
+//! why. It judges nothing, and no printed line depends on the words.
+#![tactic(auto)]
+
+mod finding;
+mod form_words;
+mod lacking;
+mod numbers;
+mod page;
+mod places;
+mod reason;
+mod report;
+mod spelling;
+mod step_words;
+mod steps;
+mod target;
+mod words;
+
+pub use reason::{Ending, Lack, LowStep, PlanFault, Reason, Step, WrongStep};
+pub use report::FileReport;
+pub use spelling::{SpelledPath, StateName, spelled, state_name};

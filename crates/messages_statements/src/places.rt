@@ -1,0 +1,43 @@
+//! Where causes stand in the script.
+
+use crate::create::name_at_fault;
+use crate::figures::{offset_of_figures, offset_of_table_figures};
+use crate::index::name_of_index;
+use crate::query_places::offset_of_fault;
+use lexer::LexFault;
+use sqlr::Cause;
+
+/// The byte of the script that a cause is about. A missing token is told behind the one before it.
+pub(crate) fn offset_of(cause: &Cause) -> usize {
+    match cause {
+        Cause::Lexical(fault) => lexical_offset(*fault),
+        Cause::Unexpected(unexpected) => match unexpected.found {
+            Some(_) => unexpected.offset,
+            None => unexpected.behind,
+        },
+        Cause::TooDeep { offset } => *offset,
+        Cause::NotYet(query) => query.block.start,
+        Cause::Create {
+            name,
+            columns,
+            fault,
+        } => name_at_fault(name, columns, *fault).start,
+        Cause::Index { list, fault } => name_of_index(*list, *fault).start,
+        Cause::TableFigures(cause) => offset_of_table_figures(*cause),
+        Cause::Figures(cause) => offset_of_figures(*cause),
+        Cause::NoTable(name) | Cause::ManyRows(name) => name.start,
+        Cause::NoFile(file) => file.start,
+        Cause::Record { load, .. } | Cause::Repeated { load, .. } => load.file.start,
+        Cause::Query(cause) => offset_of_fault(cause.fault),
+    }
+}
+
+fn lexical_offset(fault: LexFault) -> usize {
+    match fault {
+        LexFault::StrayCharacter { offset, .. }
+        | LexFault::OpenString { offset }
+        | LexFault::LongLiteral { offset, .. }
+        | LexFault::LongName { offset, .. } => offset,
+        LexFault::Memory => 0,
+    }
+}

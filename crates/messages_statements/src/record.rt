@@ -1,0 +1,255 @@
+//! Why a record of a file is no row of a table.
+
+ghost use Rattle.std.specs.Prelude.{◌<◌, length};
+
+use catalog::{RecordFault, RefusedRecord, Table};
+use csv::{ByteRecord, ReaderBuilder};
+use lexer::MAX_DIGITS;
+use messages_excerpts::VisibleBytes;
+use sqlvalue::{FieldFault, SqlType};
+use std::alloc::{AllocError, Global};
+use std::fmt::{self, Formatter};
+
+/// A record that is refused, as the file has it.
+#[derive(Drop)]
+pub(crate) struct FileRecord<'a> {
+    /// The line of the file that it begins in, from 1.
+    pub line: u64,
+    fields: Option<ByteRecord>,
+    /// The bytes of the file from the record on, and how many of them are its own.
+    rest: &'a [u8],
+    length: usize,
+}
+
+impl<'a> FileRecord<'a> {
+    /// Reads a record again, from the byte behind the one before it and that byte's line. Where memory is wanting
+    /// it has no fields.
+    pub(crate) fn new(alloc: Global, bytes: &'a [u8], start: u64, line: u64) -> FileRecord<'a> {
+        let behind = bytes.get(start as usize..).unwrap_or(b"");
+        let ends = behind
+            .iter()
+            .take_while(|byte| matches!(**byte, b'\n' | b'\r'))
+            .count();
+        let (blank, rest) = behind.split_at(ends.min(behind.len()));
+        let feeds = blank.iter().filter(|byte| **byte == b'\n').count();
+        let (fields, length) = match fields_at(alloc, rest) {
+            Ok((fields, length)) => (Some(fields), length),
+            Err(_) => (None, 0),
+        };
+        FileRecord {
+            line: line.saturating_add(feeds as u64),
+            fields,
+            rest,
+            length,
+        }
+    }
+
+    fn field(&self, place: usize) -> &[u8] {
+        match &self.fields {
+            Some(fields) => fields.get(place).unwrap_or(b""),
+            None => b"",
+        }
+    }
+
+    /// Whether a quote that is not closed made it run on over line ends to the end of the file.
+    fn runs_on(&self) -> bool {
+        if self.length < self.rest.len() || !self.rest.contains(&b'\n') {
+            return false;
+        }
+        let quotes = self.rest.iter().filter(|byte| **byte == b'"').count();
+        quotes % 2 == 1
+    }
+
+    /// Whether its only field holds a byte.
+    fn is_parted_by(&self, byte: u8) -> bool {
+        self.field(0).contains(&byte)
+    }
+}
+
+/// The first record of some bytes, and how many bytes it takes.
+fn fields_at(alloc: Global, bytes: &[u8]) -> Result<(ByteRecord, usize), AllocError> {
+    let mut reader = ReaderBuilder::new()
+        .has_headers(false)
+        .flexible(true)
+        .from_reader(alloc, bytes);
+    let mut fields = ByteRecord::new(alloc);
+    match reader.read_byte_record(&mut fields) {
+        Ok(_) => Ok((fields, reader.position().byte() as usize)),
+        Err(_) => Err(AllocError),
+    }
+}
+
+/// `record 2, field 3 (M NUMERIC(5,2)): 8.251 has more than 2 digits behind the point`.
+pub(crate) fn write_record<W: fmt::Write>(
+    f: &mut Formatter<W>,
+    table: &Table,
+    refused: &RefusedRecord,
+    record: &FileRecord,
+) -> fmt::Result {
+    write!(f, "record {}", refused.number)?;
+    match refused.fault {
+        RecordFault::FieldCount { fields } => write_count(f, table, fields),
+        RecordFault::Null { column } if column < table.width() => {
+            write_column(f, table, column)?;
+            f.write_str("NULL in a column that is NOT NULL")
+        }
+        RecordFault::Field { fault, column } if column < table.width() => {
+            write_column(f, table, column)?;
+            write_field(f, fault, table.sql_type(column), record.field(column))
+        }
+        RecordFault::Null { .. } | RecordFault::Field { .. } => Ok(()),
+    }
+}
+
+/// `, field 3 (M NUMERIC(5,2)): `.
+fn write_column<W: fmt::Write>(f: &mut Formatter<W>, table: &Table, column: usize) -> fmt::Result
+    requires { column < length table.now.columns }
+{
+    let (name, sql_type) = (table.column_name(column), table.sql_type(column));
+    let field = column.saturating_add(1);
+    write!(f, ", field {field} ({name} {sql_type}): ")
+}
+
+fn write_count<W: fmt::Write>(f: &mut Formatter<W>, table: &Table, fields: usize) -> fmt::Result {
+    let (name, width) = (table.name(), table.width());
+    let field_plural = if fields == 1 { "" } else { "s" };
+    let column_plural = if width == 1 { "" } else { "s" };
+    write!(
+        f,
+        ": it has {fields} field{field_plural}, and table {name} has {width} column{column_plural}"
+    )
+}
+
+fn write_field<W: fmt::Write>(
+    f: &mut Formatter<W>,
+    fault: FieldFault,
+    sql_type: SqlType,
+    field: &[u8],
+) -> fmt::Result {
+    if field.is_empty() {
+        return f.write_str("the field is empty");
+    }
+    match fault {
+        FieldFault::ManyDigits | FieldFault::TooFine | FieldFault::TooGreat => {
+            write!(f, "{} ", VisibleBytes(field))?;
+        }
+        FieldFault::NoNumber | FieldFault::Unprintable | FieldFault::TooLong => {
+            write!(f, "'{}' ", VisibleBytes(field))?;
+        }
+    }
+    match fault {
+        FieldFault::NoNumber => f.write_str("is no number"),
+        FieldFault::Unprintable => f.write_str("has a character that is not printable ASCII"),
+        FieldFault::ManyDigits => write!(f, "has more than {MAX_DIGITS} digits"),
+        FieldFault::TooFine => write_too_fine(f, sql_type),
+        FieldFault::TooGreat => write_too_great(f, sql_type),
+        FieldFault::TooLong => write_too_long(f, sql_type),
+    }
+}
+
+fn write_too_fine<W: fmt::Write>(f: &mut Formatter<W>, sql_type: SqlType) -> fmt::Result {
+    match sql_type {
+        SqlType::Numeric { scale: 1, .. } => {
+            f.write_str("has more than 1 digit behind the point")
+        }
+        SqlType::Numeric { scale, .. } if scale > 0 => {
+            write!(f, "has more than {scale} digits behind the point")
+        }
+        _ => f.write_str("is no whole number"),
+    }
+}
+
+/// That a number is beyond the range of a type, which is told too.
+fn write_too_great<W: fmt::Write>(f: &mut Formatter<W>, sql_type: SqlType) -> fmt::Result {
+    f.write_str("is not in the range of ")?;
+    match sql_type {
+        SqlType::Smallint => write!(f, "{} to {}", i16::MIN, i16::MAX),
+        SqlType::Integer => write!(f, "{} to {}", i32::MIN, i32::MAX),
+        SqlType::Numeric { precision, scale } => {
+            f.write_str("-")?;
+            write_greatest(f, precision, scale)?;
+            f.write_str(" to ")?;
+            write_greatest(f, precision, scale)
+        }
+        SqlType::Char { .. } => Ok(()),
+    }
+}
+
+/// The greatest number of a precision and a scale: `999.99`.
+fn write_greatest<W: fmt::Write>(f: &mut Formatter<W>, precision: u8, scale: u8) -> fmt::Result {
+    let whole = precision.saturating_sub(scale);
+    if whole == 0 {
+        f.write_str("0")?;
+    }
+    for digit in 0..precision {
+        if digit == whole {
+            f.write_str(".")?;
+        }
+        f.write_str("9")?;
+    }
+    Ok(())
+}
+
+fn write_too_long<W: fmt::Write>(f: &mut Formatter<W>, sql_type: SqlType) -> fmt::Result {
+    match sql_type {
+        SqlType::Char { length: 1 } => f.write_str("is longer than 1 character"),
+        SqlType::Char { length } => write!(f, "is longer than {length} characters"),
+        _ => Ok(()),
+    }
+}
+
+/// A hint for what may be wrong with the file.
+pub(crate) fn write_record_hint<W: fmt::Write>(
+    f: &mut Formatter<W>,
+    table: &Table,
+    refused: &RefusedRecord,
+    record: &FileRecord,
+) -> fmt::Result {
+    match hint_of(table, refused, record) {
+        Some(hint) => writeln!(f, "hint: {hint}"),
+        None => Ok(()),
+    }
+}
+
+fn hint_of(table: &Table, refused: &RefusedRecord, record: &FileRecord) -> Option<&'static str> {
+    if record.runs_on() {
+        return Some(
+            "a quote in this record is not closed, and so it runs on to the end of the file",
+        );
+    }
+    match refused.fault {
+        RecordFault::FieldCount { fields: 1 } if record.is_parted_by(b';') => {
+            Some("fields are parted by commas, and here semicolons stand")
+        }
+        RecordFault::FieldCount { fields: 1 } if record.is_parted_by(b'\t') => {
+            Some("fields are parted by commas, and here tabs stand")
+        }
+        RecordFault::Field {
+            fault: FieldFault::NoNumber,
+            column,
+        } => number_hint(table, refused, record.field(column), column),
+        _ => None,
+    }
+}
+
+/// A hint for a field that is no number.
+fn number_hint(
+    table: &Table,
+    refused: &RefusedRecord,
+    field: &[u8],
+    column: usize,
+) -> Option<&'static str> {
+    if field.is_empty() {
+        return Some("write \\N for null");
+    }
+    if refused.number != 1 || column >= table.width() {
+        return None;
+    }
+    let is_heading = table
+        .column_name(column)
+        .as_bytes()
+        .eq_ignore_ascii_case(field);
+    is_heading.then_some(
+        "this looks like a line of headings: every line of a file is loaded, so take it out",
+    )
+}

@@ -1,0 +1,247 @@
+//! Messages as they are shown.
+
+ghost use Rattle.std.specs.Prelude.{map};
+ghost use Rattle.std.specs.List.{AllByRecursion};
+ghost use Rattle.definitions.specs.Binding.Formed.{IsFormedSomewhere};
+ghost use Rattle.query_tree.specs.Bound.{block_of};
+
+use crate::create::write_create;
+use crate::figures::{write_figures, write_table_figures};
+use crate::index::write_index;
+use crate::list::write_list_hint;
+use crate::places::offset_of;
+use crate::record::{FileRecord, write_record, write_record_hint};
+use crate::repeated::write_repeated;
+use crate::suggestions::write_near_table;
+use crate::text::{write_lexical, write_lexical_hint};
+use crate::wanted::{write_too_deep, write_unexpected, write_unexpected_hint};
+use catalog::{
+    Database, FiguresFault, IndexFault, ListFault, MAX_ROWS, RefusedRecord, RepeatedRecord,
+    TableFiguresFault,
+};
+use messages_certificates::FileReport;
+use messages_excerpts::{Lines, Place, write_excerpt};
+use sqlr::{Cause, CheckedFile, ColumnList, FileLoad, Refused};
+use std::alloc::Global;
+use std::fmt::{self, Display, Formatter};
+use syntax::Name;
+
+/// What can be run so far, for a query.
+const NOT_YET_HINT: &str =
+    "hint: so far: SELECT without DISTINCT, GROUP BY, HAVING, set functions, ORDER BY and subqueries\n";
+
+/// Makes the messages on a script, one after another.
+#[derive(Drop)]
+pub struct Reporter<'a> {
+    alloc: Global,
+    script_name: &'a str,
+    lines: Lines<'a>,
+}
+
+impl<'a> Reporter<'a> {
+    /// A reporter on a script, and the name that messages call it by.
+    pub fn new(alloc: Global, script_name: &'a str, script: &'a str) -> Reporter<'a> {
+        Reporter {
+            alloc,
+            script_name,
+            lines: Lines::new(script),
+        }
+    }
+
+    /// The line and the column of a byte of the script.
+    pub fn locate(&mut self, offset: usize) -> Place {
+        self.lines.locate(offset)
+    }
+
+    /// The message on a refusal over a database.
+    pub fn report<'r>(&mut self, refused: &'r Refused<'r>, database: &'r Database) -> Report<'r>
+    where
+        'a: 'r,
+    {
+        let offset = offset_of(&refused.cause);
+        Report {
+            alloc: self.alloc,
+            script_name: self.script_name,
+            script: self.lines.script(),
+            offset,
+            place: self.lines.locate(offset),
+            refused,
+            database,
+        }
+    }
+
+    /// The messages on a file of certificates of a name, over the database of their query.
+    pub fn report_certificates<'r>(
+        &self,
+        name: &'r str,
+        checked: &'r CheckedFile<'r>,
+        database: &'r Database,
+    ) -> FileReport<'r>
+        requires { AllByRecursion (IsFormedSomewhere database.now) (map block_of checked.now.blocks.items) }
+    {
+        FileReport::new(
+            self.alloc,
+            name,
+            checked.file,
+            database,
+            &checked.blocks,
+            &checked.told,
+        )
+    }
+}
+
+/// A message on a refusal, as it is shown: `script.sql:3:15: error E14 42000: ..`, the line of the script
+/// with a caret under the place, and a hint where one is sure. On a record of a file:
+/// `parts.csv:5: error E11 22003: record 2, field 3 (PRICE NUMERIC(5,2)): ..`, and where its LOAD stands.
+#[derive(Drop)]
+pub struct Report<'r> {
+    alloc: Global,
+    script_name: &'r str,
+    script: &'r str,
+    offset: usize,
+    place: Place,
+    refused: &'r Refused<'r>,
+    database: &'r Database,
+}
+
+impl Display for Report<'_> {
+    fn fmt<W: fmt::Write>(&self, f: &mut Formatter<W>) -> fmt::Result {
+        match &self.refused.cause {
+            Cause::Record { load, record } => self.write_record(f, load, record),
+            Cause::Repeated { load, record } => self.write_repeated(f, load, record),
+            cause => {
+                self.write_place(f)?;
+                self.write_label(f)?;
+                self.write_problem(f, cause)?;
+                f.write_str("\n")?;
+                write_excerpt(f, self.script, self.offset)?;
+                self.write_hint(f, cause)
+            }
+        }
+    }
+}
+
+impl Report<'_> {
+    /// `script.sql:3:15: `.
+    fn write_place<W: fmt::Write>(&self, f: &mut Formatter<W>) -> fmt::Result {
+        let Place { line, column } = self.place;
+        write!(f, "{}:{line}:{column}: ", self.script_name)
+    }
+
+    /// `error E14 42000: `.
+    fn write_label<W: fmt::Write>(&self, f: &mut Formatter<W>) -> fmt::Result {
+        let refusal = self.refused.refusal;
+        write!(f, "error {} {}: ", refusal.label(), refusal.state())
+    }
+
+    fn write_problem<W: fmt::Write>(&self, f: &mut Formatter<W>, cause: &Cause) -> fmt::Result {
+        match cause {
+            Cause::Lexical(fault) => write_lexical(f, self.script, *fault),
+            Cause::Unexpected(unexpected) => write_unexpected(f, self.script, unexpected),
+            Cause::TooDeep { .. } => write_too_deep(f),
+            Cause::Create {
+                name,
+                columns,
+                fault,
+            } => write_create(f, name, columns, *fault),
+            Cause::Index { list, fault } => write_index(f, self.database, *list, *fault),
+            Cause::TableFigures(cause) => write_table_figures(f, *cause),
+            Cause::Figures(cause) => write_figures(f, self.script, self.database, *cause),
+            Cause::NoTable(name) => write!(f, "there is no table {}", name.text),
+            Cause::NoFile(file) => write!(f, "there is no file '{}'", file.text),
+            Cause::ManyRows(_) => write!(f, "a table has at most {MAX_ROWS} rows"),
+            Cause::Query(cause) => crate::words::write_fault(f, cause.query, cause.fault),
+            Cause::NotYet(_) => f.write_str("this form of SELECT can't be run yet"),
+            Cause::Record { .. } | Cause::Repeated { .. } => Ok(()),
+        }
+    }
+
+    fn write_hint<W: fmt::Write>(&self, f: &mut Formatter<W>, cause: &Cause) -> fmt::Result {
+        match cause {
+            Cause::Lexical(fault) => write_lexical_hint(f, self.script, *fault),
+            Cause::Unexpected(unexpected) => {
+                write_unexpected_hint(f, self.alloc, self.script, unexpected)
+            }
+            Cause::Index { list, fault } => match fault {
+                IndexFault::List(fault) => self.write_list_hint(f, *list, *fault),
+                _ => Ok(()),
+            },
+            Cause::Figures(cause) => match cause.fault {
+                FiguresFault::List(fault) => self.write_list_hint(f, cause.list, fault),
+                _ => Ok(()),
+            },
+            Cause::TableFigures(cause) => match cause.fault {
+                TableFiguresFault::NoTable => self.write_table_hint(f, cause.table),
+                _ => Ok(()),
+            },
+            Cause::NoTable(name) => self.write_table_hint(f, name),
+            Cause::Query(cause) => {
+                crate::words::write_hint(f, self.alloc, self.database, cause.query, cause.fault)
+            },
+            Cause::NotYet(_) => f.write_str(NOT_YET_HINT),
+            _ => Ok(()),
+        }
+    }
+
+    fn write_list_hint<W: fmt::Write>(
+        &self,
+        f: &mut Formatter<W>,
+        list: ColumnList,
+        fault: ListFault,
+    ) -> fmt::Result {
+        write_list_hint(f, self.alloc, self.database, list, fault)
+    }
+
+    fn write_table_hint<W: fmt::Write>(&self, f: &mut Formatter<W>, name: &Name) -> fmt::Result {
+        write_near_table(f, self.alloc, self.database, name.text.as_str())
+    }
+
+    fn write_record<W: fmt::Write>(
+        &self,
+        f: &mut Formatter<W>,
+        load: &FileLoad,
+        refused: &RefusedRecord,
+    ) -> fmt::Result {
+        let record = FileRecord::new(self.alloc, &load.bytes, refused.start, refused.line);
+        self.write_line(f, load, &record)?;
+        let Some(table) = self.database.table(load.table.text.as_str()) else {
+            return Ok(());
+        };
+        write_record(f, table, refused, &record)?;
+        self.write_load(f)?;
+        write_record_hint(f, table, refused, &record)
+    }
+
+    fn write_repeated<W: fmt::Write>(
+        &self,
+        f: &mut Formatter<W>,
+        load: &FileLoad,
+        repeated: &RepeatedRecord,
+    ) -> fmt::Result {
+        let record = FileRecord::new(self.alloc, &load.bytes, repeated.start, repeated.line);
+        self.write_line(f, load, &record)?;
+        if let Some(table) = self.database.table(load.table.text.as_str()) {
+            write_repeated(f, table, repeated)?;
+        }
+        self.write_load(f)
+    }
+
+    /// `parts.csv:5: error E12 23000: `.
+    fn write_line<W: fmt::Write>(
+        &self,
+        f: &mut Formatter<W>,
+        load: &FileLoad,
+        record: &FileRecord,
+    ) -> fmt::Result {
+        write!(f, "{}:{}: ", load.file.text, record.line)?;
+        self.write_label(f)
+    }
+
+    /// The place of the LOAD.
+    fn write_load<W: fmt::Write>(&self, f: &mut Formatter<W>) -> fmt::Result {
+        f.write_str("\n")?;
+        self.write_place(f)?;
+        f.write_str("in this LOAD\n")?;
+        write_excerpt(f, self.script, self.offset)
+    }
+}

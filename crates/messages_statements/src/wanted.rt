@@ -1,0 +1,175 @@
+//! What could have stood where a script goes wrong.
+
+use crate::suggestions::Nearest;
+use lexer::{TokenKind, Word};
+use messages_excerpts::Visible;
+use std::alloc::Global;
+use std::fmt::{self, Display, Formatter};
+use syntax::{MAX_LEVELS, TokenClass, Unexpected};
+
+/// A class of tokens as people call it, and whether it is the last of a list.
+#[derive(Clone, Copy)]
+struct Called {
+    class: TokenClass,
+    is_last: bool,
+}
+
+impl Called {
+    /// What stands before it in a list.
+    fn separator(&self) -> &'static str {
+        if self.is_last && !matches!(self.class, TokenClass::Quantifier) {
+            " or "
+        } else {
+            ", "
+        }
+    }
+}
+
+impl Display for Called {
+    fn fmt<W: fmt::Write>(&self, f: &mut Formatter<W>) -> fmt::Result {
+        match self.class {
+            TokenClass::Name => f.write_str("a name"),
+            TokenClass::Number => f.write_str("a number"),
+            TokenClass::WholeNumber => f.write_str("a whole number"),
+            TokenClass::String => f.write_str("a string"),
+            TokenClass::Type => f.write_str("a type"),
+            TokenClass::Value => f.write_str("a value"),
+            TokenClass::Quantifier if self.is_last => f.write_str("ALL, ANY or SOME"),
+            TokenClass::Quantifier => f.write_str("ALL, ANY, SOME"),
+            TokenClass::Arithmetic => f.write_str("an arithmetic operator"),
+            TokenClass::Operator => f.write_str("an operator"),
+            TokenClass::Word(word) => f.write_str(word.as_str()),
+            TokenClass::Symbol(symbol) => write!(f, "\"{}\"", symbol.as_str()),
+        }
+    }
+}
+
+/// `expected ")" or ",", found NOT`.
+pub(crate) fn write_unexpected<W: fmt::Write>(
+    f: &mut Formatter<W>,
+    script: &str,
+    unexpected: &Unexpected,
+) -> fmt::Result {
+    f.write_str("expected ")?;
+    let classes = unexpected.wanted.classes();
+    let mut is_first = true;
+    for (place, class) in classes.iter().enumerate() {
+        if is_taken_in(*class, classes) {
+            continue;
+        }
+        let called = Called {
+            class: *class,
+            is_last: place + 1 == classes.len(),
+        };
+        if !is_first {
+            f.write_str(called.separator())?;
+        }
+        is_first = false;
+        write!(f, "{called}")?;
+    }
+    match unexpected.found {
+        Some(_) => write!(f, ", found {}", Visible(token_text(script, unexpected))),
+        None => f.write_str(", found the end of the script"),
+    }
+}
+
+/// Whether another class that could have stood there takes a class in, so that one name tells both.
+fn is_taken_in(class: TokenClass, classes: &[TokenClass]) -> bool {
+    matches!(class, TokenClass::Arithmetic) && classes.contains(&TokenClass::Operator)
+}
+
+/// That too many levels are open.
+pub(crate) fn write_too_deep<W: fmt::Write>(f: &mut Formatter<W>) -> fmt::Result {
+    write!(
+        f,
+        "more than {MAX_LEVELS} levels of parentheses, signs and NOTs are open here"
+    )
+}
+
+/// That a reserved word is no name, or a word that is near the one that stands there.
+pub(crate) fn write_unexpected_hint<W: fmt::Write>(
+    f: &mut Formatter<W>,
+    alloc: Global,
+    script: &str,
+    unexpected: &Unexpected,
+) -> fmt::Result {
+    match unexpected.found {
+        Some(TokenKind::Reserved(word)) if wants_name(unexpected) => {
+            let word = word.as_str();
+            writeln!(f, "hint: {word} is a reserved word and can't be a name")
+        }
+        Some(TokenKind::Name) => {
+            write_near_word(f, alloc, token_text(script, unexpected), unexpected)
+        }
+        _ => Ok(()),
+    }
+}
+
+/// Whether a name could have stood there, be it as a value.
+fn wants_name(unexpected: &Unexpected) -> bool {
+    let classes = unexpected.wanted.classes();
+    classes.contains(&TokenClass::Name) || classes.contains(&TokenClass::Value)
+}
+
+/// The words that begin types.
+static TYPE_WORDS: [Word; 8] = [
+    Word::Smallint,
+    Word::Integer,
+    Word::Int,
+    Word::Numeric,
+    Word::Decimal,
+    Word::Dec,
+    Word::Character,
+    Word::Char,
+];
+
+/// The words that begin values.
+static VALUE_WORDS: [Word; 7] = [
+    Word::Count,
+    Word::Sum,
+    Word::Avg,
+    Word::Min,
+    Word::Max,
+    Word::Exists,
+    Word::Not,
+];
+
+/// The words that go on behind values.
+static OPERATOR_WORDS: [Word; 5] = [Word::Is, Word::Not, Word::Between, Word::Like, Word::In];
+
+static QUANTIFIER_WORDS: [Word; 3] = [Word::All, Word::Any, Word::Some];
+
+fn write_near_word<W: fmt::Write>(
+    f: &mut Formatter<W>,
+    alloc: Global,
+    found: &str,
+    unexpected: &Unexpected,
+) -> fmt::Result {
+    let Ok(found) = found.to_ascii_uppercase(alloc) else {
+        return Ok(());
+    };
+    let mut nearest = Nearest::new(alloc, found.as_str());
+    for class in unexpected.wanted.classes() {
+        match class {
+            TokenClass::Word(word) => nearest.offer(word.as_str()),
+            TokenClass::Type => offer(&mut nearest, &TYPE_WORDS),
+            TokenClass::Value => offer(&mut nearest, &VALUE_WORDS),
+            TokenClass::Operator => offer(&mut nearest, &OPERATOR_WORDS),
+            TokenClass::Quantifier => offer(&mut nearest, &QUANTIFIER_WORDS),
+            _ => {}
+        }
+    }
+    nearest.write_hint(f)
+}
+
+fn offer(nearest: &mut Nearest, words: &[Word]) {
+    for word in words {
+        nearest.offer(word.as_str());
+    }
+}
+
+/// The token that stands at the place, as it is written.
+fn token_text<'a>(script: &'a str, unexpected: &Unexpected) -> &'a str {
+    let end = unexpected.offset.saturating_add(unexpected.length);
+    script.get(unexpected.offset..end).unwrap_or("")
+}

@@ -1,4 +1,0 @@
-use Rattle.order_uses.proofs.order_use.partners.Goals as goal
-
-pub returns-in-Some : goal.returns-in-Some
-returns-in-Some c = λ space e. rw c.in-Some.is (c.partners.ensures space e)

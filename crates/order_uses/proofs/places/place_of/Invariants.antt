@@ -1,7 +1,0 @@
-use Rattle.std.proofs.Common.{◌≡◌, ℕ, ◌<◌, map}
-use Rattle.bound.specs.Bound.{column_of}
-use Rattle.column_classes.specs.Labels.{column_at}
-use Rattle.order_uses.proofs.places.place_of.Given as goal
-
-abbrev pub invariant-columns : goal.invariant-columns
-invariant-columns l = (i : ℕ) → i < l.place → column_at (map column_of l.columns) i ≡ column_of l.column → ⊥

@@ -1,3 +1,0 @@
-mod Places
-mod Comparing
-mod Adding

@@ -1,4 +1,0 @@
-pub use Rattle.definitions.specs.Estimates
-pub mod Versions
-pub mod Keys
-pub mod Adding

@@ -1,0 +1,154 @@
+-- The merges of a conjunct with one path.
+use Rattle.std.proofs.Common.{◌≡◌, ◌∙◌, refl, sym, ap, ap₂, subst, ℕ, ◌+◌, ◌⊎◌, inl, inr, List, [], ◌∷◌, ◌++◌, Bool, true, false, Some, map, arith}
+use Rattle.std.specs.Prelude.{Contains}
+use Rattle.std.specs.List.{AllByRecursion}
+use Rattle.std.proofs.lemmas.List.{length-append}
+use Rattle.std.proofs.lemmas.List.Elements.{Contains-append_left, Contains-append_right}
+use Rattle.std.proofs.lemmas.Nat.Bits.{bit_at-pow_same}
+use Rattle.definitions.specs.Plans.TableSet.{Has, only, no_tables}
+use Rattle.definitions.specs.Plans.Order.{BlockColumn, ascending}
+use Rattle.definitions.specs.Plans.Path.{Path, table_of}
+use Rattle.definitions.specs.Plans.Plan.{Inner}
+use Rattle.definitions.specs.Plans.Space.{Space, order_at}
+use Rattle.definitions.specs.Plans.ColumnClass.{Satisfies}
+use Rattle.definitions.specs.Plans.PlanSpace.{IsPath, IsInner}
+use Rattle.definitions.specs.Plans.Cost.{saturated, inner_cost}
+use Rattle.definitions.proofs.PlanTheory.Elements.{first_is}
+use Rattle.definitions.proofs.PlanTheory.TableSets.{only_has}
+use Rattle.interesting_orders.specs.Merges.{GoesBy}
+use Rattle.plan_space.specs.Item.{Item, IsItem}
+use Rattle.plan_space.specs.Merge.{FoundMerge, MergesBy, found, IsFound, IsGrown, AddsPath}
+use Rattle.plan_space.specs.MergeListed.{merge_told, IsWay}
+use Rattle.plan_space.specs.declared.listed.ListedMerge.{ListedMerge}
+use Rattle.plan_space.specs.declared.listed.MergeWay.{MergeWay}
+use Rattle.plan_space.proofs.Sides.{turned, same_sides}
+
+module _ (space : Space) (table : ℕ) where
+  one_more : (xs : List FoundMerge) (x : FoundMerge) → AllByRecursion (IsFound space table) xs → IsFound space table x → AllByRecursion (IsFound space table) (xs ++ x ∷ [])
+  one_more [] x all is = (is, tt)
+  one_more (y ∷ ys) x all is = (all.0, one_more ys x all.1 is)
+
+  pub grown : (xs : List FoundMerge) (x : FoundMerge) → IsFound space table x → IsGrown space table xs (xs ++ x ∷ [])
+  grown xs x is = record { kept = λ y there. Contains-append_left xs (x ∷ []) y there; right = λ all. one_more xs x all is }
+
+  pub then_grown : (a b c : List FoundMerge) → IsGrown space table a b → IsGrown space table b c → IsGrown space table a c
+  then_grown a b c first second = record { kept = λ x there. second.kept x (first.kept x there); right = λ all. second.right (first.right all) }
+
+last_there : (xs : List FoundMerge) (x : FoundMerge) → Contains (xs ++ x ∷ []) x
+last_there xs x = Contains-append_right xs (x ∷ []) x (first_is x [] x refl)
+
+module _ (space : Space) (way : MergeWay) (is : IsWay space way.table way.conjunct (Some way)) (item : Item) (right : IsItem space no_tables way.table item) (path : IsPath space no_tables item.path) where
+  abbrev outer : BlockColumn
+  outer = is.2.0
+
+  abbrev column : BlockColumn
+  column = is.2.1
+
+  abbrev pub inner : Bool → Inner
+  inner sorted = record { path = item.path; sorted = sorted }
+
+  abbrev pub listed : Bool → ℕ → FoundMerge
+  listed sorted cost = record { conjunct = way.conjunct; other = way.other; inner = inner sorted; cost = cost; selectivity = way.selectivity }
+
+  exact : (sorted : Bool) (cost : ℕ) → cost ≡ inner_cost space (inner sorted) → listed sorted cost ≡ found space way.conjunct way.other (inner sorted)
+  exact sorted cost e =
+      ap₂ (λ (c s : ℕ). let all : FoundMerge = record { conjunct = way.conjunct; other = way.other; inner = inner sorted; cost = c; selectivity = s } in all) e is.3
+
+  sorted_cost : saturated (item.cost + way.sort_cost) ≡ inner_cost space (inner true)
+  sorted_cost = ap₂ (λ (a b : ℕ). saturated (a + b)) right.cost (is.4 ∙ ap (λ t. space.sort_cost (only t)) (sym right.reads))
+
+  is_found : (sorted : Bool) (cost : ℕ) → cost ≡ inner_cost space (inner sorted) → IsInner space column (inner sorted) → IsFound space way.table (listed sorted cost)
+  is_found sorted cost e serves = record { reads = right.reads; merges = (outer, column, is.2.2, is.2.3, serves); exact = exact sorted cost e }
+
+  -- the path's order goes by the column, as the conjunct's other side has it
+  serves : GoesBy space (only way.table) item.order way.conjunct way.other → IsInner space column (inner false)
+  serves (x, y, merge, has, other, satisfied) =
+      let at : x.table ≡ column.table = only_has way.table x.table has ∙ sym is.2.2.1 in
+      let same = same_sides space way.conjunct y x outer column (turned space way.conjunct x y merge) is.2.2.0 at in (
+        path,
+        inr (
+          refl,
+          subst (λ t. Satisfies space (only t) (order_at space (space.path_order item.path)) (ascending column)) (sym right.reads)
+              (subst (λ o. Satisfies space (only way.table) (order_at space o) (ascending column)) right.order
+              (subst (λ (c : BlockColumn). Satisfies space (only way.table) (order_at space item.order) (ascending c)) same.1 satisfied)),
+        ),
+      )
+
+  -- and where it doesn't, it is no inner side as it is
+  goes : (outer' column' : BlockColumn) → MergesBy space way.table way.conjunct outer' column' → Satisfies space (only way.table) (order_at space item.order) (ascending column') → GoesBy space (only way.table) item.order way.conjunct way.other
+  goes outer' column' merges satisfied =
+      let same = same_sides space way.conjunct outer' column' outer column merges.0 is.2.2.0 (merges.1 ∙ sym is.2.2.1) in (
+        column',
+        outer',
+        turned space way.conjunct outer' column' merges.0,
+        subst (Has (only way.table)) (sym merges.1) (bit_at-pow_same way.table),
+        ap (λ (c : BlockColumn). c.table) same.0 ∙ is.2.3,
+        satisfied,
+      )
+
+  abbrev pub with_sort : FoundMerge
+  with_sort = listed true (saturated (item.cost + way.sort_cost))
+
+  abbrev pub as_it_is : FoundMerge
+  as_it_is = listed false item.cost
+
+  sort_found : IsFound space way.table with_sort
+  sort_found = is_found true (saturated (item.cost + way.sort_cost)) sorted_cost (path, inl refl)
+
+  abbrev Has' : List FoundMerge → Bool → Type 0
+  Has' new sorted = Contains new (found space way.conjunct way.other (inner sorted))
+
+  -- what is there of the path is there of all inner sides with it
+  there : (new : List FoundMerge) → Has' new true → (GoesBy space (only way.table) item.order way.conjunct way.other → Has' new false)
+      → (side : Inner) (x y : BlockColumn) → MergesBy space way.table way.conjunct x y → table_of side.path ≡ way.table → side.path ≡ item.path → IsInner space y side
+      → Contains new (found space way.conjunct x.table side)
+  there new sorted plain side x y merges reads of_path serves =
+      let same = same_sides space way.conjunct x y outer column merges.0 is.2.2.0 (merges.1 ∙ sym is.2.2.1) in
+      let other : x.table ≡ way.other = ap (λ (c : BlockColumn). c.table) same.0 ∙ is.2.3 in
+      rw other (by_sort side of_path reads y merges serves.1)
+    where
+      at : (b : Bool) (side : Inner) → side.path ≡ item.path → side.sorted ≡ b → Has' new b → Contains new (found space way.conjunct way.other side)
+      at b side of_path e has =
+          let same : inner b ≡ side = ap₂ (λ (p : Path) (s : Bool). let i : Inner = record { path = p; sorted = s } in i) (sym of_path) (sym e) in
+          subst (λ (i : Inner). Contains new (found space way.conjunct way.other i)) same has
+
+      by_sort : (side : Inner) → side.path ≡ item.path → table_of side.path ≡ way.table → (y : BlockColumn) → MergesBy space way.table way.conjunct x y
+          → (side.sorted ≡ true) ⊎ ((side.sorted ≡ false) × Satisfies space (only (table_of side.path)) (order_at space (space.path_order side.path)) (ascending y))
+          → Contains new (found space way.conjunct way.other side)
+      by_sort side of_path reads y merges (inl e) = at true side of_path e sorted
+      by_sort side of_path reads y merges (inr (e, satisfied)) =
+          at false side of_path e (plain (goes x y merges
+          (subst (λ o. Satisfies space (only way.table) (order_at space o) (ascending y)) (sym right.order)
+          (subst (λ (p : Path). Satisfies space (only way.table) (order_at space (space.path_order p)) (ascending y)) of_path
+          (subst (λ t. Satisfies space (only t) (order_at space (space.path_order side.path)) (ascending y)) reads satisfied)))))
+
+  pub adds_sorted : (old : List FoundMerge) → (GoesBy space (only way.table) item.order way.conjunct way.other → ⊥) → AddsPath space way.table way.conjunct item.path old (old ++ with_sort ∷ [])
+  adds_sorted old never = record {
+    grown = grown space way.table old with_sort sort_found;
+    there = there (old ++ with_sort ∷ []) (subst (λ (x : FoundMerge). Contains (old ++ with_sort ∷ []) x) (exact true (saturated (item.cost + way.sort_cost)) sorted_cost) (last_there old with_sort))
+        (λ by'. absurd (never by'));
+    few = omega (arith, length-append old (with_sort ∷ []));
+  }
+
+  pub adds_both : (old : List FoundMerge) → GoesBy space (only way.table) item.order way.conjunct way.other → AddsPath space way.table way.conjunct item.path old ((old ++ with_sort ∷ []) ++ as_it_is ∷ [])
+  adds_both old by' =
+      let first = adds_with old in
+      let plain_found = is_found false item.cost right.cost (serves by') in
+      let second = grown space way.table (old ++ with_sort ∷ []) as_it_is plain_found in
+      record {
+        grown = then_grown space way.table old (old ++ with_sort ∷ []) ((old ++ with_sort ∷ []) ++ as_it_is ∷ []) (grown space way.table old with_sort sort_found) second;
+        there = there ((old ++ with_sort ∷ []) ++ as_it_is ∷ []) (second.kept _ first)
+            (λ _. subst (λ (x : FoundMerge). Contains ((old ++ with_sort ∷ []) ++ as_it_is ∷ []) x) (exact false item.cost right.cost) (last_there (old ++ with_sort ∷ []) as_it_is));
+        few = omega (arith, length-append old (with_sort ∷ []), length-append (old ++ with_sort ∷ []) (as_it_is ∷ []));
+      }
+    where
+      adds_with : (old : List FoundMerge) → Has' (old ++ with_sort ∷ []) true
+      adds_with old = subst (λ (x : FoundMerge). Contains (old ++ with_sort ∷ []) x) (exact true (saturated (item.cost + way.sort_cost)) sorted_cost) (last_there old with_sort)
+
+-- what is pushed comes last
+pub pushed : (xs new : List ListedMerge) (y : ListedMerge) (x : FoundMerge) → new ≡ xs ++ y ∷ [] → merge_told y ≡ x → map merge_told new ≡ map merge_told xs ++ x ∷ []
+pushed xs new y x is told = ap (map merge_told) is ∙ together xs ∙ ap (λ z. map merge_told xs ++ z ∷ []) told
+  where
+    together : (zs : List ListedMerge) → map merge_told (zs ++ y ∷ []) ≡ map merge_told zs ++ merge_told y ∷ []
+    together [] = refl
+    together (z ∷ zs) = ap (λ rest. merge_told z ∷ rest) (together zs)

@@ -1,0 +1,32 @@
+-- The merges that may bring a table, for every set of tables.
+use Rattle.std.specs.Prelude.{ℕ, ◌≡◌, List, Option, Some, None, Contains, slice_get, ◌≤◌, length}
+use Rattle.std.specs.List.{AllByRecursion}
+use Rattle.definitions.specs.Plans.TableSet.{only}
+use Rattle.definitions.specs.Plans.Order.{BlockColumn}
+use Rattle.definitions.specs.Plans.Path.{table_of}
+use Rattle.definitions.specs.Plans.Plan.{Inner}
+use Rattle.definitions.specs.Plans.Space.{Space}
+use Rattle.definitions.specs.Plans.PlanSpace.{IsInner}
+use Rattle.definitions.specs.Plans.Cost.{selectivity_of}
+use Rattle.plan_tree.specs.Plans.{path_of}
+use Rattle.plan_space.specs.Merge.{FoundMerge, MergesBy, IsFound, found, most_merges}
+use Rattle.plan_space.specs.declared.listed.ListedMerge.{ListedMerge}
+use Rattle.plan_space.specs.declared.listed.MergeWay.{MergeWay}
+
+abbrev pub merge_told : ListedMerge → FoundMerge
+merge_told x = record { conjunct = x.conjunct; other = x.other; inner = record { path = path_of x.path; sorted = x.sorted }; cost = x.cost; selectivity = x.selectivity }
+
+module _ (space : Space) where
+  -- how a conjunct may merge a table, if it does
+  abbrev pub IsWay : ℕ → ℕ → Option MergeWay → Type 0
+  IsWay table number None = (x y : BlockColumn) → MergesBy space table number x y → ⊥
+  IsWay table number (Some way) = (way.table ≡ table) × (way.conjunct ≡ number)
+      × ((x : BlockColumn) × (y : BlockColumn) × MergesBy space table number x y × (x.table ≡ way.other))
+      × (way.selectivity ≡ selectivity_of (slice_get space.conjuncts number)) × (way.sort_cost ≡ space.sort_cost (only table))
+
+  -- each is one that brings the table, and those of all conjuncts are there
+  pub record AreMergesOf (table : ℕ) (xs : List FoundMerge) : Type 0 where
+    pub each : AllByRecursion (IsFound space table) xs
+    pub all : (number : ℕ) (inner : Inner) (x y : BlockColumn) → MergesBy space table number x y → table_of inner.path ≡ table → IsInner space y inner
+        → Contains xs (found space number x.table inner)
+    pub few : length xs ≤ most_merges space table

@@ -1,0 +1,180 @@
+//! The merges that may bring tables, for every set of tables.
+
+ghost use Rattle.std.specs.Prelude.{ℕ, ◌≡◌, ◌<◌, ◌≤◌, ◌*◌, ◌^◌, IfOk, IfSome, OnOk, length, map};
+ghost use Rattle.definitions.specs.Limits.{most_from_tables};
+ghost use Rattle.definitions.specs.Plans.Cost.{limit, saturated};
+ghost use Rattle.definitions.specs.Plans.PlanSpace.{IsPath};
+ghost use Rattle.definitions.specs.Plans.Space.{Space};
+ghost use Rattle.definitions.specs.Plans.TableSet.{no_tables, only};
+ghost use Rattle.definitions.specs.Estimates.BlockSpace.{space_of};
+ghost use Rattle.definitions.specs.Estimates.Cardinality as figures;
+ghost use Rattle.definitions.specs.Estimates.Fractions.{million};
+ghost use Rattle.definitions.specs.Estimates.PlanConjuncts as plans;
+ghost use Rattle.definitions.specs.Estimates.Version as versions;
+ghost use Rattle.query_tree.specs.Bound.{block_of};
+ghost use Rattle.plan_tree.specs.Plans.{path_of};
+ghost use Rattle.plan_tree.specs.Sets.{set_of};
+ghost use Rattle.interesting_orders.specs.Uses as order_uses;
+ghost use Rattle.interesting_orders.specs.Uses.{AreUses};
+ghost use Rattle.estimate.specs.Sets as set_figures;
+ghost use Rattle.plan_space.specs.Item.{AreItems, IsItem};
+ghost use Rattle.plan_space.specs.Items.{item_of};
+ghost use Rattle.plan_space.specs.PathLists as block_paths;
+ghost use Rattle.plan_space.specs.Merge.{AddsMerges, AddsPath, AreMerges};
+ghost use Rattle.plan_space.specs.MergeListed.{merge_told, AreMergesOf, IsWay};
+
+use crate::listed::{ListedMerge, MergeWay};
+use crate::merge_joins::Merges;
+use crate::path_lists::BlockPaths;
+use crate::paths::{PathItem, Paths};
+use estimate::{Estimate, SetFigures, saturated};
+use interesting_orders::OrderUses;
+use plan_tree::{Path, TableSet};
+use std::alloc::{AllocError, Global};
+
+/// The merges that may bring each table of a block, on top of plans on any set of tables.
+#[derive(Drop)]
+pub struct BlockMerges {
+    tables: Vec<Vec<ListedMerge>>,
+}
+
+impl BlockMerges {
+    ghost use Rattle.plan_space.specs.MergeLists.{tables_in, AreBlockMerges};
+
+    /// The merges of a block, by the paths of its tables, what its orders serve for, and what sorts cost.
+    pub fn new(
+        alloc: Global,
+        estimate: &Estimate,
+        paths: &BlockPaths,
+        uses: &OrderUses,
+        figures: &SetFigures,
+    ) -> Result<BlockMerges, AllocError>
+        requires paths { block_paths.tables_in paths.now ≡ length (block_of estimate.now.block).tables }
+        requires uses { order_uses.sets_in uses.now ≡ 2 ^ length (block_of estimate.now.block).tables }
+        requires figures { set_figures.tables_in figures.now ≡ length (block_of estimate.now.block).tables }
+        ensures tables { IfOk result (λ m. tables_in m ≡ length (block_of estimate.now.block).tables) }
+        ensures merges { (version : versions.Version) → block_paths.AreBlockPaths version estimate.now.database (block_of estimate.now.block) paths.now → AreUses (space_of version estimate.now.database (block_of estimate.now.block)) uses.now → set_figures.AreFigures estimate.now.database (block_of estimate.now.block) figures.now → IfOk result (AreBlockMerges (space_of version estimate.now.database (block_of estimate.now.block))) }
+    {
+        let mut tables = Vec::new(alloc);
+        'tables: for table in 0..estimate.table_count() {
+            let sort_cost = figures.sort_cost(TableSet::only(table));
+            tables.push(table_merges(alloc, estimate, paths, uses, table, sort_cost)?)?;
+        }
+        Ok(BlockMerges { tables })
+    }
+
+    /// The merges that bring a table on top of plans on a set of tables, of so many pairs of rows. It looks at each of the table's
+    /// merges as it comes to it, and takes no memory.
+    pub fn merges(&self, tables: TableSet, table: usize, pairs: u64) -> Merges<'_>
+        requires { table < tables_in self.now }
+        ensures { (space : Space) → AreBlockMerges space self.now → pairs ≡ saturated (space.cardinality (set_of tables) * space.cardinality (only table)) → AreMerges space (set_of tables) table result }
+    {
+        Merges::new(&self.tables[table], tables, pairs)
+    }
+}
+
+/// The merges that may bring a table, whose rows cost so much to sort.
+fn table_merges(
+    alloc: Global,
+    estimate: &Estimate,
+    paths: &BlockPaths,
+    uses: &OrderUses,
+    table: usize,
+    sort_cost: u64,
+) -> Result<Vec<ListedMerge>, AllocError>
+    requires table { table < length (block_of estimate.now.block).tables }
+    requires few { table < most_from_tables }
+    requires paths { block_paths.tables_in paths.now ≡ length (block_of estimate.now.block).tables }
+    requires uses { order_uses.sets_in uses.now ≡ 2 ^ length (block_of estimate.now.block).tables }
+    ensures { (version : versions.Version) → block_paths.AreBlockPaths version estimate.now.database (block_of estimate.now.block) paths.now → AreUses (space_of version estimate.now.database (block_of estimate.now.block)) uses.now → sort_cost ≡ figures.sort_cost estimate.now.database (block_of estimate.now.block) (only table) → IfOk result (λ merges. AreMergesOf (space_of version estimate.now.database (block_of estimate.now.block)) table (map merge_told merges.items)) }
+{
+    let mut merges = Vec::new(alloc);
+    'conjuncts: for conjunct in 0..estimate.conjuncts().len() {
+        if let Some(way) = merge_way(estimate, uses, table, conjunct, sort_cost) {
+            add_merges(
+                &mut merges,
+                uses,
+                way,
+                paths.paths(estimate, TableSet::none(), table),
+            )?;
+        }
+    }
+    Ok(merges)
+}
+
+/// How a conjunct may merge a table, if it does.
+fn merge_way(
+    estimate: &Estimate,
+    uses: &OrderUses,
+    table: usize,
+    conjunct: usize,
+    sort_cost: u64,
+) -> Option<MergeWay>
+    requires table { table < most_from_tables }
+    requires conjunct { conjunct < length (plans.plan_conjuncts estimate.now.database (block_of estimate.now.block)) }
+    ensures table { IfSome result (λ way. way.table ≡ table) }
+    ensures exact { (space : Space) → space.conjuncts ≡ plans.plan_conjuncts estimate.now.database (block_of estimate.now.block) → AreUses space uses.now → sort_cost ≡ space.sort_cost (only table) → IsWay space table conjunct result }
+{
+    let other = uses.merged_with(conjunct, table)?;
+    Some(MergeWay {
+        table,
+        conjunct,
+        other,
+        selectivity: estimate.conjuncts()[conjunct].selectivity,
+        sort_cost,
+    })
+}
+
+/// Adds the merges of a conjunct: each path of the table that needs no rows of others, sorted, and as it is where its order serves.
+fn add_merges(
+    merges: &mut Vec<ListedMerge>,
+    uses: &OrderUses,
+    way: MergeWay,
+    paths: Paths<'_>,
+) -> Result<(), AllocError>
+    requires { only way.table < order_uses.sets_in uses.now }
+    ensures { (space : Space) → AreUses space uses.now → IsWay space way.table way.conjunct (Some way) → AreItems space no_tables way.table paths.entry → OnOk result (AddsMerges space way.table way.conjunct (map merge_told merges.old.items) (map merge_told merges.new.items)) }
+{
+    let mut rest = paths;
+    'paths: while let Some(item) = rest.next() {
+        add_path(merges, uses, way, item)?;
+    }
+    Ok(())
+}
+
+/// Adds the merges of a conjunct with a path.
+fn add_path(
+    merges: &mut Vec<ListedMerge>,
+    uses: &OrderUses,
+    way: MergeWay,
+    item: PathItem<'_>,
+) -> Result<(), AllocError>
+    requires { only way.table < order_uses.sets_in uses.now }
+    ensures { (space : Space) → AreUses space uses.now → IsWay space way.table way.conjunct (Some way) → IsItem space no_tables way.table (item_of item.entry) → IsPath space no_tables (path_of item.entry.path.now) → OnOk result (AddsPath space way.table way.conjunct (path_of item.entry.path.now) (map merge_told merges.old.items) (map merge_told merges.new.items)) }
+{
+    let sorted = saturated(u128::from(item.cost) + u128::from(way.sort_cost));
+    merges.push(listed(way, item.path, true, sorted)?)?;
+    if uses.goes_by(
+        TableSet::only(way.table),
+        item.order,
+        way.conjunct,
+        way.other,
+    ) {
+        merges.push(listed(way, item.path, false, item.cost)?)?;
+    }
+    Ok(())
+}
+
+/// A merge of a conjunct with a path, whose inner side costs so much.
+fn listed(way: MergeWay, path: &Path, sorted: bool, cost: u64) -> Result<ListedMerge, AllocError>
+    ensures { IfOk result (λ merge. merge_told merge ≡ record { conjunct = way.conjunct; other = way.other; inner = record { path = path_of path.now; sorted = sorted }; cost = cost; selectivity = way.selectivity }) }
+{
+    Ok(ListedMerge {
+        conjunct: way.conjunct,
+        other: way.other,
+        path: path.clone()?,
+        sorted,
+        cost,
+        selectivity: way.selectivity,
+    })
+}

@@ -1,0 +1,74 @@
+//! Paths, one after another.
+
+ghost use Rattle.std.specs.Prelude.{◌≡◌, map};
+ghost use Rattle.plan_tree.specs.Sets.{set_of};
+ghost use Rattle.plan_space.specs.PathListed.{listed_told};
+ghost use Rattle.plan_space.specs.Item.{open_items};
+
+use crate::path_lists::ListedPath;
+use plan_tree::{Path, TableSet};
+use std::marker::Model;
+
+/// A path, the number of the order in which it gives its rows, and what one scan of it costs.
+#[derive(Clone, Copy)]
+pub struct PathItem<'a> {
+    pub path: &'a Path,
+    pub order: usize,
+    pub cost: u64,
+}
+
+/// The paths of a table that are still to come, where the rows of a set of tables are known. It takes no memory.
+#[derive(Drop)]
+pub struct Paths<'a> {
+    rest: &'a [ListedPath],
+    known: TableSet,
+    // that a scan of each hands on
+    rows: u64,
+}
+
+impl<'a> Model for Paths<'a> {
+    ghost use Rattle.std.specs.Prelude.{List};
+    ghost use Rattle.plan_space.specs.Item.{Item};
+
+    ghost Value = { List Item };
+
+    ghost use Rattle.std.specs.Prelude.{map};
+    ghost use Rattle.plan_tree.specs.Sets.{set_of};
+    ghost use Rattle.plan_space.specs.PathListed.{listed_told};
+    ghost use Rattle.plan_space.specs.Item.{open_items};
+
+    ghost view = { λ s. open_items (set_of s.known) s.rows (map listed_told s.rest.now) };
+}
+
+impl<'a> Paths<'a> {
+    pub(crate) fn new(rest: &'a [ListedPath], known: TableSet, rows: u64) -> Paths<'a>
+        ensures { result ≡ open_items (set_of known) rows (map listed_told rest.now) }
+    {
+        Paths { rest, known, rows }
+    }
+}
+
+impl<'a> Iterator for Paths<'a> {
+    type Item = PathItem<'a>;
+
+    ghost use Rattle.std.specs.Iterator.{YieldsFirstBy, item_count};
+    ghost use Rattle.plan_space.specs.Items.{item_of};
+
+    ghost next_gives = { YieldsFirstBy item_of (λ s. s) };
+
+    ghost remaining = { item_count (λ s. s) };
+
+    fn next(&mut self) -> Option<PathItem<'a>> {
+        'paths: while let Some((first, others)) = self.rest.split_first() {
+            self.rest = others;
+            if first.needs.is_within(self.known) {
+                return Some(PathItem {
+                    path: &first.path,
+                    order: first.order,
+                    cost: first.cost.cost(self.rows),
+                });
+            }
+        }
+        None
+    }
+}

@@ -1,3 +1,0 @@
-pub use Rattle.execution.specs.Delivery
-pub mod Stepping
-pub mod Laws

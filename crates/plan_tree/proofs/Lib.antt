@@ -1,0 +1,4 @@
+pub mod Tests
+pub mod Views
+pub mod Mapped
+pub mod Placing

@@ -1,0 +1,36 @@
+-- The tables of a block, and of the blocks around it.
+use Rattle.std.proofs.Common.{◌≡◌, refl, ap, List, [], ◌∷◌, Some, Bool, true, false, map}
+use Rattle.std.specs.Prelude.{◌&&◌, IsTrue, is_some, slice_get}
+use Rattle.std.specs.Global.{Vec}
+use Rattle.std.specs.List.{list_all}
+use Rattle.definitions.specs.Binding.Scopes.{NamedTable, Scope, Scopes, are_there, own_scope}
+use Rattle.query_rules.specs.declared.named_table.NamedTable as code
+use Rattle.query_rules.specs.ScopeRules.{named_of, tables_of, scopes_of}
+
+pub own_is : {A : Type 0} (view : A → Scope) (xs : List A) (x : A) → Some x ≡ slice_get xs 0 → own_scope (map view xs) ≡ view x
+own_is view [] x h = absurd cc
+own_is view (y ∷ xs) x h = let same : y ≡ x = cc in ap view same
+
+pub numbers_seen : (ts : List code.NamedTable) → map (λ (t : code.NamedTable). t.number) ts ≡ map (λ (t : NamedTable). t.number) (map named_of ts)
+numbers_seen [] = refl
+numbers_seen (t ∷ ts) = ap (λ ns. t.number ∷ ns) (numbers_seen ts)
+
+-- ---- all tables that are named are there
+
+tables_there : (ts : List code.NamedTable) → list_all (λ (t : NamedTable). is_some t.table) (map named_of ts) ≡ true
+tables_there [] = refl
+tables_there (t ∷ ts) = tables_there ts
+
+both_true : (a b : Bool) → a ≡ true → b ≡ true → (a && b) ≡ true
+both_true a b e f = rw (e, f) refl
+
+first_true : (a b : Bool) → (a && b) ≡ true → (a && true) ≡ true
+first_true true b h = refl
+first_true false b h = h
+
+pub scopes_there : (xs : List (Vec code.NamedTable)) → IsTrue (are_there (scopes_of xs))
+scopes_there [] = refl
+scopes_there (x ∷ xs) = both_true (list_all (λ (t : NamedTable). is_some t.table) (tables_of x)) (are_there (scopes_of xs)) (tables_there x.items) (scopes_there xs)
+
+pub first_there : (xs : List (Vec code.NamedTable)) (scope : Scope) (outer : Scopes) → scopes_of xs ≡ scope ∷ outer → IsTrue (are_there (scope ∷ []))
+first_there xs scope outer e = first_true _ (are_there outer) (rw e at (scopes_there xs))

@@ -1,0 +1,18 @@
+use Rattle.std.proofs.Common.{arith}
+use Rattle.std.proofs.lemmas.List.{length-map}
+use Rattle.parse_tree.specs.Trees.{source_of}
+use Rattle.query_rules.specs.Faults as faults
+use Rattle.query_rules.specs.ScopeRules.{scopes_of, tables_of}
+use Rattle.query_rules.proofs.Blocks.{first_there, scopes_there}
+use Rattle.query_rules.proofs.Views.{seen_all}
+use Rattle.query_rules.proofs.scopes.Scopes.inside.Goals as goal
+
+pub returns-then-sources-gt-MAX_FROM_TABLES-clause-refused : goal.returns-then-sources-gt-MAX_FROM_TABLES-clause-refused
+returns-then-sources-gt-MAX_FROM_TABLES-clause-refused c = faults.many_tables (omega (arith, c.if-sources-gt-MAX_FROM_TABLES.true, length-map c.args.sources.now source_of))
+
+pub returns-clause-there : goal.returns-clause-there
+returns-clause-there c =
+    first_there c.around.scopes.items _ c.args.self.now (seen_all tables_of (scopes_of c.around.scopes.items) c.deref-scope-items.result.now c.around.scope-index _ c.around-test.false c.around.invariant)
+
+pub returns-clause-all_there : goal.returns-clause-all_there
+returns-clause-all_there c = scopes_there c.around.scopes.items

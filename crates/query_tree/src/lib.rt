@@ -1,0 +1,13 @@
+//! Query blocks whose names are bound: tables, columns and inner blocks go by number.
+#![tactic(auto)]
+
+mod block;
+mod condition;
+mod leaf;
+mod value;
+
+pub use block::{Block, BoundFunction, Item, Key};
+pub use condition::Condition;
+pub use leaf::{BlockColumn, NumberLiteral, Operator, ValueType};
+pub use parse_tree::{Quantifier, SetFunction};
+pub use value::{Operand, ValueExpr};

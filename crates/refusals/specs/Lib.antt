@@ -1,2 +1,0 @@
-pub use Rattle.definitions.specs.Refusal
-pub mod Meaning

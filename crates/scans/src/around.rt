@@ -1,0 +1,31 @@
+//! The blocks around a block.
+
+ghost use Rattle.std.specs.Prelude.{◌≡◌, List, [], get_or};
+ghost use Rattle.definitions.specs.Queries.Evaluation.{Combination, cell as cell_of};
+ghost use Rattle.sqlvalue.specs.Meaning.{value_of};
+ghost use Rattle.query_tree.specs.Bound.{column_of};
+
+use query_tree::BlockColumn;
+use sqlvalue::Value;
+
+/// The rows of the blocks around a block, in which it is evaluated (own).
+pub trait Around {
+    /// A combination of rows of each, the nearest first.
+    ghost combinations: { Self → List Combination };
+
+    /// The value in a column of one of them; `between` says how many blocks lie between (ISO/IEC 9075:1992, 6.4).
+    fn cell(&self, between: usize, column: BlockColumn) -> Value<'_>
+        ensures { value_of result ≡ cell_of (get_or (combinations self.now) between []) (column_of column) };
+}
+
+/// There is no block around.
+#[derive(Clone, Copy)]
+pub struct Outermost;
+
+impl Around for Outermost {
+    ghost combinations = { λ _. [] };
+
+    fn cell(&self, _between: usize, _column: BlockColumn) -> Value<'_> {
+        Value::Null
+    }
+}

@@ -1,8 +1,0 @@
-use Rattle.std.proofs.Common.{◌≡◌, drop}
-use Rattle.definitions.specs.Binding.Scopes.{resolve_name}
-use Rattle.scopes.specs.Meaning.{scopes_of}
-use Rattle.scopes.proofs.scopes.Scopes.resolve_name.Given as goal
-
--- the blocks that are left answer as all do
-abbrev pub invariant-scopes : goal.invariant-scopes
-invariant-scopes l = resolve_name l.level (scopes_of (drop l.level l.scope-items)) l.name ≡ resolve_name 0 l.self l.name

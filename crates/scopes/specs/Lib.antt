@@ -1,4 +1,0 @@
-pub use Rattle.definitions.specs.Binding.Scopes
-pub mod Meaning
-pub mod Search
-pub mod Faults

@@ -1,3 +1,0 @@
-pub mod Steps
-mod Loads
-pub mod Runs

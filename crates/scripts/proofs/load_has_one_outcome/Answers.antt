@@ -1,5 +1,0 @@
-use Rattle.scripts.proofs.Loads.{load_has_one_outcome}
-use Rattle.scripts.proofs.load_has_one_outcome.Goals as goal
-
-pub returns : goal.returns
-returns c = load_has_one_outcome

@@ -1,4 +1,0 @@
-pub mod Step
-pub mod CheckingRun
-pub mod RunLaws
-pub mod Examples

@@ -1,4 +1,0 @@
-mod EitherOf
-mod Drawing
-mod OwnIndex
-mod Known

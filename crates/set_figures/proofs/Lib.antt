@@ -1,3 +1,0 @@
-mod LastTable
-mod Taking
-mod Made

@@ -1,3 +1,0 @@
-pub use Rattle.definitions.specs.Estimates
-pub mod Figures
-pub mod Sets

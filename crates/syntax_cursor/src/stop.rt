@@ -1,0 +1,31 @@
+//! Where reading stops.
+
+ghost use Rattle.std.specs.Prelude.{◌≡◌};
+ghost use Rattle.syntax_cursor.specs.declared.stop.Stop.TheVariants as stops;
+
+use std::alloc::{AllocError, AllocFailed};
+
+/// Where the tokens stop being read: at the place of the token with which nothing goes on, or of the one that
+/// opens a level too many.
+#[derive(Clone, Copy)]
+pub enum Stop {
+    Token(usize),
+    Deep(usize),
+    Memory,
+}
+
+impl From<AllocError> for Stop {
+    ghost from_gives = { λ _ stop. stop ≡ stops.Memory };
+
+    fn from(_error: AllocError) -> Stop {
+        Stop::Memory
+    }
+}
+
+impl<T: Drop> From<AllocFailed<T>> for Stop {
+    ghost from_gives = { λ _ stop. stop ≡ stops.Memory };
+
+    fn from(_error: AllocFailed<T>) -> Stop {
+        Stop::Memory
+    }
+}

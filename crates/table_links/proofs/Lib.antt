@@ -1,4 +1,0 @@
-mod Sets
-mod Linking
-mod Linked
-mod Following

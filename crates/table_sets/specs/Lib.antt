@@ -1,2 +1,0 @@
-pub use Rattle.definitions.specs.Plans.TableSet
-pub mod Sets

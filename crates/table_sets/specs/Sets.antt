@@ -1,6 +1,0 @@
--- What the sets of this crate stand for.
-use Rattle.definitions.specs.Plans.TableSet.{TableSet}
-use Rattle.table_sets.specs.declared.table_set.TableSet.{TableSet as Code}
-
-abbrev pub set_of : Code → TableSet
-set_of s = s.bits

@@ -1,0 +1,61 @@
+//! Printed bytes in memory, and the messages beside them.
+
+use catalog::Database;
+use messages_statements::Reporter;
+use sqlr::{CheckedFile, Failures, Refused, Sink, SinkFault};
+use std::alloc::AllocError;
+use std::fmt::Display;
+use std::sync::ledger::Ledger;
+
+/// The name that messages call a file of certificates by.
+const CERTIFICATES_NAME: &str = "script.certificates";
+
+/// Takes bytes as long as it has room, and tells them.
+#[derive(Drop)]
+pub struct Tape<'a, L: Ledger> {
+    pub bytes: Vec<u8>,
+    /// How many more bytes it takes before its device fails.
+    pub room: usize,
+    pub failures: Failures<L>,
+    pub reporter: Reporter<'a>,
+    /// The messages on what was refused, as far as there was memory for them.
+    pub messages: String,
+}
+
+impl<L: Ledger> Sink for Tape<'_, L> {
+    ghost use Rattle.std.specs.Prelude.{Some};
+
+    ghost taken = { λ s. Some s.bytes.items };
+
+    ghost failures = { λ s. s.failures };
+
+    fn put(&mut self, bytes: &[u8]) -> Result<(), SinkFault> {
+        let fitting = bytes.len().min(self.room);
+        match self.bytes.extend_from_slice(&bytes[..fitting]) {
+            Ok(()) if fitting == bytes.len() => {
+                self.room -= fitting;
+                Ok(())
+            }
+            _ => {
+                self.failures.rise();
+                Err(SinkFault)
+            }
+        }
+    }
+
+    fn explain(&mut self, refused: &Refused, database: &Database) {
+        let report = self.reporter.report(refused, database);
+        let _ = push(&mut self.messages, report);
+    }
+
+    fn explain_certificates(&mut self, checked: &CheckedFile, database: &Database) {
+        let report = self
+            .reporter
+            .report_certificates(CERTIFICATES_NAME, checked, database);
+        let _ = push(&mut self.messages, report);
+    }
+}
+
+fn push<D: Display + Drop>(messages: &mut String, message: D) -> Result<(), AllocError> {
+    write!(messages, "{message}")
+}

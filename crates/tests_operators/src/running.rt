@@ -1,0 +1,44 @@
+//! Plans that are run.
+
+ghost use Rattle.std.specs.Prelude.{◌≡◌};
+ghost use Rattle.estimate.specs.Estimated.{IsFormed};
+ghost use Rattle.scans.specs.Sources.{block_in};
+
+use operators::open;
+use plan_space::{Measured, Plan, Space};
+use scans::{Composite, Outermost, Pull, Source};
+use std::alloc::{AllocError, Global};
+
+/// What a plan comes to, what it gave, and how many rows were opened for that.
+#[derive(Drop)]
+pub(crate) struct Outcome {
+    pub measured: Measured,
+    pub composites: Vec<Composite>,
+    pub opened: u64,
+}
+
+/// Runs a plan of a block; `None` where it is no plan of the block.
+pub(crate) fn run(
+    alloc: Global,
+    source: &Source<'_>,
+    space: &Space<'_>,
+    plan: &Plan,
+) -> Result<Option<Outcome>, AllocError>
+    requires formed { IsFormed source.now.database (block_in source.now) }
+    requires database { space.now.database ≡ source.now.database }
+    requires block { space.now.block ≡ source.now.block }
+{
+    let Some(measured) = space.measured(plan) else {
+        return Ok(None);
+    };
+    let mut line = open(alloc, source, space.orders(), plan, &Outermost)?;
+    let mut composites = Vec::new(alloc);
+    'composites: while let Some(composite) = line.next(&Outermost) {
+        composites.push(composite)?;
+    }
+    Ok(Some(Outcome {
+        measured,
+        composites,
+        opened: line.opened(),
+    }))
+}

@@ -1,0 +1,82 @@
+//! How rows and composites rank by keys.
+
+ghost use Rattle.std.specs.Prelude.{◌≡◌};
+ghost use Rattle.definitions.specs.Queries.Outcomes.{directed};
+ghost use Rattle.definitions.specs.Value as spec;
+ghost use Rattle.sqlvalue.specs.Meaning.{value_of};
+ghost use Rattle.definitions_execution.specs.RowOrder.{ranked_by};
+ghost use Rattle.plan_tree.specs.Plans.{order_of};
+ghost use Rattle.tuple_sort.specs.Keys.{ranked_by_keys};
+ghost use Rattle.tuple_sort.specs.Values.{value_in_packed};
+
+use crate::keyed::Keyed;
+use crate::packing::row_in;
+use plan_tree::SortKey;
+use scans::Source;
+use sqlvalue::{Value, rank};
+use std::cmp::Ordering;
+
+/// How packed rows rank by the keys of an order, where the first of these is told apart by what stands beside them.
+pub(crate) fn rank_of_keyed<const ROOM: usize>(
+    source: &Source<'_>,
+    order: &[SortKey],
+    members: &[usize],
+    a: &Keyed<ROOM>,
+    b: &Keyed<ROOM>,
+) -> Ordering
+    ensures { result ≡ ranked_by_keys (value_in_packed source.now members.now) (order_of order.now) a.now b.now }
+{
+    let Some((first, others)) = order.split_first() else {
+        return Ordering::Equal;
+    };
+    if a.key != b.key {
+        return directed(a.key.cmp(&b.key), first.descending);
+    }
+    rank_of_packed(
+        source,
+        others,
+        members,
+        a.rows.as_slice(),
+        b.rows.as_slice(),
+    )
+}
+
+/// How packed rows rank by the keys of an order: the first that tells them apart decides (ISO/IEC 9075:1992, 13.1, general rule 2).
+pub(crate) fn rank_of_packed(
+    source: &Source<'_>,
+    order: &[SortKey],
+    members: &[usize],
+    a: &[u32],
+    b: &[u32],
+) -> Ordering
+    ensures { result ≡ ranked_by (value_in_packed source.now members.now) (order_of order.now) a.now b.now }
+{
+    'keys: for key in order {
+        let table = key.column.table;
+        let ranked = rank_of_values(
+            &source.cell(key.column, row_in(members, a, table) as usize),
+            &source.cell(key.column, row_in(members, b, table) as usize),
+        );
+        if ranked != Ordering::Equal {
+            return directed(ranked, key.descending);
+        }
+    }
+    Ordering::Equal
+}
+
+/// How two values rank. Numbers of one scale, as those of a column are, need no look at it.
+fn rank_of_values(a: &Value, b: &Value) -> Ordering
+    ensures { result ≡ spec.rank (value_of a.now) (value_of b.now) }
+{
+    match (a, b) {
+        (Value::Num(x), Value::Num(y)) if x.scale == y.scale => x.units.cmp(&y.units),
+        _ => rank(a, b),
+    }
+}
+
+/// A rank in the direction of a key.
+fn directed(ranked: Ordering, descending: bool) -> Ordering
+    ensures { result ≡ directed descending ranked }
+{
+    if descending { ranked.reverse() } else { ranked }
+}
