@@ -40,7 +40,7 @@ module _ (db : Database) (block : Block) (table : ℕ) (i : Index) where
   pub record IsSizeOf (size : IndexSize) : Type 0 where
     pub columns : size.columns ≡ length i.columns
     pub unique : size.unique ≡ i.unique
-    pub clustered : size.clustered ≡ i.figures.clustered
-    pub keys : size.keys ≡ i.figures.keys
-    pub once : size.pages_once ≡ saturated (i.figures.pages + pages_at db block table)
-    pub by_row : size.pages_by_row ≡ saturated (i.figures.pages + rows_at db block table)
+    pub clustered : size.clustered ≡ i.statistics.clustered
+    pub keys : size.keys ≡ i.statistics.keys
+    pub once : size.pages_once ≡ saturated (i.statistics.pages + pages_at db block table)
+    pub by_row : size.pages_by_row ≡ saturated (i.statistics.pages + rows_at db block table)

@@ -65,7 +65,7 @@ fn segment_path(estimate: &Estimate, table: usize) -> TablePath
     TablePath {
         path: Path::Segment { table },
         needs: TableSet::none(),
-        cost: ScanCost::Pages(estimate.table(table).figures().pages),
+        cost: ScanCost::Pages(estimate.table(table).statistics().pages),
     }
 }
 

@@ -62,13 +62,13 @@ impl IndexSize {
     pub fn of(table: &Table, index: &Index) -> IndexSize
         ensures { (db : Database) (block : b.Block) (number : ℕ) → table_at db block number ≡ Some table.now → IsSizeOf db block number index.now.index result }
     {
-        let pages = u128::from(index.figures().pages);
-        let size = table.figures();
+        let pages = u128::from(index.statistics().pages);
+        let size = table.statistics();
         IndexSize {
             columns: index.columns().len(),
             unique: index.is_unique(),
-            clustered: index.figures().clustered,
-            keys: index.figures().keys,
+            clustered: index.statistics().clustered,
+            keys: index.statistics().keys,
             pages_once: saturated(pages + u128::from(size.pages)),
             pages_by_row: saturated(pages + u128::from(size.rows)),
         }

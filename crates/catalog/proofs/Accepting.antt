@@ -6,13 +6,13 @@ use Rattle.definitions.specs.Limits.{most_index_columns}
 use Rattle.definitions.specs.Value.{SqlType, Texts, Char, kind_of}
 use Rattle.definitions.specs.Refusal.{Refusal, NameTaken, NotFound, OverLimit, MixedKinds}
 use Rattle.definitions.specs.Statement.{Name, Range, Statement, CreateIndex, SetTable, SetIndex}
-use Rattle.definitions.specs.Statement.{IndexFigures as Given}
+use Rattle.definitions.specs.Statement.{IndexStatistics as Given}
 use Rattle.definitions.specs.Table.{Table, Database, table_named, column_numbers, index_on}
 use Rattle.definitions.specs.Key.{key_of, value_at, repeats, AreUnique}
 use Rattle.definitions.specs.Change as made
-use Rattle.definitions.specs.Change.{Makes, RepeatsKeys, changed, with_index, with_table_figures, with_index_figures, with_rows, first_type, FiguresKept}
+use Rattle.definitions.specs.Change.{Makes, RepeatsKeys, changed, with_index, with_table_statistics, with_index_statistics, with_rows, first_type, StatisticsKept}
 use Rattle.definitions.specs.IndexFaults as index
-use Rattle.definitions.specs.IndexFaults.{ListFaulty, IndexFaulty, FiguresFaulty, BoundsFaulty, Falls, NeverKept}
+use Rattle.definitions.specs.IndexFaults.{ListFaulty, IndexFaulty, StatisticsFaulty, BoundsFaulty, Falls, NeverKept}
 use Rattle.definitions.specs.Faults as faults
 use Rattle.definitions.specs.Faults.{Faulty, IsAccepted}
 use Rattle.definitions.specs.Invariant.{IsCount, IsPageCount, IsDatabase}
@@ -21,17 +21,17 @@ use Rattle.definitions.proofs.Repeats.{repeats_neither}
 use Rattle.indexes.specs.Repeats.{IsFirstRepeated}
 use Rattle.indexes.specs.declared.repeated.RepeatedKey.{RepeatedKey}
 use Rattle.catalog.specs.Lists.{RefusesList}
-use Rattle.catalog.specs.Figures.{RefusesRange, RefusesGiven}
-use Rattle.catalog.specs.Changes.{MayIndex, RefusesNewIndex, RefusesIndex, SetsIndex, RefusesFigures, RefusesTableFigures}
-use Rattle.catalog.specs.Meaning.{list_refusal, figures_refusal, table_figures_refusal}
+use Rattle.catalog.specs.Statistics.{RefusesRange, RefusesGiven}
+use Rattle.catalog.specs.Changes.{MayIndex, RefusesNewIndex, RefusesIndex, SetsIndex, RefusesStatistics, RefusesTableStatistics}
+use Rattle.catalog.specs.Meaning.{list_refusal, statistics_refusal, table_statistics_refusal}
 use Rattle.catalog.specs.declared.fault.ListFault.{ListFault}
 use Rattle.catalog.specs.declared.fault.ListFault.TheVariants as list
 use Rattle.catalog.specs.declared.fault.IndexFault.{IndexFault}
 use Rattle.catalog.specs.declared.fault.IndexFault.TheVariants as i
-use Rattle.catalog.specs.declared.fault.FiguresFault.{FiguresFault}
-use Rattle.catalog.specs.declared.fault.FiguresFault.TheVariants as f
-use Rattle.catalog.specs.declared.fault.TableFiguresFault.{TableFiguresFault}
-use Rattle.catalog.specs.declared.fault.TableFiguresFault.TheVariants as t
+use Rattle.catalog.specs.declared.fault.StatisticsFault.{StatisticsFault}
+use Rattle.catalog.specs.declared.fault.StatisticsFault.TheVariants as f
+use Rattle.catalog.specs.declared.fault.TableStatisticsFault.{TableStatisticsFault}
+use Rattle.catalog.specs.declared.fault.TableStatisticsFault.TheVariants as t
 use Rattle.catalog.specs.declared.fault.RangeEnd.TheVariants as e
 use Rattle.catalog.proofs.Loading.{pair_apart}
 
@@ -63,9 +63,9 @@ if_index : (db : Database) (unique : Bool) (name : Name) (names : List Name) (o 
 if_index db unique name names None h = tt
 if_index db unique name names (Some r) h = faults.index unique name names r (index.list r h)
 
-if_figures : (db : Database) (name : Name) (names : List Name) (given : Given) (o : Option Refusal) → IfSome o (ListFaulty db name names) → IfSome o (Faulty db (SetIndex name names given))
-if_figures db name names given None h = tt
-if_figures db name names given (Some r) h = faults.figures name names given r (index.list r h)
+if_statistics : (db : Database) (name : Name) (names : List Name) (given : Given) (o : Option Refusal) → IfSome o (ListFaulty db name names) → IfSome o (Faulty db (SetIndex name names given))
+if_statistics db name names given None h = tt
+if_statistics db name names given (Some r) h = faults.statistics name names given r (index.list r h)
 
 -- ---- CREATE INDEX
 
@@ -116,23 +116,23 @@ pub table_set_accepted : (db : Database) (name : Name) (rows pages : ℕ) (t : T
 table_set_accepted db name rows pages t n r p refusal (faults.no_such_table table rows' pages' h) = let clash : Some t ≡ None = sym n ∙ h in cc
 table_set_accepted db name rows pages t n r p refusal (faults.out_of_range table rows' pages' h) = h (r, p)
 
-pub table_set_refused : (db : Database) (name : Name) (rows pages : ℕ) (fault : TableFiguresFault) → RefusesTableFigures rows pages fault → Faulty db (SetTable name rows pages) (table_figures_refusal fault)
+pub table_set_refused : (db : Database) (name : Name) (rows pages : ℕ) (fault : TableStatisticsFault) → RefusesTableStatistics rows pages fault → Faulty db (SetTable name rows pages) (table_statistics_refusal fault)
 table_set_refused db name rows pages t.NoTable h = absurd h
 table_set_refused db name rows pages t.Rows h = faults.out_of_range name rows pages (λ k. h k.0)
 table_set_refused db name rows pages t.Pages h = faults.out_of_range name rows pages (λ k. h k.1)
 
 -- texts have no LOW and HIGH
-kept_numbers : (type : SqlType) (given : Given) (kept : _) (r : Range) → FiguresKept type given kept → given.range ≡ Some r → (low : _) × made.KeptAs type r.low low
+kept_numbers : (type : SqlType) (given : Given) (kept : _) (r : Range) → StatisticsKept type given kept → given.range ≡ Some r → (low : _) × made.KeptAs type r.low low
 kept_numbers type given kept r k e = let held = rw e at k.1 in (held.0, held.2)
 
-kept_high : (type : SqlType) (given : Given) (kept : _) (r : Range) → FiguresKept type given kept → given.range ≡ Some r → (high : _) × made.KeptAs type r.high high
+kept_high : (type : SqlType) (given : Given) (kept : _) (r : Range) → StatisticsKept type given kept → given.range ≡ Some r → (high : _) × made.KeptAs type r.high high
 kept_high type given kept r k e = let held = rw e at k.1 in (held.1, held.3)
 
 no_text : (type : SqlType) (r : Range) (low : _) → kind_of type ≡ Texts → made.KeptAs type r.low low → ⊥
 no_text (Char n) r low e k = k.0.1
 no_text type r low e k = cc
 
-no_bounds_fault : (type : SqlType) (given : Given) (kept : _) (r : Range) (refusal : Refusal) → FiguresKept type given kept → given.range ≡ Some r → BoundsFaulty type r refusal → ⊥
+no_bounds_fault : (type : SqlType) (given : Given) (kept : _) (r : Range) (refusal : Refusal) → StatisticsKept type given kept → given.range ≡ Some r → BoundsFaulty type r refusal → ⊥
 no_bounds_fault type given kept r refusal k e (index.low_unfit numbers h) = let (low, held) = kept_numbers type given kept r k e in h low held
 no_bounds_fault type given kept r refusal k e (index.high_unfit numbers h) = let (high, held) = kept_high type given kept r k e in h high held
 no_bounds_fault type given kept r refusal k e (index.text texts) = let (low, held) = kept_numbers type given kept r k e in no_text type r low texts held
@@ -141,42 +141,42 @@ one_type : (o : Option SqlType) (a b : SqlType) → o ≡ Some a → o ≡ Some 
 one_type o a b h l = let same : Some a ≡ Some b = sym h ∙ l in cc
 
 pub index_set_accepted : (db : Database) (name : Name) (t new : Table) (names : List Name) (given : Given) → table_named db name ≡ Some t → SetsIndex t names given new → IsAccepted db (SetIndex name names given)
-index_set_accepted db name t new names given n s refusal (faults.figures table columns g r (index.list r' h)) = no_list_fault db name t names s.numbers r' n s.found s.some s.short h
-index_set_accepted db name t new names given n s refusal (faults.figures table columns g r (index.no_index u ms k e o)) =
+index_set_accepted db name t new names given n s refusal (faults.statistics table columns g r (index.list r' h)) = no_list_fault db name t names s.numbers r' n s.found s.some s.short h
+index_set_accepted db name t new names given n s refusal (faults.statistics table columns g r (index.no_index u ms k e o)) =
     let same : t ≡ u = one_table db name t u n k in
     let numbers : s.numbers ≡ ms = one_list (column_numbers t.columns names) s.numbers ms s.found (ap (λ (x : Table). column_numbers x.columns names) same ∙ e) in
     let clash' : Some s.index ≡ None = sym s.on ∙ ap (index_on t.indexes) numbers ∙ ap (λ (x : Table). index_on x.indexes ms) same ∙ o in cc
-index_set_accepted db name t new names given n s refusal (faults.figures table columns g r (index.out_of_range h)) = h (s.may.keys, s.may.pages)
-index_set_accepted db name t new names given n s refusal (faults.figures table columns g r (index.fall range e h)) = s.may.rising range e h
-index_set_accepted db name t new names given n s refusal (faults.figures table columns g r (index.bounds u type range r' k e held h)) =
+index_set_accepted db name t new names given n s refusal (faults.statistics table columns g r (index.out_of_range h)) = h (s.may.keys, s.may.pages)
+index_set_accepted db name t new names given n s refusal (faults.statistics table columns g r (index.fall range e h)) = s.may.rising range e h
+index_set_accepted db name t new names given n s refusal (faults.statistics table columns g r (index.bounds u type range r' k e held h)) =
     let same : t ≡ u = one_table db name t u n k in
     let types : s.type ≡ type = one_type (first_type t.columns names) s.type type s.first (ap (λ (x : Table). first_type x.columns names) same ∙ e) in
     no_bounds_fault s.type given s.kept range r' s.keeps held (rw types h)
 
-range_fault : (db : Database) (name : Name) (t : Table) (names : List Name) (given : Given) (type : SqlType) (r : Range) (fault : FiguresFault) → table_named db name ≡ Some t → first_type t.columns names ≡ Some type → given.range ≡ Some r
-    → RefusesRange type r fault → IfSome (figures_refusal fault) (Faulty db (SetIndex name names given))
-range_fault db name t names given type r f.Texts n e g h = faults.figures name names given MixedKinds (index.bounds t type r MixedKinds n e g (index.text h))
-range_fault db name t names given type r (f.Unfit e.Low) n x g h = faults.figures name names given OverLimit (index.bounds t type r OverLimit n x g (index.low_unfit h.0 h.1))
-range_fault db name t names given type r (f.Unfit e.High) n x g h = faults.figures name names given OverLimit (index.bounds t type r OverLimit n x g (index.high_unfit h.0 h.1))
-range_fault db name t names given type r f.Falls n e g h = faults.figures name names given OverLimit (index.fall r g h)
+range_fault : (db : Database) (name : Name) (t : Table) (names : List Name) (given : Given) (type : SqlType) (r : Range) (fault : StatisticsFault) → table_named db name ≡ Some t → first_type t.columns names ≡ Some type → given.range ≡ Some r
+    → RefusesRange type r fault → IfSome (statistics_refusal fault) (Faulty db (SetIndex name names given))
+range_fault db name t names given type r f.Texts n e g h = faults.statistics name names given MixedKinds (index.bounds t type r MixedKinds n e g (index.text h))
+range_fault db name t names given type r (f.Unfit e.Low) n x g h = faults.statistics name names given OverLimit (index.bounds t type r OverLimit n x g (index.low_unfit h.0 h.1))
+range_fault db name t names given type r (f.Unfit e.High) n x g h = faults.statistics name names given OverLimit (index.bounds t type r OverLimit n x g (index.high_unfit h.0 h.1))
+range_fault db name t names given type r f.Falls n e g h = faults.statistics name names given OverLimit (index.fall r g h)
 range_fault db name t names given type r f.Keys n e g h = absurd h
 range_fault db name t names given type r f.Pages n e g h = absurd h
 range_fault db name t names given type r f.NoIndex n e g h = absurd h
 range_fault db name t names given type r (f.List x) n e g h = absurd h
 
-given_fault : (db : Database) (name : Name) (t : Table) (names : List Name) (given : Given) (type : SqlType) (fault : FiguresFault) → table_named db name ≡ Some t → first_type t.columns names ≡ Some type → RefusesGiven type given fault
-    → IfSome (figures_refusal fault) (Faulty db (SetIndex name names given))
-given_fault db name t names given type f.Keys n e h = faults.figures name names given OverLimit (index.out_of_range (λ k. h k.0))
-given_fault db name t names given type f.Pages n e h = faults.figures name names given OverLimit (index.out_of_range (λ k. h k.1))
+given_fault : (db : Database) (name : Name) (t : Table) (names : List Name) (given : Given) (type : SqlType) (fault : StatisticsFault) → table_named db name ≡ Some t → first_type t.columns names ≡ Some type → RefusesGiven type given fault
+    → IfSome (statistics_refusal fault) (Faulty db (SetIndex name names given))
+given_fault db name t names given type f.Keys n e h = faults.statistics name names given OverLimit (index.out_of_range (λ k. h k.0))
+given_fault db name t names given type f.Pages n e h = faults.statistics name names given OverLimit (index.out_of_range (λ k. h k.1))
 given_fault db name t names given type f.Texts n e h = let (r, g, k) = h in range_fault db name t names given type r f.Texts n e g k
 given_fault db name t names given type (f.Unfit end) n e h = let (r, g, k) = h in range_fault db name t names given type r (f.Unfit end) n e g k
 given_fault db name t names given type f.Falls n e h = let (r, g, k) = h in range_fault db name t names given type r f.Falls n e g k
 given_fault db name t names given type f.NoIndex n e h = let (r, g, k) = h in absurd k
 given_fault db name t names given type (f.List x) n e h = let (r, g, k) = h in absurd k
 
-pub index_set_refused : (db : Database) (name : Name) (t : Table) (names : List Name) (given : Given) (fault : FiguresFault) → table_named db name ≡ Some t → RefusesFigures t names given fault → IfSome (figures_refusal fault) (Faulty db (SetIndex name names given))
-index_set_refused db name t names given (f.List fault) n h = if_figures db name names given (list_refusal fault) (list_fault db name t names fault n h)
-index_set_refused db name t names given f.NoIndex n h = let (ns, found, on) = h in faults.figures name names given NotFound (index.no_index t ns n found on)
+pub index_set_refused : (db : Database) (name : Name) (t : Table) (names : List Name) (given : Given) (fault : StatisticsFault) → table_named db name ≡ Some t → RefusesStatistics t names given fault → IfSome (statistics_refusal fault) (Faulty db (SetIndex name names given))
+index_set_refused db name t names given (f.List fault) n h = if_statistics db name names given (list_refusal fault) (list_fault db name t names fault n h)
+index_set_refused db name t names given f.NoIndex n h = let (ns, found, on) = h in faults.statistics name names given NotFound (index.no_index t ns n found on)
 index_set_refused db name t names given f.Keys n h = let (type, e, k) = h in given_fault db name t names given type f.Keys n e k
 index_set_refused db name t names given f.Pages n h = let (type, e, k) = h in given_fault db name t names given type f.Pages n e k
 index_set_refused db name t names given f.Texts n h = let (type, e, k) = h in given_fault db name t names given type f.Texts n e k

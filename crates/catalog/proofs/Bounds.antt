@@ -8,15 +8,15 @@ use Rattle.std.specs.declared.cmp.Ordering.TheVariants.{Less, Equal, Greater}
 use Rattle.std.proofs.lemmas.Bool.Decides.{nat_tests}
 use Rattle.std.proofs.lemmas.Int.{ints}
 use Rattle.definitions.specs.Value.{Value, Number, SqlType, HasType, scale_of, compare}
-use Rattle.definitions.specs.Statement.{Bound, Range, IndexFigures}
+use Rattle.definitions.specs.Statement.{Bound, Range, IndexStatistics}
 use Rattle.definitions.specs.Change.{bound_value, KeptAs}
 use Rattle.definitions.specs.Loading.{negated}
 use Rattle.definitions.specs.IndexFaults.{Falls, NeverKept}
 use Rattle.definitions.proofs.Ranking.{rank_as_compared, power_is_positive, scaled}
 use Rattle.definitions.proofs.Changes.{as_equal}
-use Rattle.catalog.specs.Figures.{RefusesRange, RefusesGiven}
-use Rattle.catalog.specs.declared.fault.FiguresFault.{FiguresFault}
-use Rattle.catalog.specs.declared.fault.FiguresFault.TheVariants as f
+use Rattle.catalog.specs.Statistics.{RefusesRange, RefusesGiven}
+use Rattle.catalog.specs.declared.fault.StatisticsFault.{StatisticsFault}
+use Rattle.catalog.specs.declared.fault.StatisticsFault.TheVariants as f
 
 -- two bounds compare as the units that they are kept as
 pub compared : (type : SqlType) (r : Range) (l h : ℤ) → KeptAs type r.low l → KeptAs type r.high h → compare (bound_value r.low) (bound_value r.high) ≡ Some (int_cmp l h)
@@ -58,8 +58,8 @@ pub never : (type : SqlType) (o : Option ℤ) (b : Bound) (v : Value) → v ≡ 
 never type (Some u) b v e h = h
 never type None b v e h = λ units kept. h (Number units (scale_of type)) (rw e kept)
 
--- a fault of LOW and HIGH is one of the figures
-pub given_refused : (type : SqlType) (given : IndexFigures) (r : Range) (fault : FiguresFault) → given.range ≡ Some r → RefusesRange type r fault → RefusesGiven type given fault
+-- a fault of LOW and HIGH is one of the statistics
+pub given_refused : (type : SqlType) (given : IndexStatistics) (r : Range) (fault : StatisticsFault) → given.range ≡ Some r → RefusesRange type r fault → RefusesGiven type given fault
 given_refused type given r f.Texts e h = (r, e, h)
 given_refused type given r (f.Unfit end) e h = (r, e, h)
 given_refused type given r f.Falls e h = (r, e, h)

@@ -9,7 +9,7 @@ use Rattle.definitions.specs.Value.{IsType}
 use Rattle.definitions.specs.Statement as statement
 use Rattle.definitions.specs.Statement.{Name, CreateTable}
 use Rattle.definitions.specs.Table.{Column, Index, Table, Database, is_key, table_named}
-use Rattle.definitions.specs.Figures.{index_figures}
+use Rattle.definitions.specs.Statistics.{index_statistics}
 use Rattle.definitions.specs.Change as made
 use Rattle.definitions.specs.Change.{Makes, column_of, new_index, key_indexes, new_table}
 use Rattle.definitions.specs.Faults as faults
@@ -90,10 +90,10 @@ keys_here : (b : Bool) (columns : List Column) (number : ℕ) (rest : List Index
 keys_here b columns number rest xs o e h = rw h at e
 
 key_here : (b : Bool) (columns : List Column) (number : ℕ) (rest : List Index) (xs : List Index) (o : List Index) → xs ++ without_rows columns (cond b (new_index true (number ∷ []) ∷ rest) rest) ≡ o → b ≡ true
-    → (xs ++ record { columns = number ∷ []; unique = true; figures = index_figures columns [] (number ∷ []) } ∷ []) ++ without_rows columns rest ≡ o
+    → (xs ++ record { columns = number ∷ []; unique = true; statistics = index_statistics columns [] (number ∷ []) } ∷ []) ++ without_rows columns rest ≡ o
 key_here b columns number rest xs o e h =
     let own = rw h at e in
-    append_assoc xs (record { columns = number ∷ []; unique = true; figures = index_figures columns [] (number ∷ []) } ∷ []) (without_rows columns rest) ∙ own
+    append_assoc xs (record { columns = number ∷ []; unique = true; statistics = index_statistics columns [] (number ∷ []) } ∷ []) (without_rows columns rest) ∙ own
 
 further : (columns : List StoredColumn) (ds : List ColumnDefinition) (number : ℕ) (d : ColumnDefinition) (xs : List Index) → number < length ds → d ≡ get_or ds number d
     → xs ++ without_rows (headers columns) (key_indexes number (definitions_of (drop number ds))) ≡ without_rows (headers columns) (key_indexes 0 (definitions_of ds))
@@ -112,7 +112,7 @@ no_key_made columns ds number d made' h e k m = record {
 pub key_made : (columns : List StoredColumn) (ds : List ColumnDefinition) (number : ℕ) (d : ColumnDefinition) (made' more : List StoredIndex) (new : StoredIndex) → number < length ds → d ≡ get_or ds number d → is_key (constraint_of d.constraint) ≡ true
     → length columns ≡ length ds → IsIndexOn (headers columns) [] (number ∷ []) true new → more ≡ made' ++ new ∷ [] → MadeSoFar columns ds number made' → MadeSoFar columns ds (number + 1) more
 key_made columns ds number d made' more new h e k l on add m =
-    let made_indexes : map index_of more ≡ map index_of made' ++ record { columns = number ∷ []; unique = true; figures = index_figures (headers columns) [] (number ∷ []) } ∷ [] =
+    let made_indexes : map index_of more ≡ map index_of made' ++ record { columns = number ∷ []; unique = true; statistics = index_statistics (headers columns) [] (number ∷ []) } ∷ [] =
     ap (map index_of) add ∙ map-append index_of made' (new ∷ []) ∙ ap (λ x. map index_of made' ++ x ∷ []) on.is in
     let columns_is : new.index.columns ≡ number ∷ [] = ap (λ (i : Index). i.columns) on.is in
     let there : AllByRecursion (λ n. n < length columns) (number ∷ []) = (omega (arith, h, l), tt) in

@@ -11,4 +11,4 @@ mod TableGrowth
 mod TableStatements
 mod TableIndexes
 mod NewTables
-mod SetFigures
+mod SetStatistics

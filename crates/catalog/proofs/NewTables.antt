@@ -3,8 +3,8 @@ use Rattle.std.proofs.Common.{◌≡◌, ◌∙◌, ap, ap₂, List, [], ◌∷�
 use Rattle.std.specs.List.{AllByRecursion}
 use Rattle.definitions.specs.Value.{IsType}
 use Rattle.definitions.specs.Statement.{Name, ColumnDefinition}
-use Rattle.definitions.specs.Table.{Column, TableFigures}
-use Rattle.definitions.specs.Figures.{row_width, pages_for}
+use Rattle.definitions.specs.Table.{Column, TableStatistics}
+use Rattle.definitions.specs.Statistics.{row_width, pages_for}
 use Rattle.definitions.specs.Change.{column_of, key_indexes, new_table}
 use Rattle.definitions.specs.Invariant.{IsTable}
 use Rattle.definitions.proofs.Counting.{new_is_table}
@@ -21,12 +21,12 @@ columns_typed (d ∷ ds) h = (h.0, columns_typed ds h.1)
 pub types_of_new : (ds : List ColumnDefinition) → AreTypes ds → AllByRecursion (λ (c : Column). IsType c.type) (headers (map empty_column ds))
 types_of_new ds h = rw (empty_headers ds) (columns_typed ds h)
 
-pub new_is : (own name : Name) (ds : List ColumnDefinition) (cs lent lent' : List StoredColumn) (is : List StoredIndex) (f : TableFigures) → own ≡ name → cs ≡ map empty_column ds → lent ≡ cs → lent' ≡ cs
+pub new_is : (own name : Name) (ds : List ColumnDefinition) (cs lent lent' : List StoredColumn) (is : List StoredIndex) (f : TableStatistics) → own ≡ name → cs ≡ map empty_column ds → lent ≡ cs → lent' ≡ cs
     → map (λ (i : StoredIndex). i.index) is ≡ without_rows (headers lent) (key_indexes 0 ds) → f ≡ record { rows = 0; pages = pages_for 0 (row_width (headers lent')) } → table_of own cs is 0 f ≡ new_table name ds
 new_is own name ds cs lent lent' is f e c l l' i g =
     let columns : headers cs ≡ map column_of ds = ap headers c ∙ empty_headers ds in
-    ap₂ (λ n cs'. record { name = n; columns = cs'; indexes = map (λ (x : StoredIndex). x.index) is; rows = []; figures = f }) e columns
-    ∙ ap₂ (λ xs x. record { name = name; columns = map column_of ds; indexes = xs; rows = []; figures = x })
+    ap₂ (λ n cs'. record { name = n; columns = cs'; indexes = map (λ (x : StoredIndex). x.index) is; rows = []; statistics = f }) e columns
+    ∙ ap₂ (λ xs x. record { name = name; columns = map column_of ds; indexes = xs; rows = []; statistics = x })
     (i ∙ ap (λ cs'. without_rows (headers cs') (key_indexes 0 ds)) l ∙ ap (λ hs. without_rows hs (key_indexes 0 ds)) columns)
     (g ∙ ap (λ cs'. record { rows = 0; pages = pages_for 0 (row_width (headers cs')) }) l' ∙ ap (λ hs. record { rows = 0; pages = pages_for 0 (row_width hs) }) columns)
 

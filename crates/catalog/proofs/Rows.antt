@@ -4,7 +4,7 @@ use Rattle.std.specs.List.{AllByRecursion, position_from}
 use Rattle.std.proofs.lemmas.List.{length-map, drop_more, drop_all}
 use Rattle.definitions.specs.Value.{Null, IsType}
 use Rattle.definitions.specs.Statement.{Name}
-use Rattle.definitions.specs.Table.{Column, Table, TableFigures}
+use Rattle.definitions.specs.Table.{Column, Table, TableStatistics}
 use Rattle.definitions.specs.Scanning.{part_of}
 use Rattle.loading.specs.Stored.{StoredColumn, AreFilled, headers}
 use Rattle.loading.proofs.Rows.{length-rows_of, filled_at, cell_in_rows, column_values, rows_as_long}
@@ -13,7 +13,7 @@ use Rattle.catalog.specs.Meaning.{cell_at, cells_in}
 use Rattle.catalog.specs.Growth.{IsOf}
 use Rattle.catalog.specs.Tables.{table_of}
 
-pub of_view : (name : Name) (cs : List StoredColumn) (is : List StoredIndex) (n : ℕ) (f : TableFigures) (t : Table) → table_of name cs is n f ≡ t → IsOf cs is n t
+pub of_view : (name : Name) (cs : List StoredColumn) (is : List StoredIndex) (n : ℕ) (f : TableStatistics) (t : Table) → table_of name cs is n f ≡ t → IsOf cs is n t
 of_view name cs is n f t e = record {
   columns = ap (λ (u : Table). u.columns) (sym e);
   indexes = ap (λ (u : Table). u.indexes) (sym e);

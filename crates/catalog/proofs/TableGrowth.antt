@@ -5,8 +5,8 @@ use Rattle.std.proofs.lemmas.List.{length-append, length-map}
 use Rattle.definitions.specs.Limits.{most_columns, most_rows}
 use Rattle.definitions.specs.Value.{IsType}
 use Rattle.definitions.specs.Statement.{Name}
-use Rattle.definitions.specs.Table.{Column, Row, Index, Table, TableFigures}
-use Rattle.definitions.specs.Figures.{index_figures, table_figures, row_width, pages_for}
+use Rattle.definitions.specs.Table.{Column, Row, Index, Table, TableStatistics}
+use Rattle.definitions.specs.Statistics.{index_statistics, table_statistics, row_width, pages_for}
 use Rattle.definitions.specs.Change.{with_rows}
 use Rattle.definitions.specs.Invariant.{IsTable}
 use Rattle.definitions.specs.Loading as load
@@ -39,7 +39,7 @@ index_of i = i.index
 
 -- indexes of all rows are those of the table, counted anew
 re_indexed : (columns : List Column) (rows : List Row) (is made : List StoredIndex) → AreExtended columns rows is made
-    → map index_of made ≡ map (λ (i : Index). record i { figures = index_figures columns rows i.columns }) (map index_of is)
+    → map index_of made ≡ map (λ (i : Index). record i { statistics = index_statistics columns rows i.columns }) (map index_of is)
 re_indexed columns rows [] [] h = refl
 re_indexed columns rows [] (x ∷ made) h = absurd h
 re_indexed columns rows (i ∷ is) [] h = absurd h
@@ -63,14 +63,14 @@ all_ordered columns rows cs items n m [] (x ∷ made) w e o h = absurd h
 all_ordered columns rows cs items n m (i ∷ is) [] w e o h = absurd h
 all_ordered columns rows cs items n m (i ∷ is) (x ∷ made) w e o h = (ordered_one columns rows items (length cs) m i x w e o.0.on h.0, all_ordered columns rows cs items n m is made w e o.1 h.1)
 
-pub record LoadedTable (name : Name) (bytes : List ℕ) (items : List StoredColumn) (made : List StoredIndex) (m count : ℕ) (f : TableFigures) (t : Table) : Type 0 where
+pub record LoadedTable (name : Name) (bytes : List ℕ) (items : List StoredColumn) (made : List StoredIndex) (m count : ℕ) (f : TableStatistics) (t : Table) : Type 0 where
   pub filled : AreFilled m items
   pub few : m ≤ most_rows
   pub ordered : AreOrdered items m made
   pub valid : IsTable (table_of name items made m f)
   pub loads : LoadsTable t bytes count (λ rows. table_of name items made m f ≡ with_rows t rows)
 
--- what LOAD has made of columns and indexes, before the figures are counted
+-- what LOAD has made of columns and indexes, before the statistics are counted
 pub record Loading (items : List StoredColumn) (made : List StoredIndex) (m : ℕ) (t : Table) (rows : List Row) : Type 0 where
   pub filled : AreFilled m items
   pub few : m ≤ most_rows
@@ -98,18 +98,18 @@ loading bytes cs new items is n t grown o filled ordered e g =
       many = omega (arith, g.count, rows_many cs is n t o, length-append t.rows g.rows);
     }
 
-pub loaded_table : (name : Name) (bytes : List ℕ) (cs new items : List StoredColumn) (is : List StoredIndex) (n : ℕ) (before f : TableFigures) (t : Table) (grown : Grown) → table_of name cs is n before ≡ t → AreFilled n cs → AreOrdered cs n is → IsTable t
+pub loaded_table : (name : Name) (bytes : List ℕ) (cs new items : List StoredColumn) (is : List StoredIndex) (n : ℕ) (before f : TableStatistics) (t : Table) (grown : Grown) → table_of name cs is n before ≡ t → AreFilled n cs → AreOrdered cs n is → IsTable t
     → items ≡ new → Grows t bytes is cs new grown → f ≡ record { rows = n + grown.rows; pages = pages_for (n + grown.rows) (row_width (headers items)) } → LoadedTable name bytes items grown.indexes.items (n + grown.rows) grown.rows f t
 loaded_table name bytes cs new items is n before f t grown v filled ordered valid e g c =
     let o = of_view name cs is n before t v in
     let now = loading bytes cs new items is n t grown o filled ordered e g in
-    let figures : f ≡ table_figures t.columns (t.rows ++ g.rows) = c ∙ ap₂ (λ m cs'. record { rows = m; pages = pages_for m (row_width cs') }) now.many now.columns in
-    let indexes : map index_of grown.indexes.items ≡ map (λ (i : Index). record i { figures = index_figures t.columns (t.rows ++ g.rows) i.columns }) t.indexes =
-    re_indexed t.columns (t.rows ++ g.rows) is grown.indexes.items g.extended ∙ ap (map (λ (i : Index). record i { figures = index_figures t.columns (t.rows ++ g.rows) i.columns })) (sym o.indexes) in
+    let statistics : f ≡ table_statistics t.columns (t.rows ++ g.rows) = c ∙ ap₂ (λ m cs'. record { rows = m; pages = pages_for m (row_width cs') }) now.many now.columns in
+    let indexes : map index_of grown.indexes.items ≡ map (λ (i : Index). record i { statistics = index_statistics t.columns (t.rows ++ g.rows) i.columns }) t.indexes =
+    re_indexed t.columns (t.rows ++ g.rows) is grown.indexes.items g.extended ∙ ap (map (λ (i : Index). record i { statistics = index_statistics t.columns (t.rows ++ g.rows) i.columns })) (sym o.indexes) in
     let whole : table_of name items grown.indexes.items (n + grown.rows) f ≡ with_rows t g.rows =
-    ap (λ (x : Table). record x { columns = headers items; indexes = map index_of grown.indexes.items; rows = rows_of (n + grown.rows) items; figures = f }) v
-    ∙ ap₂ (λ cs' xs. record t { columns = cs'; indexes = xs; rows = rows_of (n + grown.rows) items; figures = f }) now.columns indexes
-    ∙ ap₂ (λ rs x. record t { indexes = map (λ (i : Index). record i { figures = index_figures t.columns (t.rows ++ g.rows) i.columns }) t.indexes; rows = rs; figures = x }) now.all_rows figures in
+    ap (λ (x : Table). record x { columns = headers items; indexes = map index_of grown.indexes.items; rows = rows_of (n + grown.rows) items; statistics = f }) v
+    ∙ ap₂ (λ cs' xs. record t { columns = cs'; indexes = xs; rows = rows_of (n + grown.rows) items; statistics = f }) now.columns indexes
+    ∙ ap₂ (λ rs x. record t { indexes = map (λ (i : Index). record i { statistics = index_statistics t.columns (t.rows ++ g.rows) i.columns }) t.indexes; rows = rs; statistics = x }) now.all_rows statistics in
     record {
       filled = now.filled;
       few = now.few;
@@ -127,18 +127,18 @@ own_refusal bytes cs cs' is is' n t fault e f h o = let all = rw (e, f) at h in 
 
 -- ---- the same, of lent columns and indexes
 
-pub loading_own : (name : Name) (bytes : List ℕ) (cs cs' new items : List StoredColumn) (is is' : List StoredIndex) (n : ℕ) (before : TableFigures) (t : Table) (grown : Grown) → table_of name cs is n before ≡ t → AreFilled n cs → AreOrdered cs n is
+pub loading_own : (name : Name) (bytes : List ℕ) (cs cs' new items : List StoredColumn) (is is' : List StoredIndex) (n : ℕ) (before : TableStatistics) (t : Table) (grown : Grown) → table_of name cs is n before ≡ t → AreFilled n cs → AreOrdered cs n is
     → cs' ≡ cs → is' ≡ is → ((u : Table) → IsOf cs' is' n u → Grows u bytes is' cs' new grown) → items ≡ new → (rows : List Row) × Loading items grown.indexes.items (n + grown.rows) t rows
 loading_own name bytes cs cs' new items is is' n before t grown v filled ordered e f h i =
     let o = of_view name cs is n before t v in
     let g = own_growth bytes cs cs' new is is' n t grown e f h o in
     (g.rows, loading bytes cs new items is n t grown o filled ordered i g)
 
-pub loaded_own : (name : Name) (bytes : List ℕ) (cs cs' new items : List StoredColumn) (is is' : List StoredIndex) (n : ℕ) (before figures : TableFigures) (t : Table) (grown : Grown) → table_of name cs is n before ≡ t → AreFilled n cs → AreOrdered cs n is
-    → IsTable t → cs' ≡ cs → is' ≡ is → ((u : Table) → IsOf cs' is' n u → Grows u bytes is' cs' new grown) → items ≡ new → figures ≡ record { rows = n + grown.rows; pages = pages_for (n + grown.rows) (row_width (headers items)) }
-    → LoadedTable name bytes items grown.indexes.items (n + grown.rows) grown.rows figures t
-loaded_own name bytes cs cs' new items is is' n before figures t grown v filled ordered valid e f h i j =
-    loaded_table name bytes cs new items is n before figures t grown v filled ordered valid i (own_growth bytes cs cs' new is is' n t grown e f h (of_view name cs is n before t v)) j
+pub loaded_own : (name : Name) (bytes : List ℕ) (cs cs' new items : List StoredColumn) (is is' : List StoredIndex) (n : ℕ) (before statistics : TableStatistics) (t : Table) (grown : Grown) → table_of name cs is n before ≡ t → AreFilled n cs → AreOrdered cs n is
+    → IsTable t → cs' ≡ cs → is' ≡ is → ((u : Table) → IsOf cs' is' n u → Grows u bytes is' cs' new grown) → items ≡ new → statistics ≡ record { rows = n + grown.rows; pages = pages_for (n + grown.rows) (row_width (headers items)) }
+    → LoadedTable name bytes items grown.indexes.items (n + grown.rows) grown.rows statistics t
+loaded_own name bytes cs cs' new items is is' n before statistics t grown v filled ordered valid e f h i j =
+    loaded_table name bytes cs new items is n before statistics t grown v filled ordered valid i (own_growth bytes cs cs' new is is' n t grown e f h (of_view name cs is n before t v)) j
 
 pub types_now : (items : List StoredColumn) (made : List StoredIndex) (m : ℕ) (t : Table) (rows : List Row) → IsTable t → Loading items made m t rows → AllByRecursion (λ (c : Column). IsType c.type) (headers items) × (length items ≤ most_columns)
 types_now items made m t rows s now =

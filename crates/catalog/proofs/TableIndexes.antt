@@ -1,12 +1,12 @@
--- An index that is added to a table, and one whose figures are set.
+-- An index that is added to a table, and one whose statistics are set.
 use Rattle.std.proofs.Common.{◌≡◌, ◌∙◌, refl, sym, ap, ap₂, ℕ, ◌+◌, ◌<◌, List, [], ◌∷◌, ◌++◌, Option, Some, None, Bool, true, false, cond, length, map}
 use Rattle.std.specs.Prelude.{find}
 use Rattle.std.specs.List.{AllByRecursion, position_from}
 use Rattle.std.proofs.lemmas.List.{map-append}
 use Rattle.definitions.specs.Statement.{Name}
-use Rattle.definitions.specs.Table.{Index, Table, TableFigures, is_on, index_on}
+use Rattle.definitions.specs.Table.{Index, Table, TableStatistics, is_on, index_on}
 use Rattle.definitions.specs.Key.{key_of, AreUnique}
-use Rattle.definitions.specs.Figures.{index_figures}
+use Rattle.definitions.specs.Statistics.{index_statistics}
 use Rattle.definitions.specs.Change.{with_index}
 use Rattle.definitions.specs.Invariant.{IsTable}
 use Rattle.definitions.proofs.Changes.{with_index_is_table, numbers_found}
@@ -54,19 +54,19 @@ new_is_ordered cs n ns unique new on i =
     let kind : new.index.unique ≡ unique = ap (λ (x : Index). x.unique) i.is in
     record { on = rw columns on; run = rw columns i.run; once = λ u. rw columns (i.once (sym kind ∙ u)) }
 
-pub record AddedIndex (name : Name) (cs : List StoredColumn) (is : List StoredIndex) (n : ℕ) (f : TableFigures) (t : Table) (unique : Bool) (names : List Name) : Type 0 where
+pub record AddedIndex (name : Name) (cs : List StoredColumn) (is : List StoredIndex) (n : ℕ) (f : TableStatistics) (t : Table) (unique : Bool) (names : List Name) : Type 0 where
   pub ordered : AreOrdered cs n is
   pub adds : AddsIndex t unique names (table_of name cs is n f)
   pub valid : IsTable (table_of name cs is n f)
 
-pub added_index : (name : Name) (cs : List StoredColumn) (is more : List StoredIndex) (n : ℕ) (f : TableFigures) (t : Table) (unique : Bool) (names : List Name) (ns : List ℕ) (new : StoredIndex) → table_of name cs is n f ≡ t → AreOrdered cs n is → IsTable t
+pub added_index : (name : Name) (cs : List StoredColumn) (is more : List StoredIndex) (n : ℕ) (f : TableStatistics) (t : Table) (unique : Bool) (names : List Name) (ns : List ℕ) (new : StoredIndex) → table_of name cs is n f ≡ t → AreOrdered cs n is → IsTable t
     → MayIndex t names ns → AreIndexColumns (length cs) ns → IsIndexOn (headers cs) (rows_of n cs) ns unique new → more ≡ is ++ new ∷ [] → AddedIndex name cs more n f t unique names
 added_index name cs is more n f t unique names ns new v ordered valid may on i add =
     let o = of_view name cs is n f t v in
     let once : unique ≡ true → AreUnique (map (key_of ns) t.rows) = rw o.rows i.once in
-    let added : map (λ (x : StoredIndex). x.index) more ≡ t.indexes ++ record { columns = ns; unique = unique; figures = index_figures t.columns t.rows ns } ∷ [] =
+    let added : map (λ (x : StoredIndex). x.index) more ≡ t.indexes ++ record { columns = ns; unique = unique; statistics = index_statistics t.columns t.rows ns } ∷ [] =
     ap (map (λ (x : StoredIndex). x.index)) add ∙ map-append (λ (x : StoredIndex). x.index) is (new ∷ [])
-    ∙ ap₂ (λ xs x. xs ++ x ∷ []) (sym o.indexes) (i.is ∙ ap₂ (λ hs rs. record { columns = ns; unique = unique; figures = index_figures hs rs ns }) (sym o.columns) (sym o.rows)) in
+    ∙ ap₂ (λ xs x. xs ++ x ∷ []) (sym o.indexes) (i.is ∙ ap₂ (λ hs rs. record { columns = ns; unique = unique; statistics = index_statistics hs rs ns }) (sym o.columns) (sym o.rows)) in
     let whole : table_of name cs more n f ≡ with_index t unique ns =
     ap (λ (x : Table). record x { indexes = map (λ (y : StoredIndex). y.index) more }) v ∙ ap (λ xs. record t { indexes = xs }) added in
     let there : AllByRecursion (λ k. k < length t.columns) ns = (numbers_found t.columns names ns may.found).there in
@@ -77,11 +77,11 @@ added_index name cs is more n f t unique names ns new v ordered valid may on i a
     }
 
 -- what a push leaves of a table's indexes
-pub record PushedIndex (name : Name) (cs : List StoredColumn) (more : List StoredIndex) (n : ℕ) (f : TableFigures) : Type 0 where
+pub record PushedIndex (name : Name) (cs : List StoredColumn) (more : List StoredIndex) (n : ℕ) (f : TableStatistics) : Type 0 where
   pub ordered : AreOrdered cs n more
   pub valid : IsTable (table_of name cs more n f)
 
-pub pushed_index : (pushed : Bool) (name : Name) (cs cs' : List StoredColumn) (is more : List StoredIndex) (n : ℕ) (f : TableFigures) (t : Table) (unique : Bool) (names : List Name) (ns : List ℕ) (new : StoredIndex) → table_of name cs is n f ≡ t → AreOrdered cs n is
+pub pushed_index : (pushed : Bool) (name : Name) (cs cs' : List StoredColumn) (is more : List StoredIndex) (n : ℕ) (f : TableStatistics) (t : Table) (unique : Bool) (names : List Name) (ns : List ℕ) (new : StoredIndex) → table_of name cs is n f ≡ t → AreOrdered cs n is
     → IsTable (table_of name cs is n f) → MayIndex t names ns → AreIndexColumns (length t.columns) ns → cs' ≡ cs → IsIndexOn (headers cs') (rows_of n cs') ns unique new → more ≡ cond pushed (is ++ new ∷ []) is → PushedIndex name cs more n f
 pushed_index true name cs cs' is more n f t unique names ns new v ordered valid may on lent i add =
     let valid' : IsTable t = rw v at valid in
@@ -91,7 +91,7 @@ pushed_index true name cs cs' is more n f t unique names ns new v ordered valid 
     record { ordered = a.ordered; valid = a.valid }
 pushed_index false name cs cs' is more n f t unique names ns new v ordered valid may on lent i add = record { ordered = rw add ordered; valid = rw add valid }
 
-pub adds_index : (name : Name) (cs cs' : List StoredColumn) (is more : List StoredIndex) (n : ℕ) (f : TableFigures) (t : Table) (unique : Bool) (names : List Name) (ns : List ℕ) (new : StoredIndex) → table_of name cs is n f ≡ t → AreOrdered cs n is
+pub adds_index : (name : Name) (cs cs' : List StoredColumn) (is more : List StoredIndex) (n : ℕ) (f : TableStatistics) (t : Table) (unique : Bool) (names : List Name) (ns : List ℕ) (new : StoredIndex) → table_of name cs is n f ≡ t → AreOrdered cs n is
     → IsTable (table_of name cs is n f) → MayIndex t names ns → AreIndexColumns (length t.columns) ns → cs' ≡ cs → IsIndexOn (headers cs') (rows_of n cs') ns unique new → more ≡ is ++ new ∷ [] → AddsIndex t unique names (table_of name cs more n f)
 adds_index name cs cs' is more n f t unique names ns new v ordered valid may on lent i add =
     let valid' : IsTable t = rw v at valid in

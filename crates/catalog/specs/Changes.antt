@@ -3,23 +3,23 @@ use Rattle.std.specs.Prelude.{ℕ, ◌<◌, ◌≤◌, ◌≡◌, Bool, true, Li
 use Rattle.definitions.specs.Limits.{most_indexes, most_index_columns}
 use Rattle.definitions.specs.Value.{SqlType}
 use Rattle.definitions.specs.Statement.{Name, CreateIndex}
-use Rattle.definitions.specs.Statement.{IndexFigures as Given}
-use Rattle.definitions.specs.Table.{Table, Database, Index, IndexFigures, AreDistinct, column_numbers, index_on}
+use Rattle.definitions.specs.Statement.{IndexStatistics as Given}
+use Rattle.definitions.specs.Table.{Table, Database, Index, IndexStatistics, AreDistinct, column_numbers, index_on}
 use Rattle.definitions.specs.Key.{key_of, AreUnique}
-use Rattle.definitions.specs.Change.{with_index, with_index_figures, first_type, FiguresKept, RepeatsKeys}
+use Rattle.definitions.specs.Change.{with_index, with_index_statistics, first_type, StatisticsKept, RepeatsKeys}
 use Rattle.definitions.specs.Faults.{Faulty, IsAccepted}
 use Rattle.indexes.specs.Repeats.{IsFirstRepeated}
 use Rattle.catalog.specs.Lists.{RefusesList}
-use Rattle.catalog.specs.Figures.{IsGiven, RefusesGiven}
+use Rattle.catalog.specs.Statistics.{IsGiven, RefusesGiven}
 use Rattle.catalog.specs.Loads.{OfTable}
 use Rattle.catalog.specs.Meaning.{index_refusal}
 use Rattle.catalog.specs.declared.fault.IndexFault.{IndexFault}
 use Rattle.catalog.specs.declared.fault.IndexFault.TheVariants as i
 use Rattle.definitions.specs.Invariant.{IsCount, IsPageCount}
-use Rattle.catalog.specs.declared.fault.TableFiguresFault.{TableFiguresFault}
-use Rattle.catalog.specs.declared.fault.TableFiguresFault.TheVariants as t
-use Rattle.catalog.specs.declared.fault.FiguresFault.{FiguresFault}
-use Rattle.catalog.specs.declared.fault.FiguresFault.TheVariants as f
+use Rattle.catalog.specs.declared.fault.TableStatisticsFault.{TableStatisticsFault}
+use Rattle.catalog.specs.declared.fault.TableStatisticsFault.TheVariants as t
+use Rattle.catalog.specs.declared.fault.StatisticsFault.{StatisticsFault}
+use Rattle.catalog.specs.declared.fault.StatisticsFault.TheVariants as f
 
 -- ---- CREATE INDEX
 
@@ -63,25 +63,25 @@ pub record SetsIndex (t : Table) (names : List Name) (given : Given) (new : Tabl
   pub numbers : List ℕ
   pub index : Index
   pub type : SqlType
-  pub kept : IndexFigures
+  pub kept : IndexStatistics
   pub some : 0 < length names
   pub short : length names ≤ most_index_columns
   pub found : column_numbers t.columns names ≡ Some numbers
   pub on : index_on t.indexes numbers ≡ Some index
   pub first : first_type t.columns names ≡ Some type
   pub may : IsGiven given
-  pub keeps : FiguresKept type given kept
-  pub is : new ≡ with_index_figures t numbers kept
+  pub keeps : StatisticsKept type given kept
+  pub is : new ≡ with_index_statistics t numbers kept
 
 -- why they are not set
-abbrev pub RefusesFigures : Table → List Name → Given → FiguresFault → Type 0
-RefusesFigures t names given (f.List fault) = RefusesList t.columns names fault
-RefusesFigures t names given f.NoIndex = (numbers : List ℕ) × (column_numbers t.columns names ≡ Some numbers) × (index_on t.indexes numbers ≡ None)
-RefusesFigures t names given fault = (type : SqlType) × (first_type t.columns names ≡ Some type) × RefusesGiven type given fault
+abbrev pub RefusesStatistics : Table → List Name → Given → StatisticsFault → Type 0
+RefusesStatistics t names given (f.List fault) = RefusesList t.columns names fault
+RefusesStatistics t names given f.NoIndex = (numbers : List ℕ) × (column_numbers t.columns names ≡ Some numbers) × (index_on t.indexes numbers ≡ None)
+RefusesStatistics t names given fault = (type : SqlType) × (first_type t.columns names ≡ Some type) × RefusesGiven type given fault
 
 -- ---- SET STATISTICS of a table
 
-abbrev pub RefusesTableFigures : (rows pages : ℕ) → TableFiguresFault → Type 0
-RefusesTableFigures rows pages t.NoTable = ⊥
-RefusesTableFigures rows pages t.Rows = ¬ (IsCount rows)
-RefusesTableFigures rows pages t.Pages = ¬ (IsPageCount pages)
+abbrev pub RefusesTableStatistics : (rows pages : ℕ) → TableStatisticsFault → Type 0
+RefusesTableStatistics rows pages t.NoTable = ⊥
+RefusesTableStatistics rows pages t.Rows = ¬ (IsCount rows)
+RefusesTableStatistics rows pages t.Pages = ¬ (IsPageCount pages)

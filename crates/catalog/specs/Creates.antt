@@ -5,7 +5,7 @@ use Rattle.definitions.specs.Limits.{most_columns, most_indexes}
 use Rattle.definitions.specs.Value.{IsType}
 use Rattle.definitions.specs.Statement.{ColumnDefinition}
 use Rattle.definitions.specs.Table.{Column, Index, AreDistinct, is_key, is_primary}
-use Rattle.definitions.specs.Figures.{index_figures}
+use Rattle.definitions.specs.Statistics.{index_statistics}
 use Rattle.definitions.specs.Faults.{count_of, definition_names}
 use Rattle.definitions.specs.Lists.{AnyOf}
 use Rattle.loading.specs.Stored.{StoredColumn, named}
@@ -40,6 +40,6 @@ RefusesDefinitions definitions _ = ⊥
 abbrev pub empty_column : ColumnDefinition → StoredColumn
 empty_column d = named d.name d.constraint (record { type = d.type; values = [] })
 
--- indexes with their figures counted over no rows
+-- indexes with their statistics counted over no rows
 abbrev pub without_rows : List Column → List Index → List Index
-without_rows columns = map (λ (i : Index). record i { figures = index_figures columns [] i.columns })
+without_rows columns = map (λ (i : Index). record i { statistics = index_statistics columns [] i.columns })

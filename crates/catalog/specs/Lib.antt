@@ -4,7 +4,7 @@ pub use Rattle.definitions.specs.Loading
 pub mod Meaning
 pub mod Lists
 pub mod Creates
-pub mod Figures
+pub mod Statistics
 pub mod Growth
 pub mod Loads
 pub mod Changes

@@ -10,10 +10,10 @@ use Rattle.catalog.specs.declared.fault.ListFault.{ListFault}
 use Rattle.catalog.specs.declared.fault.ListFault.TheVariants as l
 use Rattle.catalog.specs.declared.fault.IndexFault.{IndexFault}
 use Rattle.catalog.specs.declared.fault.IndexFault.TheVariants as i
-use Rattle.catalog.specs.declared.fault.TableFiguresFault.{TableFiguresFault}
-use Rattle.catalog.specs.declared.fault.TableFiguresFault.TheVariants as t
-use Rattle.catalog.specs.declared.fault.FiguresFault.{FiguresFault}
-use Rattle.catalog.specs.declared.fault.FiguresFault.TheVariants as f
+use Rattle.catalog.specs.declared.fault.TableStatisticsFault.{TableStatisticsFault}
+use Rattle.catalog.specs.declared.fault.TableStatisticsFault.TheVariants as t
+use Rattle.catalog.specs.declared.fault.StatisticsFault.{StatisticsFault}
+use Rattle.catalog.specs.declared.fault.StatisticsFault.TheVariants as f
 
 -- the refusals that faults are; none where memory was wanting
 abbrev pub create_refusal : CreateFault → Option refusal.Refusal
@@ -41,19 +41,19 @@ index_refusal i.ManyIndexes = Some refusal.OverLimit
 index_refusal (i.Repeated key) = Some refusal.NullOrRepeated
 index_refusal i.Memory = None
 
-abbrev pub table_figures_refusal : TableFiguresFault → refusal.Refusal
-table_figures_refusal t.NoTable = refusal.NotFound
-table_figures_refusal t.Rows = refusal.OverLimit
-table_figures_refusal t.Pages = refusal.OverLimit
+abbrev pub table_statistics_refusal : TableStatisticsFault → refusal.Refusal
+table_statistics_refusal t.NoTable = refusal.NotFound
+table_statistics_refusal t.Rows = refusal.OverLimit
+table_statistics_refusal t.Pages = refusal.OverLimit
 
-abbrev pub figures_refusal : FiguresFault → Option refusal.Refusal
-figures_refusal (f.List fault) = list_refusal fault
-figures_refusal f.NoIndex = Some refusal.NotFound
-figures_refusal f.Keys = Some refusal.OverLimit
-figures_refusal f.Pages = Some refusal.OverLimit
-figures_refusal f.Texts = Some refusal.MixedKinds
-figures_refusal (f.Unfit end) = Some refusal.OverLimit
-figures_refusal f.Falls = Some refusal.OverLimit
+abbrev pub statistics_refusal : StatisticsFault → Option refusal.Refusal
+statistics_refusal (f.List fault) = list_refusal fault
+statistics_refusal f.NoIndex = Some refusal.NotFound
+statistics_refusal f.Keys = Some refusal.OverLimit
+statistics_refusal f.Pages = Some refusal.OverLimit
+statistics_refusal f.Texts = Some refusal.MixedKinds
+statistics_refusal (f.Unfit end) = Some refusal.OverLimit
+statistics_refusal f.Falls = Some refusal.OverLimit
 
 -- the value in a row and a column of a table
 abbrev pub cell_at : table.Table → (row column : ℕ) → value.Value

@@ -1,23 +1,23 @@
-//! The figures that SET STATISTICS gives for an index (own).
+//! The statistics that SET STATISTICS gives for an index (own).
 
 ghost use Rattle.std.specs.Prelude.{◌≡◌, ◌≤◌, ℕ, ℤ, Some, IfOk, IfErr, IfSome, IfNone, OnOk};
 ghost use Rattle.definitions.specs.Value as spec;
-ghost use Rattle.definitions.specs.Change.{FiguresKept, KeptAs, RangeKept};
+ghost use Rattle.definitions.specs.Change.{StatisticsKept, KeptAs, RangeKept};
 ghost use Rattle.definitions.specs.IndexFaults.{Falls, NeverKept};
 ghost use Rattle.definitions.specs.Invariant.{IsCount, IsPageCount};
 ghost use Rattle.definitions.specs.Table as table;
 ghost use Rattle.sqlvalue.specs.Meaning.{type_of};
-ghost use Rattle.indexes.specs.Meaning.{index_figures_of, key_range_of};
-ghost use Rattle.parse_tree.specs.Trees.{bound_of, range_of, figures_of};
-ghost use Rattle.catalog.specs.Figures.{IsGiven, RefusesGiven, RefusesRange};
+ghost use Rattle.indexes.specs.Meaning.{index_statistics_of, key_range_of};
+ghost use Rattle.parse_tree.specs.Trees.{bound_of, range_of, statistics_of};
+ghost use Rattle.catalog.specs.Statistics.{IsGiven, RefusesGiven, RefusesRange};
 
-use crate::fault::{FiguresFault, RangeEnd};
-use indexes::{IndexFigures, KeyRange};
+use crate::fault::{StatisticsFault, RangeEnd};
+use indexes::{IndexStatistics, KeyRange};
 use loading::{WrittenNumber, units_in};
 use parse_tree::{Bound, Range};
 use sqlvalue::SqlType;
 
-/// The greatest figure that SET STATISTICS may give (own).
+/// The greatest statistic that SET STATISTICS may give (own).
 pub const MAX_FIGURE: u128 = 1_000_000_000_000_000_000;
 
 /// A count of rows or keys, if it is in range.
@@ -46,21 +46,21 @@ pub(crate) fn page_count(given: u128) -> Option<u64>
     }
 }
 
-/// The figures as they are kept for an index whose first column is of a type.
-pub(crate) fn kept_figures(
-    given: &parse_tree::IndexFigures,
+/// The statistics as they are kept for an index whose first column is of a type.
+pub(crate) fn kept_statistics(
+    given: &parse_tree::IndexStatistics,
     sql_type: SqlType,
-) -> Result<IndexFigures, FiguresFault>
+) -> Result<IndexStatistics, StatisticsFault>
     requires { spec.IsType (type_of sql_type) }
-    ensures kept { IfOk result (λ kept. FiguresKept (type_of sql_type) (figures_of given.now) (index_figures_of kept)) }
-    ensures given { OnOk result (IsGiven (figures_of given.now)) }
-    ensures refused { IfErr result (RefusesGiven (type_of sql_type) (figures_of given.now)) }
+    ensures kept { IfOk result (λ kept. StatisticsKept (type_of sql_type) (statistics_of given.now) (index_statistics_of kept)) }
+    ensures given { OnOk result (IsGiven (statistics_of given.now)) }
+    ensures refused { IfErr result (RefusesGiven (type_of sql_type) (statistics_of given.now)) }
 {
     let Some(keys) = row_count(given.keys.units) else {
-        return Err(FiguresFault::Keys);
+        return Err(StatisticsFault::Keys);
     };
     let Some(pages) = page_count(given.pages.units) else {
-        return Err(FiguresFault::Pages);
+        return Err(StatisticsFault::Pages);
     };
     let range = match given.range {
         Some(range) => match kept_range(range, sql_type) {
@@ -69,7 +69,7 @@ pub(crate) fn kept_figures(
         },
         None => None,
     };
-    Ok(IndexFigures {
+    Ok(IndexStatistics {
         keys,
         pages,
         clustered: given.clustered,
@@ -78,25 +78,25 @@ pub(crate) fn kept_figures(
 }
 
 /// LOW and HIGH in units at the scale of a type, whose values equal to them they stand for.
-fn kept_range(range: Range, sql_type: SqlType) -> Result<KeyRange, FiguresFault>
+fn kept_range(range: Range, sql_type: SqlType) -> Result<KeyRange, StatisticsFault>
     requires { spec.IsType (type_of sql_type) }
     ensures kept { IfOk result (λ kept. RangeKept (type_of sql_type) (Some (range_of range)) (Some (key_range_of kept))) }
     ensures rising { OnOk result (¬ (Falls (range_of range))) }
     ensures refused { IfErr result (RefusesRange (type_of sql_type) (range_of range)) }
 {
     if let SqlType::Char { .. } = sql_type {
-        return Err(FiguresFault::Texts);
+        return Err(StatisticsFault::Texts);
     }
     let Some(low) = kept_units(range.low, sql_type) else {
-        return Err(FiguresFault::Unfit { end: RangeEnd::Low });
+        return Err(StatisticsFault::Unfit { end: RangeEnd::Low });
     };
     let Some(high) = kept_units(range.high, sql_type) else {
-        return Err(FiguresFault::Unfit {
+        return Err(StatisticsFault::Unfit {
             end: RangeEnd::High,
         });
     };
     if low > high {
-        return Err(FiguresFault::Falls);
+        return Err(StatisticsFault::Falls);
     }
     Ok(KeyRange {
         low: i128::from(low),

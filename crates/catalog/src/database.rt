@@ -8,14 +8,14 @@ ghost use Rattle.definitions.specs.Table.{table_named};
 ghost use Rattle.definitions.specs.Invariant as invariant;
 ghost use Rattle.definitions.specs.Change.{Makes};
 ghost use Rattle.definitions.specs.Faults.{Faulty, IsAccepted};
-ghost use Rattle.parse_tree.specs.Trees.{name_of, definitions_of, figures_of};
-ghost use Rattle.catalog.specs.Meaning.{create_refusal, table_figures_refusal, figures_refusal};
+ghost use Rattle.parse_tree.specs.Trees.{name_of, definitions_of, statistics_of};
+ghost use Rattle.catalog.specs.Meaning.{create_refusal, table_statistics_refusal, statistics_refusal};
 ghost use Rattle.catalog.specs.Changes.{RefusesIndex};
 ghost use Rattle.catalog.specs.Loads.{LoadsNamed, RefusesNamed};
 
 use crate::creation::judge_definitions;
 use crate::fault::{
-    CreateFault, FiguresFault, IndexFault, ListFault, LoadFault, TableFiguresFault,
+    CreateFault, StatisticsFault, IndexFault, ListFault, LoadFault, TableStatisticsFault,
 };
 use crate::table::Table;
 use parse_tree::{ColumnDefinition, Name};
@@ -123,15 +123,15 @@ impl Database {
         table: &str,
         rows: u128,
         pages: u128,
-    ) -> Result<(), TableFiguresFault>
+    ) -> Result<(), TableStatisticsFault>
         ensures accepted { OnOk result (IsAccepted self.old (SetTable table.now rows pages)) }
         ensures made { OnOk result (Makes self.old (SetTable table.now rows pages) self.new) }
-        ensures refused { IfErr result (λ fault. Faulty self.old (SetTable table.now rows pages) (table_figures_refusal fault)) }
+        ensures refused { IfErr result (λ fault. Faulty self.old (SetTable table.now rows pages) (table_statistics_refusal fault)) }
         ensures err { OnErr result (self.new ≡ self.old) }
     {
         match self.place(table) {
-            Some(place) => self.tables[place].set_figures(rows, pages),
-            None => Err(TableFiguresFault::NoTable),
+            Some(place) => self.tables[place].set_statistics(rows, pages),
+            None => Err(TableStatisticsFault::NoTable),
         }
     }
 
@@ -141,17 +141,17 @@ impl Database {
         &mut self,
         table: &str,
         columns: &[Name],
-        figures: &parse_tree::IndexFigures,
-    ) -> Result<(), FiguresFault>
-        ensures accepted { OnOk result (IsAccepted self.old (SetIndex table.now (map name_of columns.now) (figures_of figures.now))) }
-        ensures made { OnOk result (Makes self.old (SetIndex table.now (map name_of columns.now) (figures_of figures.now)) self.new) }
-        ensures refused { IfErr result (λ fault. IfSome (figures_refusal fault) (Faulty self.old (SetIndex table.now (map name_of columns.now) (figures_of figures.now)))) }
+        statistics: &parse_tree::IndexStatistics,
+    ) -> Result<(), StatisticsFault>
+        ensures accepted { OnOk result (IsAccepted self.old (SetIndex table.now (map name_of columns.now) (statistics_of statistics.now))) }
+        ensures made { OnOk result (Makes self.old (SetIndex table.now (map name_of columns.now) (statistics_of statistics.now)) self.new) }
+        ensures refused { IfErr result (λ fault. IfSome (statistics_refusal fault) (Faulty self.old (SetIndex table.now (map name_of columns.now) (statistics_of statistics.now)))) }
         ensures err { OnErr result (self.new ≡ self.old) }
     {
         let alloc = self.alloc;
         match self.place(table) {
-            Some(place) => self.tables[place].set_index_figures(alloc, columns, figures),
-            None => Err(FiguresFault::List(ListFault::NoTable)),
+            Some(place) => self.tables[place].set_index_statistics(alloc, columns, statistics),
+            None => Err(StatisticsFault::List(ListFault::NoTable)),
         }
     }
 

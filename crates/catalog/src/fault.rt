@@ -2,7 +2,7 @@
 
 ghost use Rattle.std.specs.Prelude.{◌≡◌, option_map};
 ghost use Rattle.sqlvalue.specs.RefusalMeaning.{refusal_of};
-ghost use Rattle.catalog.specs.Meaning.{create_refusal, list_refusal, index_refusal, table_figures_refusal, figures_refusal};
+ghost use Rattle.catalog.specs.Meaning.{create_refusal, list_refusal, index_refusal, table_statistics_refusal, statistics_refusal};
 ghost use Rattle.catalog.specs.declared.fault.CreateFault.TheVariants as create;
 ghost use Rattle.catalog.specs.declared.fault.ListFault.TheVariants as list;
 ghost use Rattle.catalog.specs.declared.fault.IndexFault.TheVariants as index;
@@ -150,7 +150,7 @@ impl<T: Drop> From<AllocFailed<T>> for IndexFault {
 
 /// Why SET STATISTICS of a table is refused.
 #[derive(Clone, Copy, Debug, PartialEq, Eq, Error)]
-pub enum TableFiguresFault {
+pub enum TableStatisticsFault {
     #[error("there is no such table")]
     NoTable,
     #[error("ROWS is out of range")]
@@ -159,14 +159,14 @@ pub enum TableFiguresFault {
     Pages,
 }
 
-impl TableFiguresFault {
+impl TableStatisticsFault {
     /// The refusal that it is.
     pub fn refusal(self) -> Refusal
-        ensures { refusal_of result ≡ table_figures_refusal self }
+        ensures { refusal_of result ≡ table_statistics_refusal self }
     {
         match self {
-            TableFiguresFault::NoTable => Refusal::NotFound,
-            TableFiguresFault::Rows | TableFiguresFault::Pages => Refusal::OverLimit,
+            TableStatisticsFault::NoTable => Refusal::NotFound,
+            TableStatisticsFault::Rows | TableStatisticsFault::Pages => Refusal::OverLimit,
         }
     }
 }
@@ -180,7 +180,7 @@ pub enum RangeEnd {
 
 /// Why SET STATISTICS of an index is refused.
 #[derive(Clone, Copy, Debug, PartialEq, Eq, Error)]
-pub enum FiguresFault {
+pub enum StatisticsFault {
     #[error("the list stands for no columns")]
     List(ListFault),
     #[error("there is no index on that list")]
@@ -197,19 +197,19 @@ pub enum FiguresFault {
     Falls,
 }
 
-impl FiguresFault {
+impl StatisticsFault {
     /// The refusal that it is, unless memory was wanting.
     pub fn refusal(self) -> Option<Refusal>
-        ensures { option_map refusal_of result ≡ figures_refusal self }
+        ensures { option_map refusal_of result ≡ statistics_refusal self }
     {
         match self {
-            FiguresFault::List(fault) => fault.refusal(),
-            FiguresFault::NoIndex => Some(Refusal::NotFound),
-            FiguresFault::Texts => Some(Refusal::MixedKinds),
-            FiguresFault::Keys
-            | FiguresFault::Pages
-            | FiguresFault::Unfit { .. }
-            | FiguresFault::Falls => Some(Refusal::OverLimit),
+            StatisticsFault::List(fault) => fault.refusal(),
+            StatisticsFault::NoIndex => Some(Refusal::NotFound),
+            StatisticsFault::Texts => Some(Refusal::MixedKinds),
+            StatisticsFault::Keys
+            | StatisticsFault::Pages
+            | StatisticsFault::Unfit { .. }
+            | StatisticsFault::Falls => Some(Refusal::OverLimit),
         }
     }
 }

@@ -13,10 +13,10 @@ mod table;
 pub use bound::MAX_FIGURE;
 pub use database::{Database, MAX_COLUMNS, MAX_TABLES};
 pub use fault::{
-    CreateFault, EarlierRow, FiguresFault, IndexFault, ListFault, LoadFault, RangeEnd,
-    RepeatedRecord, TableFiguresFault,
+    CreateFault, EarlierRow, StatisticsFault, IndexFault, ListFault, LoadFault, RangeEnd,
+    RepeatedRecord, TableStatisticsFault,
 };
-pub use indexes::{Index, IndexFigures, KeyRange, RepeatedKey, TableFigures};
+pub use indexes::{Index, IndexStatistics, KeyRange, RepeatedKey, TableStatistics};
 pub use loading::{RecordFault, RefusedRecord};
 pub use naming::MAX_INDEX_COLUMNS;
 pub use table::{MAX_INDEXES, MAX_ROWS, Table};

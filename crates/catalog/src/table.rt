@@ -5,19 +5,19 @@ ghost use Rattle.std.specs.List.{AllByRecursion, position_from};
 ghost use Rattle.definitions.specs.Limits.{most_columns, most_rows};
 ghost use Rattle.definitions.specs.Table as spec;
 ghost use Rattle.definitions.specs.Change as change;
-ghost use Rattle.definitions.specs.Figures.{row_width};
+ghost use Rattle.definitions.specs.Statistics.{row_width};
 ghost use Rattle.definitions.specs.Invariant.{IsCount, IsPageCount, IsTable};
 ghost use Rattle.definitions.specs.Value.{IsType};
 ghost use Rattle.catalog.specs.Places.{IsColumnPlace};
 ghost use Rattle.definitions.specs.Scanning.{true_word, unknown_word};
 ghost use Rattle.sqlvalue.specs.Meaning.{op_of, type_of, value_of};
 
-use crate::bound::{kept_figures, page_count, row_count};
+use crate::bound::{kept_statistics, page_count, row_count};
 use crate::creation::{key_indexes, new_columns};
-use crate::fault::{CreateFault, FiguresFault, IndexFault, LoadFault, TableFiguresFault};
+use crate::fault::{CreateFault, StatisticsFault, IndexFault, LoadFault, TableStatisticsFault};
 use crate::growth::{Grown, grow};
 use crate::naming::{number_of, numbers, second_twin};
-use indexes::{Index, TableFigures, UniqueFault, row_width};
+use indexes::{Index, TableStatistics, UniqueFault, row_width};
 use loading::{Column, cut_columns};
 use parse_tree::{ColumnDefinition, Constraint, Name};
 use sqlvalue::{Op, SqlType, Value};
@@ -31,14 +31,14 @@ pub const MAX_ROWS: usize = 100_000_000;
 pub const MAX_INDEXES: usize = 16;
 
 /// A table: its columns in order, its indexes, its rows in the order in which they came (ISO/IEC 9075:1992, 4.9; that
-/// order is own), and its figures.
+/// order is own), and its statistics.
 #[derive(Drop)]
 pub struct Table {
     name: String,
     columns: Vec<Column>,
     indexes: Vec<Index>,
     len: usize,
-    figures: TableFigures,
+    statistics: TableStatistics,
 }
 
 impl Model for Table {
@@ -57,11 +57,11 @@ impl Table {
     ghost use Rattle.catalog.specs.Meaning.{cell_at, cells_in};
     ghost use Rattle.catalog.specs.Creates.{AreJudged, AreTypes, RefusesTypes};
     ghost use Rattle.catalog.specs.Loads.{LoadsTable, RefusesTable};
-    ghost use Rattle.catalog.specs.Changes.{AddsIndex, MayIndex, RefusesNewIndex, SetsIndex, RefusesFigures, RefusesTableFigures};
+    ghost use Rattle.catalog.specs.Changes.{AddsIndex, MayIndex, RefusesNewIndex, SetsIndex, RefusesStatistics, RefusesTableStatistics};
     ghost use Rattle.catalog.specs.Tables.{IsIndexRun};
     ghost use Rattle.indexes.specs.Indexes.{StoredIndex, AreIndexColumns};
-    ghost use Rattle.indexes.specs.Meaning.{table_figures_of};
-    ghost use Rattle.parse_tree.specs.Trees.{constraint_of, name_of, definitions_of, figures_of};
+    ghost use Rattle.indexes.specs.Meaning.{table_statistics_of};
+    ghost use Rattle.parse_tree.specs.Trees.{constraint_of, name_of, definitions_of, statistics_of};
 
     /// A table without rows.
     pub(crate) fn new(
@@ -78,13 +78,13 @@ impl Table {
         let columns = new_columns(alloc, definitions)?;
         let indexes = key_indexes(alloc, definitions, columns.as_slice())?;
         let name = String::from_str(alloc, name)?;
-        let figures = TableFigures::counted(columns.as_slice(), 0);
+        let statistics = TableStatistics::counted(columns.as_slice(), 0);
         Ok(Table {
             name,
             columns,
             indexes,
             len: 0,
-            figures,
+            statistics,
         })
     }
 
@@ -208,10 +208,10 @@ impl Table {
     }
 
     /// How many rows the table is taken to have, and on how many pages.
-    pub fn figures(&self) -> TableFigures
-        ensures { table_figures_of result ≡ self.now.figures }
+    pub fn statistics(&self) -> TableStatistics
+        ensures { table_statistics_of result ≡ self.now.statistics }
     {
-        self.figures
+        self.statistics
     }
 
     /// LOAD of the bytes of a file (own): adds a row for each record, and says how many. An `Err`
@@ -225,7 +225,7 @@ impl Table {
             Ok(Grown { rows, indexes }) => {
                 self.indexes = indexes;
                 self.len += rows;
-                self.figures = TableFigures::counted(&self.columns, self.len);
+                self.statistics = TableStatistics::counted(&self.columns, self.len);
                 Ok(rows as u64)
             }
             Err(fault) => {
@@ -293,43 +293,43 @@ impl Table {
     }
 
     /// SET STATISTICS of the table (own). An `Err` leaves it as it was.
-    pub(crate) fn set_figures(&mut self, rows: u128, pages: u128) -> Result<(), TableFiguresFault>
+    pub(crate) fn set_statistics(&mut self, rows: u128, pages: u128) -> Result<(), TableStatisticsFault>
         ensures given { OnOk result (IsCount rows × IsPageCount pages) }
-        ensures set { OnOk result (self.new ≡ change.with_table_figures self.old (record { rows = rows; pages = pages })) }
-        ensures refused { IfErr result (RefusesTableFigures rows pages) }
+        ensures set { OnOk result (self.new ≡ change.with_table_statistics self.old (record { rows = rows; pages = pages })) }
+        ensures refused { IfErr result (RefusesTableStatistics rows pages) }
         ensures err { OnErr result (self.new ≡ self.old) }
     {
         let Some(rows) = row_count(rows) else {
-            return Err(TableFiguresFault::Rows);
+            return Err(TableStatisticsFault::Rows);
         };
         let Some(pages) = page_count(pages) else {
-            return Err(TableFiguresFault::Pages);
+            return Err(TableStatisticsFault::Pages);
         };
-        self.figures = TableFigures { rows, pages };
+        self.statistics = TableStatistics { rows, pages };
         Ok(())
     }
 
     /// SET STATISTICS of an index (own). An `Err` leaves the table as it was.
-    pub(crate) fn set_index_figures(
+    pub(crate) fn set_index_statistics(
         &mut self,
         alloc: Global,
         names: &[Name],
-        given: &parse_tree::IndexFigures,
-    ) -> Result<(), FiguresFault>
-        ensures ok { OnOk result (SetsIndex self.old (map name_of names.now) (figures_of given.now) self.new) }
-        ensures refused { IfErr result (RefusesFigures self.old (map name_of names.now) (figures_of given.now)) }
+        given: &parse_tree::IndexStatistics,
+    ) -> Result<(), StatisticsFault>
+        ensures ok { OnOk result (SetsIndex self.old (map name_of names.now) (statistics_of given.now) self.new) }
+        ensures refused { IfErr result (RefusesStatistics self.old (map name_of names.now) (statistics_of given.now)) }
         ensures err { OnErr result (self.new ≡ self.old) }
     {
         let list = match numbers(alloc, self.columns.as_slice(), names) {
             Ok(list) => list,
-            Err(fault) => return Err(FiguresFault::List(fault)),
+            Err(fault) => return Err(StatisticsFault::List(fault)),
         };
         let Some(place) = self.index_place(list.as_slice()) else {
-            return Err(FiguresFault::NoIndex);
+            return Err(StatisticsFault::NoIndex);
         };
-        match kept_figures(given, self.columns[list[0]].sql_type()) {
+        match kept_statistics(given, self.columns[list[0]].sql_type()) {
             Ok(kept) => {
-                self.indexes[place].set_figures(kept);
+                self.indexes[place].set_statistics(kept);
                 Ok(())
             }
             Err(fault) => Err(fault),

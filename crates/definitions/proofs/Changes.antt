@@ -11,16 +11,16 @@ use Rattle.std.proofs.lemmas.Bool.{cases_lt}
 use Rattle.std.proofs.lemmas.Bool.Decides.{nat_tests}
 use Rattle.std.proofs.lemmas.Int.{ints}
 use Rattle.std.proofs.lemmas.Slice.Eq.{bytes_eq-Decides}
-use Rattle.definitions.specs.Limits.{most_tables, most_columns, most_indexes, most_index_columns, greatest_precision, greatest_length, greatest_figure}
+use Rattle.definitions.specs.Limits.{most_tables, most_columns, most_indexes, most_index_columns, greatest_precision, greatest_length, greatest_statistic}
 use Rattle.definitions.specs.Refusal.{NameTaken, NotFound, OverLimit}
 use Rattle.definitions.specs.Value.{Value, Number, SqlType, Smallint, Integer, Numeric, Char, IsType, scale_of, rank}
 use Rattle.definitions.specs.Statement.{Name, ColumnDefinition, Range, Statement, CreateTable, CreateIndex, SetTable, SetIndex}
-use Rattle.definitions.specs.Statement.{IndexFigures as Given}
-use Rattle.definitions.specs.Table.{Column, KeyRange, IndexFigures, Index, Table, Database, table_named, type_named, column_number, column_numbers, is_key, is_primary, is_on, index_on, AreDistinct}
+use Rattle.definitions.specs.Statement.{IndexStatistics as Given}
+use Rattle.definitions.specs.Table.{Column, KeyRange, IndexStatistics, Index, Table, Database, table_named, type_named, column_number, column_numbers, is_key, is_primary, is_on, index_on, AreDistinct}
 use Rattle.definitions.specs.Key.{key_of, AreUnique}
-use Rattle.definitions.specs.Figures.{index_figures}
+use Rattle.definitions.specs.Statistics.{index_statistics}
 use Rattle.definitions.specs.Change as made
-use Rattle.definitions.specs.Change.{new_table, with_index, with_table_figures, with_index_figures, changed, bound_value, KeptAs, RangeKept, FiguresKept, first_type, Makes}
+use Rattle.definitions.specs.Change.{new_table, with_index, with_table_statistics, with_index_statistics, changed, bound_value, KeptAs, RangeKept, StatisticsKept, first_type, Makes}
 use Rattle.definitions.specs.IndexFaults as index
 use Rattle.definitions.specs.IndexFaults.{Falls}
 use Rattle.definitions.specs.Faults as faults
@@ -253,7 +253,7 @@ apart_new (i ∷ indexes) new h n =
 pub with_index_is_table : (t : Table) (unique : Bool) (ns : List ℕ) → IsTable t → length t.indexes < most_indexes → index_on t.indexes ns ≡ None → 1 ≤ length ns → length ns ≤ most_index_columns
     → AllByRecursion (λ n. n < length t.columns) ns → (unique ≡ true → AreUnique (map (key_of ns) t.rows)) → IsTable (with_index t unique ns)
 with_index_is_table t unique ns s few none some short there u =
-    let new : Index = record { columns = ns; unique = unique; figures = index_figures t.columns t.rows ns } in
+    let new : Index = record { columns = ns; unique = unique; statistics = index_statistics t.columns t.rows ns } in
     record {
       columns = s.columns;
       rows = s.rows;
@@ -264,7 +264,7 @@ with_index_is_table t unique ns s few none some short there u =
       typed = s.typed;
       no_nulls = s.no_nulls;
       each_index = all_append (IsIndex (with_index t unique ns)) t.indexes (new ∷ []) (moved_indexes t (with_index t unique ns) t.indexes refl refl s.each_index) (
-        counted_index t (with_index t unique ns) (record { columns = ns; unique = unique; figures = record { keys = 0; pages = 1; clustered = true; range = None } }) refl refl s.types s.typed s.rows
+        counted_index t (with_index t unique ns) (record { columns = ns; unique = unique; statistics = record { keys = 0; pages = 1; clustered = true; range = None } }) refl refl s.types s.typed s.rows
             (record { some = some; columns = short; there = there; unique = u }),
         tt,
       );
@@ -290,7 +290,7 @@ indexed_database db unique name given t ns s a n e u =
 
 -- ---- SET STATISTICS
 
-pub table_set_is_table : (t : Table) (rows pages : ℕ) → IsTable t → IsCount rows → IsPageCount pages → IsTable (with_table_figures t (record { rows = rows; pages = pages }))
+pub table_set_is_table : (t : Table) (rows pages : ℕ) → IsTable t → IsCount rows → IsPageCount pages → IsTable (with_table_statistics t (record { rows = rows; pages = pages }))
 table_set_is_table t rows pages s r p = record {
   columns = s.columns;
   rows = s.rows;
@@ -300,7 +300,7 @@ table_set_is_table t rows pages s r p = record {
   types = s.types;
   typed = s.typed;
   no_nulls = s.no_nulls;
-  each_index = moved_indexes t (with_table_figures t (record { rows = rows; pages = pages })) t.indexes refl refl s.each_index;
+  each_index = moved_indexes t (with_table_statistics t (record { rows = rows; pages = pages })) t.indexes refl refl s.each_index;
   apart = s.apart;
   row_count = r;
   page_count = p;
@@ -311,12 +311,12 @@ some_named None h = absurd (h refl)
 some_named (Some t) h = (t, refl)
 
 pub table_set_database : (db : Database) (name : Name) (rows pages : ℕ) → IsDatabase db → IsAccepted db (SetTable name rows pages)
-    → IsDatabase (changed (λ u. with_table_figures u (record { rows = rows; pages = pages })) db name)
+    → IsDatabase (changed (λ u. with_table_statistics u (record { rows = rows; pages = pages })) db name)
 table_set_database db name rows pages s a =
     let (t, n) = some_named (table_named db name) (λ e. a NotFound (faults.no_such_table name rows pages e)) in
-    let (r, p) = surely (IsCount rows × IsPageCount pages) (and_or_not _ _ (within_or_not rows greatest_figure) (and_or_not _ _ (within_or_not 1 pages) (within_or_not pages greatest_figure)))
+    let (r, p) = surely (IsCount rows × IsPageCount pages) (and_or_not _ _ (within_or_not rows greatest_statistic) (and_or_not _ _ (within_or_not 1 pages) (within_or_not pages greatest_statistic)))
     (λ h. a OverLimit (faults.out_of_range name rows pages h)) in
-    database_changed (λ u. with_table_figures u (record { rows = rows; pages = pages })) db name t s n (λ u. refl) (table_set_is_table t rows pages (valid_named db name t s n) r p)
+    database_changed (λ u. with_table_statistics u (record { rows = rows; pages = pages })) db name t s n (λ u. refl) (table_set_is_table t rows pages (valid_named db name t s n) r p)
 
 -- numbers at one scale that don't compare as falling don't fall
 rising : (l h : ℤ) (o : Ordering) → o ≢ Greater → MatchOrdering o (l <ℤ h) (l ≡ h) (h <ℤ l) → l ≤ℤ h
@@ -344,35 +344,35 @@ kept_range type (Some r) kept h n =
     let (l, u, low, high, e) = h in
     rw e (kept_rising type r l u low high (n r refl), low.0.1, high.0.1)
 
-set_by : (b : Bool) (t u : Table) (i : Index) (ns : List ℕ) (kept : IndexFigures) → is_on ns i ≡ b → u.columns ≡ t.columns → u.rows ≡ t.rows → IsIndex t i → IsCount kept.keys → IsPageCount kept.pages
-    → IsRange (type_at t.columns ns) kept.range → IsIndex u (cond b (record i { figures = kept }) i)
+set_by : (b : Bool) (t u : Table) (i : Index) (ns : List ℕ) (kept : IndexStatistics) → is_on ns i ≡ b → u.columns ≡ t.columns → u.rows ≡ t.rows → IsIndex t i → IsCount kept.keys → IsPageCount kept.pages
+    → IsRange (type_at t.columns ns) kept.range → IsIndex u (cond b (record i { statistics = kept }) i)
 set_by true t u i ns kept e f g s k p r =
     let same : i.columns ≡ ns = (bytes_eq-Decides i.columns ns).0 e in
     record { some = s.some; columns = s.columns; there = rw f s.there; keys = k; pages = p; range = rw (f, same) r; unique = rw g s.unique }
 set_by false t u i ns kept e f g s k p r = moved_index t u i f g s
 
-each_set : (t u : Table) (indexes : List Index) (ns : List ℕ) (kept : IndexFigures) → u.columns ≡ t.columns → u.rows ≡ t.rows → AllByRecursion (IsIndex t) indexes → IsCount kept.keys → IsPageCount kept.pages
-    → IsRange (type_at t.columns ns) kept.range → AllByRecursion (IsIndex u) (map (λ (i : Index). cond (is_on ns i) (record i { figures = kept }) i) indexes)
+each_set : (t u : Table) (indexes : List Index) (ns : List ℕ) (kept : IndexStatistics) → u.columns ≡ t.columns → u.rows ≡ t.rows → AllByRecursion (IsIndex t) indexes → IsCount kept.keys → IsPageCount kept.pages
+    → IsRange (type_at t.columns ns) kept.range → AllByRecursion (IsIndex u) (map (λ (i : Index). cond (is_on ns i) (record i { statistics = kept }) i) indexes)
 each_set t u [] ns kept f g h k p r = tt
 each_set t u (i ∷ indexes) ns kept f g h k p r = (set_by (is_on ns i) t u i ns kept refl f g h.0 k p r, each_set t u indexes ns kept f g h.1 k p r)
 
-columns_by : (b : Bool) (i : Index) (kept : IndexFigures) → (cond b (record i { figures = kept }) i).columns ≡ i.columns
+columns_by : (b : Bool) (i : Index) (kept : IndexStatistics) → (cond b (record i { statistics = kept }) i).columns ≡ i.columns
 columns_by true i kept = refl
 columns_by false i kept = refl
 
-abbrev reset : List ℕ → IndexFigures → Index → Index
-reset ns kept i = cond (is_on ns i) (record i { figures = kept }) i
+abbrev reset : List ℕ → IndexStatistics → Index → Index
+reset ns kept i = cond (is_on ns i) (record i { statistics = kept }) i
 
-apart_reset : (i : Index) (indexes : List Index) (ns : List ℕ) (kept : IndexFigures) → AllByRecursion (λ (j : Index). IsFalse (bytes_eq i.columns j.columns)) indexes
+apart_reset : (i : Index) (indexes : List Index) (ns : List ℕ) (kept : IndexStatistics) → AllByRecursion (λ (j : Index). IsFalse (bytes_eq i.columns j.columns)) indexes
     → AllByRecursion (λ (j : Index). IsFalse (bytes_eq (reset ns kept i).columns j.columns)) (map (reset ns kept) indexes)
 apart_reset i [] ns kept h = tt
 apart_reset i (j ∷ indexes) ns kept h = (rw (columns_by (is_on ns i) i kept, columns_by (is_on ns j) j kept) h.0, apart_reset i indexes ns kept h.1)
 
-all_apart : (indexes : List Index) (ns : List ℕ) (kept : IndexFigures) → AreApart indexes → AreApart (map (reset ns kept) indexes)
+all_apart : (indexes : List Index) (ns : List ℕ) (kept : IndexStatistics) → AreApart indexes → AreApart (map (reset ns kept) indexes)
 all_apart [] ns kept h = tt
 all_apart (i ∷ indexes) ns kept h = (apart_reset i indexes ns kept h.0, all_apart indexes ns kept h.1)
 
-pub index_set_is_table : (t : Table) (ns : List ℕ) (kept : IndexFigures) → IsTable t → IsCount kept.keys → IsPageCount kept.pages → IsRange (type_at t.columns ns) kept.range → IsTable (with_index_figures t ns kept)
+pub index_set_is_table : (t : Table) (ns : List ℕ) (kept : IndexStatistics) → IsTable t → IsCount kept.keys → IsPageCount kept.pages → IsRange (type_at t.columns ns) kept.range → IsTable (with_index_statistics t ns kept)
 index_set_is_table t ns kept s k p r = record {
   columns = s.columns;
   rows = s.rows;
@@ -382,22 +382,22 @@ index_set_is_table t ns kept s k p r = record {
   types = s.types;
   typed = s.typed;
   no_nulls = s.no_nulls;
-  each_index = each_set t (with_index_figures t ns kept) t.indexes ns kept refl refl s.each_index k p r;
+  each_index = each_set t (with_index_statistics t ns kept) t.indexes ns kept refl refl s.each_index k p r;
   apart = all_apart t.indexes ns kept s.apart;
   row_count = s.row_count;
   page_count = s.page_count;
 }
 
-pub index_set_database : (db : Database) (name : Name) (columns : List Name) (given : Given) (t : Table) (ns : List ℕ) (type : SqlType) (kept : IndexFigures) → IsDatabase db → IsAccepted db (SetIndex name columns given)
-    → table_named db name ≡ Some t → column_numbers t.columns columns ≡ Some ns → first_type t.columns columns ≡ Some type → FiguresKept type given kept → IsDatabase (changed (λ u. with_index_figures u ns kept) db name)
+pub index_set_database : (db : Database) (name : Name) (columns : List Name) (given : Given) (t : Table) (ns : List ℕ) (type : SqlType) (kept : IndexStatistics) → IsDatabase db → IsAccepted db (SetIndex name columns given)
+    → table_named db name ≡ Some t → column_numbers t.columns columns ≡ Some ns → first_type t.columns columns ≡ Some type → StatisticsKept type given kept → IsDatabase (changed (λ u. with_index_statistics u ns kept) db name)
 index_set_database db name columns given t ns type kept s a n e f g =
     let (range, held, is) = g in
     let numbers = numbers_found t.columns columns ns e in
-    let (k, p) = surely (IsCount given.keys × IsPageCount given.pages) (and_or_not _ _ (within_or_not given.keys greatest_figure) (and_or_not _ _ (within_or_not 1 given.pages) (within_or_not given.pages greatest_figure)))
-    (λ h. a OverLimit (faults.figures name columns given OverLimit (index.out_of_range h))) in
+    let (k, p) = surely (IsCount given.keys × IsPageCount given.pages) (and_or_not _ _ (within_or_not given.keys greatest_statistic) (and_or_not _ _ (within_or_not 1 given.pages) (within_or_not given.pages greatest_statistic)))
+    (λ h. a OverLimit (faults.statistics name columns given OverLimit (index.out_of_range h))) in
     let typed : type_at t.columns ns ≡ Some type = sym numbers.typed ∙ f in
-    let fits : IsRange (Some type) range = kept_range type given.range range held (λ r h fall. a OverLimit (faults.figures name columns given OverLimit (index.fall r h fall))) in
-    database_changed (λ u. with_index_figures u ns kept) db name t s n (λ u. refl)
+    let fits : IsRange (Some type) range = kept_range type given.range range held (λ r h fall. a OverLimit (faults.statistics name columns given OverLimit (index.fall r h fall))) in
+    database_changed (λ u. with_index_statistics u ns kept) db name t s n (λ u. refl)
     (index_set_is_table t ns kept (valid_named db name t s n) (rw is k) (rw is p) (rw (is, typed) fits))
 
 -- ---- all statements

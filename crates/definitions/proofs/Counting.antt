@@ -1,4 +1,4 @@
--- Tables whose figures are counted, and the indexes of new ones.
+-- Tables whose statistics are counted, and the indexes of new ones.
 use Rattle.std.proofs.Common.{◌≡◌, ◌∙◌, refl, sym, ap, ℕ, ◌+◌, ◌<◌, ◌≤◌, List, [], ◌∷◌, ◌++◌, Bool, true, false, cond, length, map, arith}
 use Rattle.std.specs.Prelude.{IsFalse, bytes_eq, count_by}
 use Rattle.std.specs.List.{AllByRecursion}
@@ -10,22 +10,22 @@ use Rattle.definitions.specs.Value.{IsType}
 use Rattle.definitions.specs.Statement.{Name, ColumnDefinition}
 use Rattle.definitions.specs.Table.{Column, Row, Index, Table, is_key, is_primary, IsRow, AreDistinct, column_names}
 use Rattle.definitions.specs.Key.{key_of, AreUnique}
-use Rattle.definitions.specs.Figures.{index_figures, counted}
+use Rattle.definitions.specs.Statistics.{index_statistics, counted}
 use Rattle.definitions.specs.Change.{column_of, new_index, key_indexes, new_table, with_rows}
 use Rattle.definitions.specs.Faults.{count_of, definition_names}
 use Rattle.definitions.specs.Invariant.{IsIndex, IsTable, AreApart, KeepsNullsOut}
 use Rattle.definitions.specs.Loading.{Record, AllLoad}
-use Rattle.definitions.proofs.FigureBounds.{table_pages, index_pages, index_keys, index_range}
+use Rattle.definitions.proofs.StatisticBounds.{table_pages, index_pages, index_keys, index_range}
 use Rattle.definitions.proofs.Repeats.{AreKeysUnique, keys_loaded, fitting_all, all_left, all_right, all_append}
 
--- an index, whatever its figures
+-- an index, whatever its statistics
 pub record IsBare (t : Table) (i : Index) : Type 0 where
   pub some : 1 ≤ length i.columns
   pub columns : length i.columns ≤ most_index_columns
   pub there : AllByRecursion (λ n. n < length t.columns) i.columns
   pub unique : i.unique ≡ true → AreUnique (map (key_of i.columns) t.rows)
 
--- a table, whatever its figures
+-- a table, whatever its statistics
 pub record IsUncounted (t : Table) : Type 0 where
   pub columns : length t.columns ≤ most_columns
   pub rows : length t.rows ≤ most_rows
@@ -39,10 +39,10 @@ pub record IsUncounted (t : Table) : Type 0 where
   pub apart : AreApart t.indexes
 
 abbrev recounted : Table → Index → Index
-recounted t i = record i { figures = index_figures t.columns t.rows i.columns }
+recounted t i = record i { statistics = index_statistics t.columns t.rows i.columns }
 
 pub counted_index : (t u : Table) (i : Index) → u.columns ≡ t.columns → u.rows ≡ t.rows → AllByRecursion (λ (c : Column). IsType c.type) t.columns → AllByRecursion (IsRow t.columns) t.rows → length t.rows ≤ most_rows
-    → IsBare t i → IsIndex u (record i { figures = index_figures t.columns t.rows i.columns })
+    → IsBare t i → IsIndex u (record i { statistics = index_statistics t.columns t.rows i.columns })
 counted_index t u i e f types typed few b = record {
   some = b.some;
   columns = b.columns;
@@ -173,7 +173,7 @@ types_of [] h = tt
 types_of (d ∷ ds) h = (h.0, types_of ds h.1)
 
 abbrev bare_table : Name → List ColumnDefinition → Table
-bare_table name ds = record { name = name; columns = map column_of ds; indexes = key_indexes 0 ds; rows = []; figures = record { rows = 0; pages = 1 } }
+bare_table name ds = record { name = name; columns = map column_of ds; indexes = key_indexes 0 ds; rows = []; statistics = record { rows = 0; pages = 1 } }
 
 bare_keys : (name : Name) (ds : List ColumnDefinition) (indexes : List Index) → AllByRecursion (IsKeyOf 0 (length ds)) indexes → AllByRecursion (IsBare (bare_table name ds)) indexes
 bare_keys name ds [] h = tt

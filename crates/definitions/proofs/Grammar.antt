@@ -9,7 +9,7 @@ use Rattle.definitions.specs.Statement as s
 use Rattle.definitions.specs.Rule.{Rule, At, Gives, Then}
 use Rattle.definitions.specs.Rule as g
 use Rattle.definitions.specs.Grammar as r
-use Rattle.definitions.specs.Grammar.{Inner, within, Closed, Enclosed, Optional, Maybe, ListOf, NameAt, CountAt, StringAt, ScaleAt, ParametersAt, LengthAt, TypeAt, ConstraintAt, ColumnAt, ReferenceAt, SourceAt, DistinctAt, GroupsAt, ArgumentOf, ParenthesisOf, OtherPrimaryOf, PrimaryOf, SignOf, ProductOf, SumOf, NullOf, InListOf, BetweenOf, LikeOf, PredicateOf, ComparedOf, TailOf, TestOf, NegationOf, ConjunctionOf, ExprOf, MemberOf, ItemOf, SelectListOf, ConditionOf, BlockOf, SubqueryOf, KeyNameAt, DirectionAt, KeyAt, OrderAt, SelectOf, NamesAt, BoundAt, RangeAt, TableAt, IndexAt, CreateAt, LoadAt, FiguresAt, SetAt, StatementOf, LineKind, LineOf}
+use Rattle.definitions.specs.Grammar.{Inner, within, Closed, Enclosed, Optional, Maybe, ListOf, NameAt, CountAt, StringAt, ScaleAt, ParametersAt, LengthAt, TypeAt, ConstraintAt, ColumnAt, ReferenceAt, SourceAt, DistinctAt, GroupsAt, ArgumentOf, ParenthesisOf, OtherPrimaryOf, PrimaryOf, SignOf, ProductOf, SumOf, NullOf, InListOf, BetweenOf, LikeOf, PredicateOf, ComparedOf, TailOf, TestOf, NegationOf, ConjunctionOf, ExprOf, MemberOf, ItemOf, SelectListOf, ConditionOf, BlockOf, SubqueryOf, KeyNameAt, DirectionAt, KeyAt, OrderAt, SelectOf, NamesAt, BoundAt, RangeAt, TableAt, IndexAt, CreateAt, LoadAt, StatisticsAt, SetAt, StatementOf, LineKind, LineOf}
 use Rattle.definitions.proofs.Alike.{Agree, Alike, never_alike, alike_never, never_alike_all, gives_alike, past_alike, sees_alike, if_alike, reads_alike, then_alike, repeats_alike}
 
 -- ---- what many rules share
@@ -306,16 +306,16 @@ pub load_alike : Alike LoadAt LoadAt
 unfolding LoadAt
 load_alike = then_alike name_alike (λ n. past_alike _ (then_alike string_alike (λ f. gives_alike _)))
 
-pub figures_alike : Alike FiguresAt FiguresAt
-unfolding FiguresAt
-figures_alike = past_alike _ (then_alike count_alike (λ k. past_alike _ (then_alike count_alike (λ p. then_alike (maybe_alike _) (λ c. then_alike range_alike (λ g. gives_alike _))))))
+pub statistics_alike : Alike StatisticsAt StatisticsAt
+unfolding StatisticsAt
+statistics_alike = past_alike _ (then_alike count_alike (λ k. past_alike _ (then_alike count_alike (λ p. then_alike (maybe_alike _) (λ c. then_alike range_alike (λ g. gives_alike _))))))
 
 pub set_alike : Alike SetAt SetAt
 unfolding SetAt
 set_alike =
     past_alike _ (then_alike name_alike (λ n.
     if_alike _ (then_alike count_alike (λ rows. past_alike _ (then_alike count_alike (λ pages. gives_alike _))))
-    (then_alike names_alike (λ cs. then_alike figures_alike (λ f. gives_alike _)))))
+    (then_alike names_alike (λ cs. then_alike statistics_alike (λ f. gives_alike _)))))
 
 pub statement_alike : {i j : Inner} → InnerAlike i j → Alike (StatementOf i) (StatementOf j)
 unfolding StatementOf

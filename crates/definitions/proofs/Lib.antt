@@ -7,7 +7,7 @@ pub mod KeyRanks
 mod IndexRuns
 mod IndexParts
 mod KeyCounts
-pub mod FigureBounds
+pub mod StatisticBounds
 pub mod Repeats
 pub mod Counting
 pub mod Changes

@@ -1,17 +1,17 @@
--- Worked figures of small tables. No claim rests on them.
+-- Worked statistics of small tables. No claim rests on them.
 use Rattle.std.proofs.Common.{refl}
-use Rattle.definitions.specs.Examples.Tables.{FiguresOfTables, FiguresOfIndexes, SizesOfRows}
+use Rattle.definitions.specs.Examples.Tables.{StatisticsOfTables, StatisticsOfIndexes, SizesOfRows}
 
-pub figures_of_tables : FiguresOfTables
-figures_of_tables = record {
+pub statistics_of_tables : StatisticsOfTables
+statistics_of_tables = record {
   three_rows_on_a_page = refl;
   a_unique_column_has_an_index = refl;
-  figures_stay = refl;
-  figures_are_counted_anew = refl;
+  statistics_stay = refl;
+  statistics_are_counted_anew = refl;
 }
 
-pub figures_of_indexes : FiguresOfIndexes
-figures_of_indexes = record {
+pub statistics_of_indexes : StatisticsOfIndexes
+statistics_of_indexes = record {
   nulls_are_no_keys = refl;
   falling_keys = refl;
   a_null_behind_a_key_falls = refl;

@@ -3,18 +3,18 @@ use Rattle.std.specs.Prelude.{ℕ, ℤ, pos, neg_ℤ, ◌+◌, ◌≡◌, Bool, 
 use Rattle.std.specs.declared.cmp.Ordering.TheVariants.{Equal}
 use Rattle.definitions.specs.Value.{Value, Number, SqlType, HasType, scale_of, compare}
 use Rattle.definitions.specs.Statement.{Name, ColumnDefinition, Bound, Range, Statement, CreateTable, CreateIndex, SetTable, SetIndex}
-use Rattle.definitions.specs.Statement.{IndexFigures as Given}
-use Rattle.definitions.specs.Table.{Column, Row, TableFigures, KeyRange, IndexFigures, Index, Table, Database, table_named, type_named, column_numbers, is_key, is_on}
+use Rattle.definitions.specs.Statement.{IndexStatistics as Given}
+use Rattle.definitions.specs.Table.{Column, Row, TableStatistics, KeyRange, IndexStatistics, Index, Table, Database, table_named, type_named, column_numbers, is_key, is_on}
 use Rattle.definitions.specs.Key.{key_of, AreUnique}
-use Rattle.definitions.specs.Figures.{index_figures, counted}
+use Rattle.definitions.specs.Statistics.{index_statistics, counted}
 
 -- the column that a definition makes (ISO/IEC 9075:1992, 11.4)
 abbrev pub column_of : ColumnDefinition → Column
 column_of d = record { name = d.name; type = d.type; constraint = d.constraint }
 
--- an index of no figures yet
+-- an index of no statistics yet
 abbrev pub new_index : Bool → List ℕ → Index
-new_index unique columns = record { columns = columns; unique = unique; figures = record { keys = 0; pages = 1; clustered = true; range = None } }
+new_index unique columns = record { columns = columns; unique = unique; statistics = record { keys = 0; pages = 1; clustered = true; range = None } }
 
 -- a unique index for each UNIQUE or PRIMARY KEY column, of which the first has the number given (own)
 abbrev pub key_indexes : ℕ → List ColumnDefinition → List Index
@@ -28,23 +28,23 @@ new_table name definitions = counted (record {
   columns = map column_of definitions;
   indexes = key_indexes 0 definitions;
   rows = [];
-  figures = record { rows = 0; pages = 1 };
+  statistics = record { rows = 0; pages = 1 };
 })
 
--- a table with further rows at its end, and its figures counted anew
+-- a table with further rows at its end, and its statistics counted anew
 abbrev pub with_rows : Table → List Row → Table
 with_rows t rows = counted (record t { rows = t.rows ++ rows })
 
--- a table with one more index, whose figures are counted; all other figures stay (own)
+-- a table with one more index, whose statistics are counted; all other statistics stay (own)
 abbrev pub with_index : Table → Bool → List ℕ → Table
-with_index t unique columns = record t { indexes = t.indexes ++ record { columns = columns; unique = unique; figures = index_figures t.columns t.rows columns } ∷ [] }
+with_index t unique columns = record t { indexes = t.indexes ++ record { columns = columns; unique = unique; statistics = index_statistics t.columns t.rows columns } ∷ [] }
 
--- a table whose own figures, or those of one index, are replaced (own)
-abbrev pub with_table_figures : Table → TableFigures → Table
-with_table_figures t figures = record t { figures = figures }
+-- a table whose own statistics, or those of one index, are replaced (own)
+abbrev pub with_table_statistics : Table → TableStatistics → Table
+with_table_statistics t statistics = record t { statistics = statistics }
 
-abbrev pub with_index_figures : Table → List ℕ → IndexFigures → Table
-with_index_figures t columns figures = record t { indexes = map (λ (i : Index). if is_on columns i then record i { figures = figures } else i) t.indexes }
+abbrev pub with_index_statistics : Table → List ℕ → IndexStatistics → Table
+with_index_statistics t columns statistics = record t { indexes = map (λ (i : Index). if is_on columns i then record i { statistics = statistics } else i) t.indexes }
 
 -- a database with a change to the table of a name
 abbrev pub changed : (Table → Table) → Database → Name → Database
@@ -68,9 +68,9 @@ abbrev pub RangeKept : SqlType → Option Range → Option KeyRange → Type 0
 RangeKept type None kept = kept ≡ None
 RangeKept type (Some r) kept = (low : ℤ) × (high : ℤ) × KeptAs type r.low low × KeptAs type r.high high × (kept ≡ Some (record { low = low; high = high }))
 
--- the figures that are kept of those of SET STATISTICS
-abbrev pub FiguresKept : SqlType → Given → IndexFigures → Type 0
-FiguresKept type given kept = (range : Option KeyRange) × RangeKept type given.range range
+-- the statistics that are kept of those of SET STATISTICS
+abbrev pub StatisticsKept : SqlType → Given → IndexStatistics → Type 0
+StatisticsKept type given kept = (range : Option KeyRange) × RangeKept type given.range range
     × (kept ≡ record { keys = given.keys; pages = given.pages; clustered = given.clustered; range = range })
 
 -- ---- what statements that print OK make of a database
@@ -87,10 +87,10 @@ pub data Makes (db : Database) (s : Statement) (new : Database) : Type 0 where
       → table_named db name ≡ Some t → column_numbers t.columns columns ≡ Some numbers → (unique ≡ true → AreUnique (map (key_of numbers) t.rows))
       → new ≡ changed (λ u. with_index u unique numbers) db name → Makes db s new
   table_set : (name : Name) (rows pages : ℕ) → s ≡ SetTable name rows pages
-      → new ≡ changed (λ u. with_table_figures u (record { rows = rows; pages = pages })) db name → Makes db s new
-  index_set : (name : Name) (columns : List Name) (given : Given) (t : Table) (numbers : List ℕ) (type : SqlType) (kept : IndexFigures) → s ≡ SetIndex name columns given
-      → table_named db name ≡ Some t → column_numbers t.columns columns ≡ Some numbers → first_type t.columns columns ≡ Some type → FiguresKept type given kept
-      → new ≡ changed (λ u. with_index_figures u numbers kept) db name → Makes db s new
+      → new ≡ changed (λ u. with_table_statistics u (record { rows = rows; pages = pages })) db name → Makes db s new
+  index_set : (name : Name) (columns : List Name) (given : Given) (t : Table) (numbers : List ℕ) (type : SqlType) (kept : IndexStatistics) → s ≡ SetIndex name columns given
+      → table_named db name ≡ Some t → column_numbers t.columns columns ≡ Some numbers → first_type t.columns columns ≡ Some type → StatisticsKept type given kept
+      → new ≡ changed (λ u. with_index_statistics u numbers kept) db name → Makes db s new
 
 -- CREATE UNIQUE INDEX over rows of which two have one key
 pub data RepeatsKeys (db : Database) (s : Statement) : Type 0 where

@@ -9,7 +9,7 @@ use Rattle.definitions.specs.Word.{Word}
 use Rattle.definitions.specs.Word as w
 use Rattle.definitions.specs.Token.{Symbol, OpenParen, CloseParen, Comma, Semicolon, Point, Asterisk, Solidus, Plus, Minus, TokenKind, Reserved, Mark, Token}
 use Rattle.definitions.specs.Token as t
-use Rattle.definitions.specs.Statement.{Name, Op, LineOperator, Quantifier, SetFunction, ColumnReference, Source, Expr, Operands, Members, Items, SelectList, Item, Condition, Block, KeyName, Key, Select, Constraint, ColumnDefinition, Bound, Range, IndexFigures, Statement}
+use Rattle.definitions.specs.Statement.{Name, Op, LineOperator, Quantifier, SetFunction, ColumnReference, Source, Expr, Operands, Members, Items, SelectList, Item, Condition, Block, KeyName, Key, Select, Constraint, ColumnDefinition, Bound, Range, IndexStatistics, Statement}
 use Rattle.definitions.specs.Statement as s
 use Rattle.definitions.specs.Rule.{Rule, At, Never, Gives, Past, Sees, If, Reads, Then, Repeats}
 
@@ -415,18 +415,18 @@ unfoldable pub RangeAt : Rule (Option Range)
 RangeAt = Optional (Reserved w.Low) (Then BoundAt (λ low. Past (Reserved w.High) (Then BoundAt (λ high. Gives (record { low = low; high = high })))))
 
 -- KEYS count PAGES count [CLUSTERED] [LOW bound HIGH bound] (own)
-unfoldable pub FiguresAt : Rule IndexFigures
-FiguresAt =
+unfoldable pub StatisticsAt : Rule IndexStatistics
+StatisticsAt =
     Past (Reserved w.Keys) (Then CountAt (λ keys. Past (Reserved w.Pages) (Then CountAt (λ pages.
     Then (Maybe (Reserved w.Clustered)) (λ clustered. Then RangeAt (λ range.
     Gives (record { keys = keys; pages = pages; clustered = clustered; range = range })))))))
 
--- behind SET: STATISTICS name (ROWS count PAGES count | names figures) (own)
+-- behind SET: STATISTICS name (ROWS count PAGES count | names statistics) (own)
 unfoldable pub SetAt : Rule Statement
 SetAt =
     Past (Reserved w.Statistics) (Then NameAt (λ n.
     If (Reserved w.Rows) (Then CountAt (λ rows. Past (Reserved w.Pages) (Then CountAt (λ pages. Gives (s.SetTable n rows pages)))))
-    (Then NamesAt (λ columns. Then FiguresAt (λ figures. Gives (s.SetIndex n columns figures))))))
+    (Then NamesAt (λ columns. Then StatisticsAt (λ statistics. Gives (s.SetIndex n columns statistics))))))
 
 -- CREATE .. | LOAD .. | SET .. | EXPLAIN query (own) | query (13.1)
 unfoldable pub StatementOf : Inner → Rule Statement

@@ -1,10 +1,10 @@
--- Which faults a list of columns, an index and its figures have over a database (own).
+-- Which faults a list of columns, an index and its statistics have over a database (own).
 use Rattle.std.specs.Prelude.{ℕ, ℤ, ◌<◌, ◌≤◌, ◌≡◌, List, [], Some, None, length}
 use Rattle.std.specs.declared.cmp.Ordering.TheVariants.{Greater}
 use Rattle.definitions.specs.Limits.{most_indexes, most_index_columns}
 use Rattle.definitions.specs.Refusal.{Refusal, NameTaken, NotFound, OverLimit, MixedKinds}
 use Rattle.definitions.specs.Value.{SqlType, Numbers, Texts, kind_of, compare}
-use Rattle.definitions.specs.Statement.{Name, Bound, Range, IndexFigures}
+use Rattle.definitions.specs.Statement.{Name, Bound, Range, IndexStatistics}
 use Rattle.definitions.specs.Table.{Index, Table, Database, table_named, column_numbers, index_on, AreDistinct}
 use Rattle.definitions.specs.Change.{bound_value, KeptAs, first_type}
 use Rattle.definitions.specs.Invariant.{IsCount, IsPageCount}
@@ -39,11 +39,11 @@ pub data BoundsFaulty (type : SqlType) (r : Range) : Refusal → Type 0 where
   text : kind_of type ≡ Texts → BoundsFaulty type r MixedKinds
 
 -- the faults of SET STATISTICS for an index
-pub data FiguresFaulty (db : Database) (table : Name) (columns : List Name) (given : IndexFigures) : Refusal → Type 0 where
-  list : (r : Refusal) → ListFaulty db table columns r → FiguresFaulty db table columns given r
+pub data StatisticsFaulty (db : Database) (table : Name) (columns : List Name) (given : IndexStatistics) : Refusal → Type 0 where
+  list : (r : Refusal) → ListFaulty db table columns r → StatisticsFaulty db table columns given r
   no_index : (t : Table) (numbers : List ℕ) → table_named db table ≡ Some t
-      → column_numbers t.columns columns ≡ Some numbers → index_on t.indexes numbers ≡ None → FiguresFaulty db table columns given NotFound
-  out_of_range : ¬ (IsCount given.keys × IsPageCount given.pages) → FiguresFaulty db table columns given OverLimit
-  fall : (r : Range) → given.range ≡ Some r → Falls r → FiguresFaulty db table columns given OverLimit
+      → column_numbers t.columns columns ≡ Some numbers → index_on t.indexes numbers ≡ None → StatisticsFaulty db table columns given NotFound
+  out_of_range : ¬ (IsCount given.keys × IsPageCount given.pages) → StatisticsFaulty db table columns given OverLimit
+  fall : (r : Range) → given.range ≡ Some r → Falls r → StatisticsFaulty db table columns given OverLimit
   bounds : (t : Table) (type : SqlType) (r : Range) (refusal : Refusal) → table_named db table ≡ Some t → first_type t.columns columns ≡ Some type
-      → given.range ≡ Some r → BoundsFaulty type r refusal → FiguresFaulty db table columns given refusal
+      → given.range ≡ Some r → BoundsFaulty type r refusal → StatisticsFaulty db table columns given refusal

@@ -1,17 +1,17 @@
 -- What holds of every table, and every database, that statements make (the limits are own).
 use Rattle.std.specs.Prelude.{ℕ, ◌<◌, ◌≤◌, ◌≡◌, ◌≤ℤ◌, ⊤, List, [], ◌∷◌, Option, Some, None, length, map, count_by, slice_get, option_map, true, IsTrue, IsFalse, not, ◌||◌, bytes_eq}
 use Rattle.std.specs.List.{AllByRecursion, AllZip}
-use Rattle.definitions.specs.Limits.{most_tables, most_columns, most_rows, most_indexes, most_index_columns, greatest_figure}
+use Rattle.definitions.specs.Limits.{most_tables, most_columns, most_rows, most_indexes, most_index_columns, greatest_statistic}
 use Rattle.definitions.specs.Value.{SqlType, IsType, IsInRange}
 use Rattle.definitions.specs.Table.{Column, Row, KeyRange, Index, Table, Database, may_be_null, is_primary, IsRow, AreDistinct, column_names}
 use Rattle.definitions.specs.Key.{is_null, key_of, AreUnique}
 
 -- a count of rows or keys, and one of pages, of which there is one at least
 abbrev pub IsCount : ℕ → Type 0
-IsCount n = n ≤ greatest_figure
+IsCount n = n ≤ greatest_statistic
 
 abbrev pub IsPageCount : ℕ → Type 0
-IsPageCount n = (1 ≤ n) × (n ≤ greatest_figure)
+IsPageCount n = (1 ≤ n) × (n ≤ greatest_statistic)
 
 -- no null where none may be (ISO/IEC 9075:1992, 11.8)
 abbrev pub KeepsNullsOut : List Column → Row → Type 0
@@ -33,9 +33,9 @@ pub record IsIndex (t : Table) (i : Index) : Type 0 where
   pub some : 1 ≤ length i.columns
   pub columns : length i.columns ≤ most_index_columns
   pub there : AllByRecursion (λ n. n < length t.columns) i.columns
-  pub keys : IsCount i.figures.keys
-  pub pages : IsPageCount i.figures.pages
-  pub range : IsRange (type_at t.columns i.columns) i.figures.range
+  pub keys : IsCount i.statistics.keys
+  pub pages : IsPageCount i.statistics.pages
+  pub range : IsRange (type_at t.columns i.columns) i.statistics.range
   pub unique : i.unique ≡ true → AreUnique (map (key_of i.columns) t.rows)
 
 -- no two indexes are on one list of columns
@@ -54,8 +54,8 @@ pub record IsTable (t : Table) : Type 0 where
   pub no_nulls : AllByRecursion (KeepsNullsOut t.columns) t.rows
   pub each_index : AllByRecursion (IsIndex t) t.indexes
   pub apart : AreApart t.indexes
-  pub row_count : IsCount t.figures.rows
-  pub page_count : IsPageCount t.figures.pages
+  pub row_count : IsCount t.statistics.rows
+  pub page_count : IsPageCount t.statistics.pages
 
 pub record IsDatabase (db : Database) : Type 0 where
   pub tables : length db ≤ most_tables

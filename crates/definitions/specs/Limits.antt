@@ -32,15 +32,15 @@ most_columns = 64
 abbrev pub most_rows : ℕ
 most_rows = 100000000
 
--- and its indexes, the columns of an index, and the figures that SET STATISTICS may give
+-- and its indexes, the columns of an index, and the statistics that SET STATISTICS may give
 abbrev pub most_indexes : ℕ
 most_indexes = 16
 
 abbrev pub most_index_columns : ℕ
 most_index_columns = 4
 
-abbrev pub greatest_figure : ℕ
-greatest_figure = 10 ^ 18
+abbrev pub greatest_statistic : ℕ
+greatest_statistic = 10 ^ 18
 
 -- of a query: its blocks, and of a block the tables, the items of its select list, the conjuncts of WHERE, the members of an IN list, the
 -- columns of GROUP BY, the keys of ORDER BY, and the scale of a number

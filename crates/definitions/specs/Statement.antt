@@ -161,8 +161,8 @@ pub record Range : Type 0 where
   pub low : Bound
   pub high : Bound
 
--- the figures of an index (own)
-pub record IndexFigures : Type 0 where
+-- the statistics of an index (own)
+pub record IndexStatistics : Type 0 where
   pub keys : ℕ
   pub pages : ℕ
   pub clustered : Bool
@@ -174,6 +174,6 @@ pub data Statement : Type 0 where
   CreateIndex : (unique : Bool) (table : Name) (columns : List Name) → Statement
   Load : (table : Name) (file : List ℕ) → Statement
   SetTable : (table : Name) (rows pages : ℕ) → Statement
-  SetIndex : (table : Name) (columns : List Name) (figures : IndexFigures) → Statement
+  SetIndex : (table : Name) (columns : List Name) (statistics : IndexStatistics) → Statement
   Query : (select : Select) → Statement
   Explain : (select : Select) → Statement

@@ -2,7 +2,7 @@
 //! contracts of the crate `sqlr`, over every library).
 
 ghost use Rattle.definitions.specs.Examples.Texts.{ValuesCompare, TextsRead, TokensDerive, FieldsAndRows, CellsCompare};
-ghost use Rattle.definitions.specs.Examples.Tables.{FiguresOfTables, FiguresOfIndexes, SizesOfRows};
+ghost use Rattle.definitions.specs.Examples.Tables.{StatisticsOfTables, StatisticsOfIndexes, SizesOfRows};
 ghost use Rattle.definitions.specs.Examples.Queries.{GuardedDivision, NoRows, NullsInLists, PaddedTexts, LargeNumbers};
 ghost use Rattle.definitions.specs.Examples.Queries.{LongSums, Subqueries, JoinsAndGroups, FurtherRules, FurtherTexts};
 ghost use Rattle.definitions.specs.Examples.Binding.{SubqueriesBind, FormsOfQueries, RefusedQueries, FormedBlocks};
@@ -17,10 +17,10 @@ pub fn values_and_texts()
     ensures cells { CellsCompare }
 {}
 
-/// The figures of small tables and indexes.
-pub fn figures()
-    ensures tables { FiguresOfTables }
-    ensures indexes { FiguresOfIndexes }
+/// The statistics of small tables and indexes.
+pub fn statistics()
+    ensures tables { StatisticsOfTables }
+    ensures indexes { StatisticsOfIndexes }
     ensures sizes { SizesOfRows }
 {}
 

@@ -1,4 +1,4 @@
--- Figures of sets, one after another.
+-- Estimates of sets, one after another.
 use Rattle.std.proofs.Common.{◌≡◌, ◌⊎◌, inl, inr, refl, ap, subst, ℕ, zero, suc, List, [], ◌∷◌, ◌++◌, ◌<◌, Some, get_or, length}
 use Rattle.std.specs.Prelude.{slice_get}
 use Rattle.std.proofs.lemmas.Option.{slice_get_read}
@@ -6,8 +6,8 @@ use Rattle.definitions.specs.Table.{Database}
 use Rattle.definitions.specs.Plans.TableSet.{TableSet}
 use Rattle.definitions.specs.Queries.BoundBlock.{Block}
 use Rattle.definitions.specs.Estimates.Cardinality.{cardinality}
-use Rattle.estimate.specs.Figures.{AreExact, IsExact}
-use Rattle.estimate.specs.declared.set_estimate.Figures.{Figures}
+use Rattle.estimate.specs.SetEstimate.{AreExact, IsExact}
+use Rattle.estimate.specs.declared.set_estimate.SetEstimate.{SetEstimate}
 
 pushed_at : {X : Type 0} (xs : List X) (x : X) (place : ℕ) (y : X) → slice_get (xs ++ x ∷ []) place ≡ Some y → (slice_get xs place ≡ Some y) ⊎ ((length xs ≡ place) × (x ≡ y))
 pushed_at [] x zero y e = inr (refl, cc)
@@ -23,13 +23,13 @@ module _ (db : Database) (block : Block) where
   pub none_yet : AreExact db block []
   none_yet tables f e = absurd cc
 
-  pub one_more : (figures : List Figures) (new : Figures) → AreExact db block figures → IsExact db block (length figures) new → AreExact db block (figures ++ new ∷ [])
-  one_more figures new before made tables f e = of_place (pushed_at figures new tables f e)
+  pub one_more : (estimates : List SetEstimate) (new : SetEstimate) → AreExact db block estimates → IsExact db block (length estimates) new → AreExact db block (estimates ++ new ∷ [])
+  one_more estimates new before made tables f e = of_place (pushed_at estimates new tables f e)
     where
-      of_place : (slice_get figures tables ≡ Some f) ⊎ ((length figures ≡ tables) × (new ≡ f)) → IsExact db block tables f
+      of_place : (slice_get estimates tables ≡ Some f) ⊎ ((length estimates ≡ tables) × (new ≡ f)) → IsExact db block tables f
       of_place (inl there) = before tables f there
-      of_place (inr last) = subst (λ (s : TableSet). IsExact db block s f) last.0 (subst (IsExact db block (length figures)) last.1 made)
+      of_place (inr last) = subst (λ (s : TableSet). IsExact db block s f) last.0 (subst (IsExact db block (length estimates)) last.1 made)
 
   -- the rows of a set, as they are read
-  pub rows_in_place : (figures : List Figures) (place : ℕ) (f : Figures) → AreExact db block figures → place < length figures → f ≡ get_or figures place f → f.rows ≡ cardinality db block place
-  rows_in_place figures place f exact inside read = (exact place f (slice_get_read figures (length figures) place f refl inside read)).0
+  pub rows_in_place : (estimates : List SetEstimate) (place : ℕ) (f : SetEstimate) → AreExact db block estimates → place < length estimates → f ≡ get_or estimates place f → f.rows ≡ cardinality db block place
+  rows_in_place estimates place f exact inside read = (exact place f (slice_get_read estimates (length estimates) place f refl inside read)).0

@@ -3,10 +3,10 @@ use Rattle.std.proofs.Common.{◌≡◌, ◌∙◌, refl, sym, ap, ap₂, ℕ, s
 use Rattle.std.specs.Prelude.{filter, fold}
 use Rattle.std.specs.List.{range_with_len}
 use Rattle.definitions.specs.Table.{Table, Database}
-use Rattle.definitions.specs.Figures.{row_width}
+use Rattle.definitions.specs.Statistics.{row_width}
 use Rattle.definitions.specs.Plans.TableSet.{TableSet, with_table}
 use Rattle.definitions.specs.Queries.BoundBlock.{Block}
-use Rattle.definitions.specs.Estimates.BlockTables.{figure_at, has}
+use Rattle.definitions.specs.Estimates.BlockTables.{statistic_at, has}
 use Rattle.definitions.specs.Estimates.Cardinality.{joined_with, taking}
 
 -- those from one on, of so many
@@ -15,7 +15,7 @@ members_from tables table count = filter (has tables) (range_with_len table (cou
 
 -- the bytes of a row of further tables, too
 abbrev pub width_from : Database → Block → ℕ → List ℕ → ℕ
-width_from db block bytes tables = fold (λ a t. a + figure_at db block (λ (t : Table). row_width t.columns) t) bytes tables
+width_from db block bytes tables = fold (λ a t. a + statistic_at db block (λ (t : Table). row_width t.columns) t) bytes tables
 
 next_table : (table count : ℕ) → table < count → range_with_len table (count - table) ≡ table ∷ range_with_len (table + 1) (count - (table + 1))
 next_table table count h = let e : count - table ≡ suc (count - (table + 1)) = omega arith in ap (range_with_len table) e
@@ -49,7 +49,7 @@ module _ (db : Database) (block : Block) (tables : TableSet) (table count : ℕ)
   pub same_joined : (taken : TableSet) (rows : ℕ) → has tables table ≡ false → taking db block taken rows (members_from tables (table + 1) count) ≡ taking db block taken rows (members_from tables table count)
   same_joined taken rows b = ap (taking db block taken rows) (sym (no_member tables table count h b))
 
-  pub next_width : (width own : ℕ) → has tables table ≡ true → own ≡ figure_at db block (λ (t : Table). row_width t.columns) table
+  pub next_width : (width own : ℕ) → has tables table ≡ true → own ≡ statistic_at db block (λ (t : Table). row_width t.columns) table
       → width_from db block (width + own) (members_from tables (table + 1) count) ≡ width_from db block width (members_from tables table count)
   next_width width own b e =
       ap (λ n. width_from db block (width + n) (members_from tables (table + 1) count)) e ∙ ap (width_from db block width) (sym (next_member tables table count h b))

@@ -9,9 +9,9 @@ use Rattle.definitions.specs.Value.{SqlType, Smallint, Integer, Numeric, Char, I
 use Rattle.definitions.specs.Table as spec
 use Rattle.definitions.specs.Table.{Column, KeyRange, Index, Table, is_on, index_on}
 use Rattle.definitions.specs.Invariant.{IsTable, IsIndex, IsRange, type_at}
-use Rattle.indexes.specs.Meaning.{index_figures_of, key_range_of}
-use Rattle.indexes.specs.declared.figures.IndexFigures.{IndexFigures}
-use Rattle.indexes.specs.declared.figures.KeyRange as stored
+use Rattle.indexes.specs.Meaning.{index_statistics_of, key_range_of}
+use Rattle.indexes.specs.declared.statistics.IndexStatistics.{IndexStatistics}
+use Rattle.indexes.specs.declared.statistics.KeyRange as stored
 use Rattle.estimate.specs.Ranges.{IsBounded}
 
 -- ---- the search
@@ -62,15 +62,15 @@ range_bounded (Some type) (Some r) range t h e =
     let same : r ≡ range = cc in
     rw (← same) (in_range type r.low (t type refl) h.1, in_range type r.high (t type refl) h.2)
 
-pub index_bounded : (t : Table) (i : ℕ) (x : Index) (range : KeyRange) → IsTable t → slice_get t.indexes i ≡ Some x → x.figures.range ≡ Some range → IsBounded range
+pub index_bounded : (t : Table) (i : ℕ) (x : Index) (range : KeyRange) → IsTable t → slice_get t.indexes i ≡ Some x → x.statistics.range ≡ Some range → IsBounded range
 index_bounded t i x range valid e r =
     let index : IsIndex t x = all_at (IsIndex t) t.indexes i x valid.each_index e in
-    range_bounded (type_at t.columns x.columns) x.figures.range range (λ type s. types_at t.columns x.columns type valid.types s) index.range r
+    range_bounded (type_at t.columns x.columns) x.statistics.range range (λ type s. types_at t.columns x.columns type valid.types s) index.range r
 
-pub figures_bounded : (t : Table) (i : ℕ) (x : Index) (figures : IndexFigures) → IsTable t → slice_get t.indexes i ≡ Some x → index_figures_of figures ≡ x.figures
-    → IfSome figures.range (λ range. IsBounded (key_range_of range))
-figures_bounded t i x figures valid e f = of_range figures.range (ap (λ (g : spec.IndexFigures). g.range) f)
+pub statistics_bounded : (t : Table) (i : ℕ) (x : Index) (statistics : IndexStatistics) → IsTable t → slice_get t.indexes i ≡ Some x → index_statistics_of statistics ≡ x.statistics
+    → IfSome statistics.range (λ range. IsBounded (key_range_of range))
+statistics_bounded t i x statistics valid e f = of_range statistics.range (ap (λ (g : spec.IndexStatistics). g.range) f)
   where
-    of_range : (o : Option stored.KeyRange) → option_map key_range_of o ≡ x.figures.range → IfSome o (λ range. IsBounded (key_range_of range))
+    of_range : (o : Option stored.KeyRange) → option_map key_range_of o ≡ x.statistics.range → IfSome o (λ range. IsBounded (key_range_of range))
     of_range None h = tt
     of_range (Some range) h = index_bounded t i x (key_range_of range) valid e (sym h)

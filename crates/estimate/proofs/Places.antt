@@ -7,7 +7,7 @@ use Rattle.std.proofs.lemmas.List.{drop_more}
 use Rattle.std.proofs.lemmas.Option.{slice_get-get_or, slice_get_read}
 use Rattle.definitions.specs.Table.{Table, Column, Database}
 use Rattle.definitions.specs.Value.{SqlType}
-use Rattle.definitions.specs.Figures.{bytes_of}
+use Rattle.definitions.specs.Statistics.{bytes_of}
 use Rattle.estimate.specs.Tables.{tables_of}
 
 pub at_place : {X : Type 0} (xs : List X) (i : ℕ) (x : X) → i < length xs → x ≡ get_or xs i x → drop i xs ≡ x ∷ drop (i + 1) xs

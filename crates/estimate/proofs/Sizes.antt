@@ -3,9 +3,9 @@ use Rattle.std.proofs.Common.{◌≡◌, ◌∙◌, refl, sym, ap, ℕ, zero, su
 use Rattle.std.specs.Prelude.{slice_get, option_map, unwrap_or}
 use Rattle.std.specs.Borrow.{Bor}
 use Rattle.definitions.specs.Table.{Table, Database}
-use Rattle.definitions.specs.Figures.{row_width}
+use Rattle.definitions.specs.Statistics.{row_width}
 use Rattle.definitions.specs.Queries.BoundBlock.{Block}
-use Rattle.definitions.specs.Estimates.BlockTables.{figure_at, rows_at}
+use Rattle.definitions.specs.Estimates.BlockTables.{statistic_at, rows_at}
 use Rattle.estimate.specs.Tables.{tables_of, AreTablesOf}
 use Rattle.estimate.specs.Sizes.{Size, size_in, size_of_table, sizes_of}
 use Rattle.estimate.specs.declared.table_size.TableSize.{TableSize}
@@ -27,13 +27,13 @@ measured (z ∷ zs) (t ∷ ts) (suc k) s e h i = let rest : map size_in zs ≡ s
 
 module _ (db : Database) (block : Block) (sizes : List TableSize) (tables : List (Bor Table)) (k : ℕ) (s : TableSize) (are : AreTablesOf db block (tables_of tables)) (same : map size_in sizes ≡ sizes_of tables)
     (h : k < length sizes) (i : s ≡ get_or sizes k s) where
-  figure_told : (figure : Table → ℕ) (told : Size → ℕ) → ((t : Table) → told (size_of_table t) ≡ figure t) → told (size_in s) ≡ figure_at db block figure k
-  figure_told figure told is =
+  statistic_told : (statistic : Table → ℕ) (told : Size → ℕ) → ((t : Table) → told (size_of_table t) ≡ statistic t) → told (size_in s) ≡ statistic_at db block statistic k
+  statistic_told statistic told is =
       let (t, at, size) = measured sizes tables k s same h i in
-      ap told size ∙ is t ∙ ap (λ o. unwrap_or (option_map figure o) 0) (sym at ∙ are k)
+      ap told size ∙ is t ∙ ap (λ o. unwrap_or (option_map statistic o) 0) (sym at ∙ are k)
 
   pub rows_told : s.rows ≡ rows_at db block k
-  rows_told = figure_told (λ t. t.figures.rows) (λ z. z.0) (λ t. refl)
+  rows_told = statistic_told (λ t. t.statistics.rows) (λ z. z.0) (λ t. refl)
 
-  pub width_told : s.width ≡ figure_at db block (λ (t : Table). row_width t.columns) k
-  width_told = figure_told (λ t. row_width t.columns) (λ z. z.1) (λ t. refl)
+  pub width_told : s.width ≡ statistic_at db block (λ (t : Table). row_width t.columns) k
+  width_told = statistic_told (λ t. row_width t.columns) (λ z. z.1) (λ t. refl)

@@ -8,5 +8,5 @@ pub mod PlanConjuncts
 pub mod Widths
 pub mod Sizes
 pub mod Inside
-pub mod Figures
+pub mod SetEstimate
 pub mod Sets

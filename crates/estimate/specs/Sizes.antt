@@ -2,7 +2,7 @@
 use Rattle.std.specs.Prelude.{ℕ, List, map}
 use Rattle.std.specs.Borrow.{Bor}
 use Rattle.definitions.specs.Table.{Table}
-use Rattle.definitions.specs.Figures.{row_width}
+use Rattle.definitions.specs.Statistics.{row_width}
 use Rattle.estimate.specs.declared.table_size.TableSize.{TableSize}
 
 -- the rows of a table, and the bytes of one
@@ -13,7 +13,7 @@ abbrev pub size_in : TableSize → Size
 size_in s = (s.rows, s.width)
 
 abbrev pub size_of_table : Table → Size
-size_of_table t = (t.figures.rows, row_width t.columns)
+size_of_table t = (t.statistics.rows, row_width t.columns)
 
 abbrev pub sizes_of : List (Bor Table) → List Size
 sizes_of = map (λ (t : Bor Table). size_of_table t.now)

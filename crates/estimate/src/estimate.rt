@@ -29,7 +29,7 @@ use std::marker::Model;
 /// How many bytes a page has (own).
 const PAGE_BYTES: u128 = 4096;
 
-/// What the rows of a block of a database are taken to be. All figures are at most 10^18.
+/// What the rows of a block of a database are taken to be. All statistics are at most 10^18.
 #[derive(Drop)]
 pub struct Estimate<'a> {
     database: &'a Database,
@@ -56,7 +56,7 @@ impl<'a> Model for Estimate<'a> {
 }
 
 impl<'a> Estimate<'a> {
-    /// The estimates of a block, whose figures are those that the database has now.
+    /// The estimates of a block, whose statistics are those that the database has now.
     pub fn new(
         alloc: Global,
         database: &'a Database,

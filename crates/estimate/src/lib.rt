@@ -25,4 +25,4 @@ pub use fractions::{MILLION, fraction, share};
 pub use limits::{LIMIT, saturated};
 pub use plan_conjunct::PlanConjunct;
 pub use selectivity_shares::one_key;
-pub use set_estimates::SetFigures;
+pub use set_estimates::SetEstimates;

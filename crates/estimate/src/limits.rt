@@ -1,4 +1,4 @@
-//! The limit of all figures.
+//! The limit of all statistics.
 
 ghost use Rattle.std.specs.Prelude.{◌≡◌, ◌≤◌};
 ghost use Rattle.definitions.specs.Plans.Cost as cost;

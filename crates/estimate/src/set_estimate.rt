@@ -1,4 +1,4 @@
-//! The figures of a set of tables.
+//! The estimates of a set of tables.
 
 ghost use Rattle.std.specs.Prelude.{◌≡◌, ◌≤◌};
 ghost use Rattle.definitions.specs.Plans.Cost.{limit};
@@ -11,23 +11,23 @@ use plan_tree::TableSet;
 
 /// How many rows a set of tables is taken to give, and what it costs to sort them.
 #[derive(Clone, Copy)]
-pub(crate) struct Figures {
+pub(crate) struct SetEstimate {
     pub rows: u64,
     pub sort_cost: u64,
     pub ghost few: { rows ≤ limit },
     pub ghost cheap: { sort_cost ≤ limit },
 }
 
-impl Figures {
-    ghost use Rattle.estimate.specs.Figures.{IsExact};
+impl SetEstimate {
+    ghost use Rattle.estimate.specs.SetEstimate.{IsExact};
 
-    /// The figures of a set of tables, where it is known how many rows it gives.
-    pub fn of(estimate: &Estimate, tables: TableSet, rows: u64) -> Figures
+    /// The estimates of a set of tables, where it is known how many rows it gives.
+    pub fn of(estimate: &Estimate, tables: TableSet, rows: u64) -> SetEstimate
         requires few { rows ≤ limit }
         requires exact { rows ≡ cardinality estimate.now.database (block_of estimate.now.block) (set_of tables) }
         ensures { IsExact estimate.now.database (block_of estimate.now.block) (set_of tables) result }
     {
-        Figures {
+        SetEstimate {
             rows,
             sort_cost: estimate.sort_cost_of(tables, rows),
         }

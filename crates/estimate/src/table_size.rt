@@ -37,7 +37,7 @@ impl TableSize {
         // A look at its length tells what holds of a table.
         let _len = table.len();
         TableSize {
-            rows: table.figures().rows,
+            rows: table.statistics().rows,
             width: table.row_width(),
         }
     }

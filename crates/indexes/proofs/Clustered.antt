@@ -12,7 +12,7 @@ use Rattle.std.specs.Cmp.{nat_cmp_is}
 use Rattle.std.proofs.lemmas.Slice.Eq.{bytes_eq-Decides}
 use Rattle.definitions.specs.Key.{Key, key_of, value_at, key_rank, full_keys, distinct_keys}
 use Rattle.definitions.specs.IndexRun.{Entry, entries_from, keys_of, rows_of, comes_before, AreRising, IsRun}
-use Rattle.definitions.specs.Figures.{never_falls, rises_from}
+use Rattle.definitions.specs.Statistics.{never_falls, rises_from}
 use Rattle.definitions.specs.Table.{Row}
 use Rattle.indexes.proofs.DistinctKeys.{AreOfLength, rank_to, to_total, ranks_to, as_many_keys}
 use Rattle.indexes.proofs.Runs.{run_once}

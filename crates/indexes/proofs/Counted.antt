@@ -1,4 +1,4 @@
--- Figures that are counted in columns and in the order of rows.
+-- Statistics that are counted in columns and in the order of rows.
 use Rattle.std.proofs.Common.{◌≡◌, ◌∙◌, refl, sym, ap, ap₂, ℕ, zero, suc, ◌+◌, ◌<◌, List, [], ◌∷◌, ◌++◌, Option, Some, None, Bool, length, map, take, get_or, arith}
 use Rattle.std.specs.Prelude.{ℤ, filter_map, sum_by}
 use Rattle.std.specs.Int.{int_min, int_max}
@@ -11,9 +11,9 @@ use Rattle.sqlvalue.specs.declared.number.Num.{Num}
 use Rattle.sqlvalue.specs.declared.value.Value as code
 use Rattle.sqlvalue.specs.declared.value.Value.TheVariants as variants
 use Rattle.definitions.specs.Value.{Value, Null, Number}
-use Rattle.definitions.specs.Table.{Column, Row, KeyRange, IndexFigures}
+use Rattle.definitions.specs.Table.{Column, Row, KeyRange, IndexStatistics}
 use Rattle.definitions.specs.Key.{value_at}
-use Rattle.definitions.specs.Figures.{bytes_of, bytes_at, units_of, range_of, first_numbers}
+use Rattle.definitions.specs.Statistics.{bytes_of, bytes_at, units_of, range_of, first_numbers}
 use Rattle.loading.specs.Stored.{StoredColumn, headers, rows_of, AreFilled}
 use Rattle.loading.proofs.Rows.{column_values}
 use Rattle.indexes.specs.Ranges.{widened_by}
@@ -88,10 +88,10 @@ there_at [] i width a h = absurd (omega (arith, h))
 there_at (m ∷ numbers) zero width a h = a.0
 there_at (m ∷ numbers) (suc i) width a h = there_at numbers i width a.1 (omega (arith, h))
 
--- ---- all figures
+-- ---- all statistics
 
-abbrev figures_of : ℕ → ℕ → Bool → Option KeyRange → IndexFigures
-figures_of k p b r = record { keys = k; pages = p; clustered = b; range = r }
+abbrev statistics_of : ℕ → ℕ → Bool → Option KeyRange → IndexStatistics
+statistics_of k p b r = record { keys = k; pages = p; clustered = b; range = r }
 
-pub same_figures : (k k' p p' : ℕ) (b b' : Bool) (r r' : Option KeyRange) → k ≡ k' → p ≡ p' → b ≡ b' → r ≡ r' → figures_of k p b r ≡ figures_of k' p' b' r'
-same_figures k k' p p' b b' r r' e f g h = rw (e, f, g, h) refl
+pub same_statistics : (k k' p p' : ℕ) (b b' : Bool) (r r' : Option KeyRange) → k ≡ k' → p ≡ p' → b ≡ b' → r ≡ r' → statistics_of k p b r ≡ statistics_of k' p' b' r'
+same_statistics k k' p p' b b' r r' e f g h = rw (e, f, g, h) refl

@@ -6,8 +6,8 @@ use Rattle.std.proofs.lemmas.List.{length-map, map-append, take-map, take_more}
 use Rattle.std.proofs.lemmas.List.FromFn.{map-range_with_len_more}
 use Rattle.definitions.specs.Limits.{most_rows}
 use Rattle.definitions.specs.Table as table
-use Rattle.definitions.specs.Table.{IndexFigures, Row}
-use Rattle.definitions.specs.Figures.{index_figures}
+use Rattle.definitions.specs.Table.{IndexStatistics, Row}
+use Rattle.definitions.specs.Statistics.{index_statistics}
 use Rattle.definitions.specs.Key.{AreUnique, key_of, value_at}
 use Rattle.definitions.specs.IndexRun.{Entry, IsRun}
 use Rattle.columns.specs.Cells.{CellList}
@@ -102,10 +102,10 @@ pub run_had : (n : ℕ) (cs : List StoredColumn) (numbers : List ℕ) (keys : Li
     → IsOrderOf keys unique order → IsRun (map (key_of numbers) (rows_of n cs)) (run_of order).entries
 run_had n cs numbers keys unique order e f h o = rw (sym (keys_are n cs numbers f h), sym (ap keys_in e)) o.run
 
-pub index_had : (n : ℕ) (cs : List StoredColumn) (numbers kept : List ℕ) (keys : List CellList) (unique : Bool) (order : Order) (figures : IndexFigures) → keys ≡ key_cells cs numbers → AreFilled n cs → AreIndexColumns (length cs) numbers → IsOrderOf keys unique order
-    → kept ≡ numbers → figures ≡ index_figures (headers cs) (rows_of n cs) numbers
-    → IsIndexOn (headers cs) (rows_of n cs) numbers unique (record { index = record { columns = kept; unique = is_unique order; figures = figures }; entries = (run_of order).entries })
-index_had n cs numbers kept keys unique order figures e f h o k g = record {
+pub index_had : (n : ℕ) (cs : List StoredColumn) (numbers kept : List ℕ) (keys : List CellList) (unique : Bool) (order : Order) (statistics : IndexStatistics) → keys ≡ key_cells cs numbers → AreFilled n cs → AreIndexColumns (length cs) numbers → IsOrderOf keys unique order
+    → kept ≡ numbers → statistics ≡ index_statistics (headers cs) (rows_of n cs) numbers
+    → IsIndexOn (headers cs) (rows_of n cs) numbers unique (record { index = record { columns = kept; unique = is_unique order; statistics = statistics }; entries = (run_of order).entries })
+index_had n cs numbers kept keys unique order statistics e f h o k g = record {
   is = rw (k, o.kind, g) refl;
   run = run_had n cs numbers keys unique order e f h o;
   once = λ u. subst AreUnique (ap keys_in e ∙ keys_are n cs numbers f h) (o.once u);

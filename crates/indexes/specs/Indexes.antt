@@ -5,7 +5,7 @@ use Rattle.definitions.specs.Limits.{most_index_columns}
 use Rattle.definitions.specs.Table.{Column, Row, Index}
 use Rattle.definitions.specs.Key.{key_of, AreUnique}
 use Rattle.definitions.specs.IndexRun.{Entry, IsRun}
-use Rattle.definitions.specs.Figures.{index_figures}
+use Rattle.definitions.specs.Statistics.{index_statistics}
 use Rattle.indexes.specs.Repeats.{IsFirstRepeated}
 use Rattle.indexes.specs.declared.unique.UniqueFault.{UniqueFault}
 use Rattle.indexes.specs.declared.unique.UniqueFault.TheVariants as u
@@ -21,9 +21,9 @@ pub record AreIndexColumns (width : ℕ) (numbers : List ℕ) : Type 0 where
   pub short : length numbers ≤ most_index_columns
   pub there : AllByRecursion (λ n. n < width) numbers
 
--- the index on columns of a table's rows, with its figures counted over them
+-- the index on columns of a table's rows, with its statistics counted over them
 pub record IsIndexOn (columns : List Column) (rows : List Row) (numbers : List ℕ) (unique : Bool) (i : StoredIndex) : Type 0 where
-  pub is : i.index ≡ record { columns = numbers; unique = unique; figures = index_figures columns rows numbers }
+  pub is : i.index ≡ record { columns = numbers; unique = unique; statistics = index_statistics columns rows numbers }
   pub run : IsRun (map (key_of numbers) rows) i.entries
   pub once : unique ≡ true → AreUnique (map (key_of numbers) rows)
 

@@ -2,12 +2,12 @@
 use Rattle.std.specs.Prelude.{◌≡◌, length}
 use Rattle.indexes.specs.Indexes.{StoredIndex}
 use Rattle.indexes.specs.Orders.{is_unique, run_of}
-use Rattle.indexes.specs.Meaning.{index_figures_of}
+use Rattle.indexes.specs.Meaning.{index_statistics_of}
 use Rattle.indexes.specs.declared.index.Index.TheInside.{Inside}
 
 abbrev pub stored_index : Inside → StoredIndex
 stored_index i = record {
-  index = record { columns = i.columns.items; unique = is_unique i.order; figures = index_figures_of i.figures };
+  index = record { columns = i.columns.items; unique = is_unique i.order; statistics = index_statistics_of i.statistics };
   entries = (run_of i.order).entries;
 }
 

@@ -1,5 +1,5 @@
 pub use Rattle.definitions.specs.IndexRun
-pub use Rattle.definitions.specs.Figures
+pub use Rattle.definitions.specs.Statistics
 pub mod Keys
 pub mod Stretches
 pub mod Pages

@@ -1,38 +1,38 @@
-//! The figures of an index, counted (own, after Selinger et al. 1979, section 4).
+//! The statistics of an index, counted (own, after Selinger et al. 1979, section 4).
 
 ghost use Rattle.std.specs.Prelude.{◌≡◌, ◌≤◌, ◌<◌, ◌∷◌, [], ℤ, length, take, map, filter_map, option_map, bytes_eq};
 ghost use Rattle.std.specs.List.{AllByRecursion, range_with_len};
 ghost use Rattle.definitions.specs.Limits.{most_index_columns, most_rows};
 ghost use Rattle.definitions.specs.Key.{key_of};
 ghost use Rattle.definitions.specs.IndexRun.{IsRun};
-ghost use Rattle.definitions.specs.Figures.{index_figures, range_of, units_of};
+ghost use Rattle.definitions.specs.Statistics.{index_statistics, range_of, units_of};
 ghost use Rattle.loading.specs.Stored.{AreFilled, headers, rows_of};
-ghost use Rattle.indexes.specs.Meaning.{index_figures_of, key_range_of};
+ghost use Rattle.indexes.specs.Meaning.{index_statistics_of, key_range_of};
 ghost use Rattle.indexes.specs.Orders.{run_of};
 ghost use Rattle.indexes.specs.Ranges.{widened_by};
 
-use crate::figures::{IndexFigures, KeyRange};
+use crate::statistics::{IndexStatistics, KeyRange};
 use crate::order::Order;
 use crate::pages::entry_pages;
 use loading::Column;
 use sqlvalue::Value;
 
-/// The figures of an index on the columns of these numbers, whose rows stand in an order.
+/// The statistics of an index on the columns of these numbers, whose rows stand in an order.
 pub(crate) fn counted(
     columns: &[Column],
     rows: usize,
     numbers: &[usize],
     order: &Order,
-) -> IndexFigures
+) -> IndexStatistics
     requires some { 0 < length numbers.now }
     requires short { length numbers.now ≤ most_index_columns }
     requires there { AllByRecursion (λ n. n < length columns.now) numbers.now }
     requires filled { AreFilled rows columns.now }
     requires few { rows ≤ most_rows }
     requires run { IsRun (map (key_of numbers.now) (rows_of rows columns.now)) (run_of order.now).entries }
-    ensures { index_figures_of result ≡ index_figures (headers columns.now) (rows_of rows columns.now) numbers.now }
+    ensures { index_statistics_of result ≡ index_statistics (headers columns.now) (rows_of rows columns.now) numbers.now }
 {
-    IndexFigures {
+    IndexStatistics {
         keys: order.key_count() as u64,
         pages: entry_pages(columns, numbers, rows),
         clustered: are_in_place(order.all()),

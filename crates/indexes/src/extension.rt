@@ -39,7 +39,7 @@ impl<T: Drop> From<AllocFailed<T>> for ExtendFault {
     }
 }
 
-/// All indexes of a table with further rows behind those that they have, with their figures counted over all.
+/// All indexes of a table with further rows behind those that they have, with their statistics counted over all.
 pub fn extended(
     alloc: Global,
     indexes: &[Index],

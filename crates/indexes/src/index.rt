@@ -9,11 +9,11 @@ ghost use Rattle.definitions.specs.IndexRun.{IsRun, equal_part, range_part, rows
 ghost use Rattle.loading.specs.Stored.{AreFilled, headers, rows_of};
 ghost use Rattle.sqlvalue.specs.Meaning.{value_of};
 ghost use Rattle.columns.specs.Starts.{limit_of};
-ghost use Rattle.indexes.specs.Meaning.{index_figures_of};
+ghost use Rattle.indexes.specs.Meaning.{index_statistics_of};
 ghost use Rattle.indexes.specs.Indexes.{AreIndexColumns, IsIndexOn, RefusesIndexOn, IsBeginning};
 
 use crate::counting::counted;
-use crate::figures::IndexFigures;
+use crate::statistics::IndexStatistics;
 use crate::key_columns::key_columns;
 use crate::order::Order;
 use crate::ordered::OrderedIndex;
@@ -24,12 +24,12 @@ use std::alloc::Global;
 use std::marker::Model;
 use std::ops::Bound;
 
-/// An index of a table: the numbers of its columns, from 0, the order of its rows, and its figures.
+/// An index of a table: the numbers of its columns, from 0, the order of its rows, and its statistics.
 #[derive(Drop)]
 pub struct Index {
     columns: Vec<usize>,
     order: Order,
-    figures: IndexFigures,
+    statistics: IndexStatistics,
 }
 
 impl Model for Index {
@@ -45,7 +45,7 @@ impl Model for Index {
 }
 
 impl Index {
-    /// The index on one to four columns of a table of so many rows, with its figures counted over them. Where it is
+    /// The index on one to four columns of a table of so many rows, with its statistics counted over them. Where it is
     /// unique and a key comes again, tells of the first row that repeats one (ISO/IEC 9075:1992, 8.9).
     pub fn new(
         alloc: Global,
@@ -68,15 +68,15 @@ impl Index {
             Ok(order) => order,
             Err(fault) => return Err(fault),
         };
-        let figures = counted(columns, rows, numbers.as_slice(), &order);
+        let statistics = counted(columns, rows, numbers.as_slice(), &order);
         Ok(Index {
             columns: numbers,
             order,
-            figures,
+            statistics,
         })
     }
 
-    /// The index on the same columns with more rows behind those that this one has, with its figures counted over all.
+    /// The index on the same columns with more rows behind those that this one has, with its statistics counted over all.
     pub fn extended(
         &self,
         alloc: Global,
@@ -102,11 +102,11 @@ impl Index {
             Ok(order) => order,
             Err(fault) => return Err(fault),
         };
-        let figures = counted(columns, rows, numbers.as_slice(), &order);
+        let statistics = counted(columns, rows, numbers.as_slice(), &order);
         Ok(Index {
             columns: numbers,
             order,
-            figures,
+            statistics,
         })
     }
 
@@ -131,18 +131,18 @@ impl Index {
         self.columns.as_slice() == columns
     }
 
-    pub fn figures(&self) -> IndexFigures
-        ensures { index_figures_of result ≡ self.now.index.figures }
+    pub fn statistics(&self) -> IndexStatistics
+        ensures { index_statistics_of result ≡ self.now.index.statistics }
     {
-        self.figures
+        self.statistics
     }
 
-    /// Replaces the figures.
-    pub fn set_figures(&mut self, figures: IndexFigures)
-        ensures index { self.new.index ≡ record self.old.index { figures = index_figures_of figures } }
+    /// Replaces the statistics.
+    pub fn set_statistics(&mut self, statistics: IndexStatistics)
+        ensures index { self.new.index ≡ record self.old.index { statistics = index_statistics_of statistics } }
         ensures entries { self.new.entries ≡ self.old.entries }
     {
-        self.figures = figures;
+        self.statistics = statistics;
     }
 }
 

@@ -3,7 +3,7 @@
 
 mod counting;
 mod extension;
-mod figures;
+mod statistics;
 mod index;
 mod key_column;
 mod key_columns;
@@ -18,7 +18,7 @@ mod sorting;
 mod unique;
 
 pub use extension::{ExtendFault, RepeatedRow, extended};
-pub use figures::{IndexFigures, KeyRange, TableFigures};
+pub use statistics::{IndexStatistics, KeyRange, TableStatistics};
 pub use index::Index;
 pub use ordered::OrderedIndex;
 pub use pages::row_width;

@@ -5,7 +5,7 @@ ghost use Rattle.std.specs.List.{AllByRecursion};
 ghost use Rattle.definitions.specs.Limits.{most_columns, most_index_columns, most_rows};
 ghost use Rattle.definitions.specs.Value.{IsType};
 ghost use Rattle.definitions.specs.Table as spec;
-ghost use Rattle.definitions.specs.Figures as figures;
+ghost use Rattle.definitions.specs.Statistics as statistics;
 ghost use Rattle.loading.specs.Stored.{headers};
 ghost use Rattle.sqlvalue.specs.Meaning.{type_of};
 
@@ -21,7 +21,7 @@ const OWN_BYTES: u64 = 8;
 pub(crate) fn row_pages(columns: &[Column], rows: usize) -> u64
     requires narrow { length columns.now ≤ most_columns }
     requires few { rows ≤ most_rows }
-    ensures { result ≡ figures.pages_for rows (figures.row_width (headers columns.now)) }
+    ensures { result ≡ statistics.pages_for rows (statistics.row_width (headers columns.now)) }
 {
     pages_for(rows as u64, row_width(columns))
 }
@@ -31,7 +31,7 @@ pub(crate) fn entry_pages(columns: &[Column], numbers: &[usize], rows: usize) ->
     requires short { length numbers.now ≤ most_index_columns }
     requires there { AllByRecursion (λ n. n < length columns.now) numbers.now }
     requires few { rows ≤ most_rows }
-    ensures { result ≡ figures.pages_for rows (figures.entry_width (headers columns.now) numbers.now) }
+    ensures { result ≡ statistics.pages_for rows (statistics.entry_width (headers columns.now) numbers.now) }
 {
     pages_for(rows as u64, entry_width(columns, numbers))
 }
@@ -39,7 +39,7 @@ pub(crate) fn entry_pages(columns: &[Column], numbers: &[usize], rows: usize) ->
 /// What a row of a table takes, in bytes.
 pub fn row_width(columns: &[Column]) -> u64
     requires narrow { length columns.now ≤ most_columns }
-    ensures exact { result ≡ figures.row_width (headers columns.now) }
+    ensures exact { result ≡ statistics.row_width (headers columns.now) }
     ensures bound { result ≤ 20000 }
 {
     let mut width = OWN_BYTES;
@@ -52,7 +52,7 @@ pub fn row_width(columns: &[Column]) -> u64
 fn entry_width(columns: &[Column], numbers: &[usize]) -> u64
     requires short { length numbers.now ≤ most_index_columns }
     requires there { AllByRecursion (λ n. n < length columns.now) numbers.now }
-    ensures exact { result ≡ figures.entry_width (headers columns.now) numbers.now }
+    ensures exact { result ≡ statistics.entry_width (headers columns.now) numbers.now }
     ensures bound { result ≤ 20000 }
 {
     let mut width = OWN_BYTES;
@@ -64,7 +64,7 @@ fn entry_width(columns: &[Column], numbers: &[usize]) -> u64
 
 /// What a value of a type takes, in bytes.
 fn value_bytes(sql_type: SqlType) -> u64
-    ensures exact { result ≡ figures.bytes_of (type_of sql_type) }
+    ensures exact { result ≡ statistics.bytes_of (type_of sql_type) }
     ensures bound { result ≤ 255 }
 {
     match sql_type {
@@ -79,7 +79,7 @@ fn value_bytes(sql_type: SqlType) -> u64
 fn pages_for(count: u64, width: u64) -> u64
     requires few { count ≤ most_rows }
     requires narrow { width ≤ 20000 }
-    ensures { result ≡ figures.pages_for count width }
+    ensures { result ≡ statistics.pages_for count width }
 {
     (count * width).div_ceil(PAGE_BYTES).max(1)
 }

@@ -64,7 +64,7 @@ impl SortedIndex {
         self.run.len()
     }
 
-    /// How many keys without a null there are, equal ones counted once (KEYS, the figure of an index; Selinger et al.
+    /// How many keys without a null there are, equal ones counted once (KEYS, the statistic of an index; Selinger et al.
     /// 1979, section 4).
     pub fn key_count(&self) -> usize
         ensures { result ≡ length (distinct_keys (full_keys (keys_of self.now.entries))) }

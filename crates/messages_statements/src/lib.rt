@@ -4,7 +4,7 @@
 #![tactic(auto)]
 
 mod create;
-mod figures;
+mod statistics;
 mod index;
 mod list;
 mod places;

@@ -1,7 +1,7 @@
 //! Where causes stand in the script.
 
 use crate::create::name_at_fault;
-use crate::figures::{offset_of_figures, offset_of_table_figures};
+use crate::statistics::{offset_of_statistics, offset_of_table_statistics};
 use crate::index::name_of_index;
 use crate::query_places::offset_of_fault;
 use lexer::LexFault;
@@ -23,8 +23,8 @@ pub(crate) fn offset_of(cause: &Cause) -> usize {
             fault,
         } => name_at_fault(name, columns, *fault).start,
         Cause::Index { list, fault } => name_of_index(*list, *fault).start,
-        Cause::TableFigures(cause) => offset_of_table_figures(*cause),
-        Cause::Figures(cause) => offset_of_figures(*cause),
+        Cause::TableStatistics(cause) => offset_of_table_statistics(*cause),
+        Cause::Statistics(cause) => offset_of_statistics(*cause),
         Cause::NoTable(name) | Cause::ManyRows(name) => name.start,
         Cause::NoFile(file) => file.start,
         Cause::Record { load, .. } | Cause::Repeated { load, .. } => load.file.start,

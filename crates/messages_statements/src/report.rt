@@ -6,7 +6,7 @@ ghost use Rattle.definitions.specs.Binding.Formed.{IsFormedSomewhere};
 ghost use Rattle.query_tree.specs.Bound.{block_of};
 
 use crate::create::write_create;
-use crate::figures::{write_figures, write_table_figures};
+use crate::statistics::{write_statistics, write_table_statistics};
 use crate::index::write_index;
 use crate::list::write_list_hint;
 use crate::places::offset_of;
@@ -16,8 +16,8 @@ use crate::suggestions::write_near_table;
 use crate::text::{write_lexical, write_lexical_hint};
 use crate::wanted::{write_too_deep, write_unexpected, write_unexpected_hint};
 use catalog::{
-    Database, FiguresFault, IndexFault, ListFault, MAX_ROWS, RefusedRecord, RepeatedRecord,
-    TableFiguresFault,
+    Database, StatisticsFault, IndexFault, ListFault, MAX_ROWS, RefusedRecord, RepeatedRecord,
+    TableStatisticsFault,
 };
 use messages_certificates::FileReport;
 use messages_excerpts::{Lines, Place, write_excerpt};
@@ -145,8 +145,8 @@ impl Report<'_> {
                 fault,
             } => write_create(f, name, columns, *fault),
             Cause::Index { list, fault } => write_index(f, self.database, *list, *fault),
-            Cause::TableFigures(cause) => write_table_figures(f, *cause),
-            Cause::Figures(cause) => write_figures(f, self.script, self.database, *cause),
+            Cause::TableStatistics(cause) => write_table_statistics(f, *cause),
+            Cause::Statistics(cause) => write_statistics(f, self.script, self.database, *cause),
             Cause::NoTable(name) => write!(f, "there is no table {}", name.text),
             Cause::NoFile(file) => write!(f, "there is no file '{}'", file.text),
             Cause::ManyRows(_) => write!(f, "a table has at most {MAX_ROWS} rows"),
@@ -166,12 +166,12 @@ impl Report<'_> {
                 IndexFault::List(fault) => self.write_list_hint(f, *list, *fault),
                 _ => Ok(()),
             },
-            Cause::Figures(cause) => match cause.fault {
-                FiguresFault::List(fault) => self.write_list_hint(f, cause.list, fault),
+            Cause::Statistics(cause) => match cause.fault {
+                StatisticsFault::List(fault) => self.write_list_hint(f, cause.list, fault),
                 _ => Ok(()),
             },
-            Cause::TableFigures(cause) => match cause.fault {
-                TableFiguresFault::NoTable => self.write_table_hint(f, cause.table),
+            Cause::TableStatistics(cause) => match cause.fault {
+                TableStatisticsFault::NoTable => self.write_table_hint(f, cause.table),
                 _ => Ok(()),
             },
             Cause::NoTable(name) => self.write_table_hint(f, name),

@@ -32,7 +32,7 @@ use Rattle.parse_tree.specs.declared.statement.Constraint.TheVariants as c
 use Rattle.parse_tree.specs.declared.statement.ColumnDefinition.{ColumnDefinition}
 use Rattle.parse_tree.specs.declared.statement.Bound.{Bound}
 use Rattle.parse_tree.specs.declared.statement.Range.{Range}
-use Rattle.parse_tree.specs.declared.statement.IndexFigures.{IndexFigures}
+use Rattle.parse_tree.specs.declared.statement.IndexStatistics.{IndexStatistics}
 use Rattle.parse_tree.specs.declared.statement.Statement.{Statement}
 use Rattle.parse_tree.specs.declared.statement.Statement.TheVariants as s
 
@@ -170,15 +170,15 @@ bound_of b = record { minus = b.minus; units = b.number.units; digits = b.number
 abbrev pub range_of : Range → spec.Range
 range_of r = record { low = bound_of r.low; high = bound_of r.high }
 
-abbrev pub figures_of : IndexFigures → spec.IndexFigures
-figures_of f = record { keys = f.keys.units; pages = f.pages.units; clustered = f.clustered; range = option_map range_of f.range }
+abbrev pub statistics_of : IndexStatistics → spec.IndexStatistics
+statistics_of f = record { keys = f.keys.units; pages = f.pages.units; clustered = f.clustered; range = option_map range_of f.range }
 
 abbrev pub statement_of : Statement → spec.Statement
 statement_of (s.CreateTable name columns) = spec.CreateTable (name_of name) (definitions_of columns.items)
 statement_of (s.CreateIndex unique table columns) = spec.CreateIndex unique (name_of table) (map name_of columns.items)
 statement_of (s.Load table file) = spec.Load (name_of table) (text_of file)
 statement_of (s.SetTable table rows pages) = spec.SetTable (name_of table) rows.units pages.units
-statement_of (s.SetIndex table columns figures) = spec.SetIndex (name_of table) (map name_of columns.items) (figures_of figures)
+statement_of (s.SetIndex table columns statistics) = spec.SetIndex (name_of table) (map name_of columns.items) (statistics_of statistics)
 statement_of (s.Query q) = spec.Query (select_of q)
 statement_of (s.Explain q) = spec.Explain (select_of q)
 

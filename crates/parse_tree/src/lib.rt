@@ -12,5 +12,5 @@ pub use leaf::{
 };
 pub use sqlvalue::Op;
 pub use statement::{
-    Bound, ColumnDefinition, Constraint, IndexFigures, Key, KeyName, Range, Select, Statement,
+    Bound, ColumnDefinition, Constraint, IndexStatistics, Key, KeyName, Range, Select, Statement,
 };

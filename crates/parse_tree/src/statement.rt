@@ -58,7 +58,7 @@ pub struct Range {
 
 /// What SET STATISTICS says of an index.
 #[derive(Clone, Copy)]
-pub struct IndexFigures {
+pub struct IndexStatistics {
     pub keys: Count,
     pub pages: Count,
     pub clustered: bool,
@@ -89,7 +89,7 @@ pub enum Statement {
     SetIndex {
         table: Name,
         columns: Vec<Name>,
-        figures: IndexFigures,
+        statistics: IndexStatistics,
     },
     Query(Select),
     Explain(Select),

@@ -1,4 +1,4 @@
-//! The figures of a plan.
+//! The estimates of a plan.
 
 ghost use Rattle.std.specs.Prelude.{◌≤◌};
 ghost use Rattle.definitions.specs.Plans.Cost.{limit};

@@ -7,7 +7,7 @@ ghost use Rattle.definitions.specs.Plans.PlanSpace.{IsPath};
 ghost use Rattle.definitions.specs.Plans.Space.{Space};
 ghost use Rattle.definitions.specs.Plans.TableSet.{no_tables, only};
 ghost use Rattle.definitions.specs.Estimates.BlockSpace.{space_of};
-ghost use Rattle.definitions.specs.Estimates.Cardinality as figures;
+ghost use Rattle.definitions.specs.Estimates.Cardinality as estimates;
 ghost use Rattle.definitions.specs.Estimates.Fractions.{million};
 ghost use Rattle.definitions.specs.Estimates.PlanConjuncts as plans;
 ghost use Rattle.definitions.specs.Estimates.Version as versions;
@@ -16,7 +16,7 @@ ghost use Rattle.plan_tree.specs.Plans.{path_of};
 ghost use Rattle.plan_tree.specs.Sets.{set_of};
 ghost use Rattle.interesting_orders.specs.Uses as order_uses;
 ghost use Rattle.interesting_orders.specs.Uses.{AreUses};
-ghost use Rattle.estimate.specs.Sets as set_figures;
+ghost use Rattle.estimate.specs.Sets as set_estimates;
 ghost use Rattle.plan_space.specs.Item.{AreItems, IsItem};
 ghost use Rattle.plan_space.specs.Items.{item_of};
 ghost use Rattle.plan_space.specs.PathLists as block_paths;
@@ -27,7 +27,7 @@ use crate::listed::{ListedMerge, MergeWay};
 use crate::merge_joins::Merges;
 use crate::path_lists::BlockPaths;
 use crate::paths::{PathItem, Paths};
-use estimate::{Estimate, SetFigures, saturated};
+use estimate::{Estimate, SetEstimates, saturated};
 use interesting_orders::OrderUses;
 use plan_tree::{Path, TableSet};
 use std::alloc::{AllocError, Global};
@@ -47,17 +47,17 @@ impl BlockMerges {
         estimate: &Estimate,
         paths: &BlockPaths,
         uses: &OrderUses,
-        figures: &SetFigures,
+        estimates: &SetEstimates,
     ) -> Result<BlockMerges, AllocError>
         requires paths { block_paths.tables_in paths.now ≡ length (block_of estimate.now.block).tables }
         requires uses { order_uses.sets_in uses.now ≡ 2 ^ length (block_of estimate.now.block).tables }
-        requires figures { set_figures.tables_in figures.now ≡ length (block_of estimate.now.block).tables }
+        requires estimates { set_estimates.tables_in estimates.now ≡ length (block_of estimate.now.block).tables }
         ensures tables { IfOk result (λ m. tables_in m ≡ length (block_of estimate.now.block).tables) }
-        ensures merges { (version : versions.Version) → block_paths.AreBlockPaths version estimate.now.database (block_of estimate.now.block) paths.now → AreUses (space_of version estimate.now.database (block_of estimate.now.block)) uses.now → set_figures.AreFigures estimate.now.database (block_of estimate.now.block) figures.now → IfOk result (AreBlockMerges (space_of version estimate.now.database (block_of estimate.now.block))) }
+        ensures merges { (version : versions.Version) → block_paths.AreBlockPaths version estimate.now.database (block_of estimate.now.block) paths.now → AreUses (space_of version estimate.now.database (block_of estimate.now.block)) uses.now → set_estimates.AreEstimates estimate.now.database (block_of estimate.now.block) estimates.now → IfOk result (AreBlockMerges (space_of version estimate.now.database (block_of estimate.now.block))) }
     {
         let mut tables = Vec::new(alloc);
         'tables: for table in 0..estimate.table_count() {
-            let sort_cost = figures.sort_cost(TableSet::only(table));
+            let sort_cost = estimates.sort_cost(TableSet::only(table));
             tables.push(table_merges(alloc, estimate, paths, uses, table, sort_cost)?)?;
         }
         Ok(BlockMerges { tables })
@@ -86,7 +86,7 @@ fn table_merges(
     requires few { table < most_from_tables }
     requires paths { block_paths.tables_in paths.now ≡ length (block_of estimate.now.block).tables }
     requires uses { order_uses.sets_in uses.now ≡ 2 ^ length (block_of estimate.now.block).tables }
-    ensures { (version : versions.Version) → block_paths.AreBlockPaths version estimate.now.database (block_of estimate.now.block) paths.now → AreUses (space_of version estimate.now.database (block_of estimate.now.block)) uses.now → sort_cost ≡ figures.sort_cost estimate.now.database (block_of estimate.now.block) (only table) → IfOk result (λ merges. AreMergesOf (space_of version estimate.now.database (block_of estimate.now.block)) table (map merge_told merges.items)) }
+    ensures { (version : versions.Version) → block_paths.AreBlockPaths version estimate.now.database (block_of estimate.now.block) paths.now → AreUses (space_of version estimate.now.database (block_of estimate.now.block)) uses.now → sort_cost ≡ estimates.sort_cost estimate.now.database (block_of estimate.now.block) (only table) → IfOk result (λ merges. AreMergesOf (space_of version estimate.now.database (block_of estimate.now.block)) table (map merge_told merges.items)) }
 {
     let mut merges = Vec::new(alloc);
     'conjuncts: for conjunct in 0..estimate.conjuncts().len() {

@@ -31,7 +31,7 @@ use crate::merge_joins::Merges;
 use crate::merge_lists::BlockMerges;
 use crate::path_lists::BlockPaths;
 use crate::paths::Paths;
-use estimate::{Estimate, SetFigures, saturated};
+use estimate::{Estimate, SetEstimates, saturated};
 use interesting_orders::{OrderUses, PlanOrders, Sorts, Version, required_order};
 use plan_tree::{Plan, SortKey, TableSet};
 use std::alloc::{AllocError, Global};
@@ -46,7 +46,7 @@ pub struct Space<'a> {
     orders: PlanOrders,
     paths: BlockPaths,
     merges: BlockMerges,
-    figures: SetFigures,
+    estimates: SetEstimates,
     uses: OrderUses,
     // none where products are free
     links: Option<TableLinks>,
@@ -85,9 +85,9 @@ impl<'a> Space<'a> {
         let required = required_order(alloc, estimate.block())?;
         let orders = PlanOrders::new(alloc, &estimate, version, &required)?;
         let paths = BlockPaths::new(alloc, &estimate, version, &orders)?;
-        let figures = SetFigures::new(alloc, &estimate)?;
+        let estimates = SetEstimates::new(alloc, &estimate)?;
         let uses = OrderUses::new(alloc, estimate.conjuncts(), orders.all(), &required, tables)?;
-        let merges = BlockMerges::new(alloc, &estimate, &paths, &uses, &figures)?;
+        let merges = BlockMerges::new(alloc, &estimate, &paths, &uses, &estimates)?;
         let links = table_links(alloc, &estimate, version)?;
         Ok(Space {
             estimate,
@@ -95,7 +95,7 @@ impl<'a> Space<'a> {
             orders,
             paths,
             merges,
-            figures,
+            estimates,
             uses,
             links,
         })
@@ -229,7 +229,7 @@ impl<'a> Space<'a> {
         ensures exact { result ≡ (space_in self.now).cardinality (set_of tables) }
         ensures below { result ≤ limit }
     {
-        self.figures.cardinality(tables)
+        self.estimates.cardinality(tables)
     }
 
     /// How many rows a table is taken to give, with what is known of it alone.
@@ -238,7 +238,7 @@ impl<'a> Space<'a> {
         ensures exact { result ≡ (space_in self.now).cardinality (only table) }
         ensures below { result ≤ limit }
     {
-        self.figures.cardinality(TableSet::only(table))
+        self.estimates.cardinality(TableSet::only(table))
     }
 
     /// What a sort of the rows of a set of tables costs.
@@ -247,7 +247,7 @@ impl<'a> Space<'a> {
         ensures exact { result ≡ (space_in self.now).sort_cost (set_of tables) }
         ensures below { result ≤ limit }
     {
-        self.figures.sort_cost(tables)
+        self.estimates.sort_cost(tables)
     }
 
     /// What a plan comes to, or none where it is no plan of the block, on whichever of its tables. It looks at all paths or merges of

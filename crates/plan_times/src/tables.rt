@@ -7,11 +7,11 @@ use std::alloc::{AllocError, Global};
 /// How many conjuncts a block may have.
 const CONJUNCTS: u32 = 64;
 
-/// Tables T1, T2 and so on, each with an index, with figures that differ.
+/// Tables T1, T2 and so on, each with an index, with statistics that differ.
 pub(crate) fn script(alloc: Global, tables: u32) -> Result<String, AllocError> {
     let mut text = String::new(alloc);
     for table in 1..tables.saturating_add(1) {
-        let figure = u64::from(table);
+        let statistic = u64::from(table);
         write!(
             text,
             "CREATE TABLE T{table} (X INTEGER); CREATE INDEX ON T{table} (X); "
@@ -19,14 +19,14 @@ pub(crate) fn script(alloc: Global, tables: u32) -> Result<String, AllocError> {
         write!(
             text,
             "SET STATISTICS T{table} ROWS {} PAGES {}; ",
-            1000 * figure,
-            10 * figure
+            1000 * statistic,
+            10 * statistic
         )?;
         write!(
             text,
             "SET STATISTICS T{table} (X) KEYS {} PAGES {}; ",
-            100 * figure,
-            2 * figure
+            100 * statistic,
+            2 * statistic
         )?;
     }
     Ok(text)

@@ -47,7 +47,7 @@ was_in_range from (suc count) n end e there = of_cases (was_in_range (from + 1) 
 known_there : (version : Version) (t : Table) (number : ℕ) → Contains (known_indexes version t) number → number < length t.indexes
 known_there One t number there =
     let (column, found) = was_given (λ column. position (is_on (column ∷ [])) t.indexes) (range_with_len 0 (length t.columns)) number there in
-    (position-Some (is_on (column ∷ [])) t.indexes number (record { columns = []; unique = false; figures = record { keys = 0; pages = 0; clustered = false; range = None } }) found).0
+    (position-Some (is_on (column ∷ [])) t.indexes number (record { columns = []; unique = false; statistics = record { keys = 0; pages = 0; clustered = false; range = None } }) found).0
 known_there Two t number there = was_in_range 0 (length t.indexes) number (length t.indexes) (omega arith) there
 known_there Three t number there = was_in_range 0 (length t.indexes) number (length t.indexes) (omega arith) there
 

@@ -27,12 +27,12 @@ pub(crate) fn shape_of(name: &str) -> Shape {
     }
 }
 
-/// Tables T1, T2 and so on, each with an index, with figures that differ; the first has a column for each table.
+/// Tables T1, T2 and so on, each with an index, with statistics that differ; the first has a column for each table.
 pub(crate) fn script(alloc: Global, shape: Shape, tables: u32) -> Result<String, AllocError> {
     let mut text = String::new(alloc);
     for table in 1..tables.saturating_add(1) {
         push_columns(&mut text, shape, tables, table)?;
-        push_figures(&mut text, table)?;
+        push_statistics(&mut text, table)?;
     }
     Ok(text)
 }
@@ -57,11 +57,11 @@ fn push_sides(text: &mut String, tables: u32) -> Result<(), AllocError> {
     Ok(())
 }
 
-fn push_figures(text: &mut String, table: u32) -> Result<(), AllocError> {
-    let figure = u64::from(table);
-    let (rows, pages) = (1000 * figure, 10 * figure);
+fn push_statistics(text: &mut String, table: u32) -> Result<(), AllocError> {
+    let statistic = u64::from(table);
+    let (rows, pages) = (1000 * statistic, 10 * statistic);
     write!(text, "SET STATISTICS T{table} ROWS {rows} PAGES {pages}; ")?;
-    let (keys, pages) = (100 * figure, 2 * figure);
+    let (keys, pages) = (100 * statistic, 2 * statistic);
     write!(
         text,
         "SET STATISTICS T{table} (X) KEYS {keys} PAGES {pages}; "

@@ -14,10 +14,10 @@ use Rattle.definitions.specs.Grammar as g
 use Rattle.definitions.specs.Grammar.{ScriptAt, Derives, BeginsNone, IsWrong, SyntaxFails, kinds}
 use Rattle.definitions.specs.Limits.{most_levels}
 use Rattle.definitions.specs.Statement as tree
-use Rattle.definitions.specs.Statement.{Name, Select, Statement, Bound, Range, IndexFigures as Given}
-use Rattle.definitions.specs.Table.{Table, Database, KeyRange, IndexFigures, table_named, column_numbers}
+use Rattle.definitions.specs.Statement.{Name, Select, Statement, Bound, Range, IndexStatistics as Given}
+use Rattle.definitions.specs.Table.{Table, Database, KeyRange, IndexStatistics, table_named, column_numbers}
 use Rattle.definitions.specs.Change as made
-use Rattle.definitions.specs.Change.{bound_units, bound_value, KeptAs, RangeKept, FiguresKept, Makes, RepeatsKeys, with_index, with_index_figures, with_table_figures, new_table, changed, first_type}
+use Rattle.definitions.specs.Change.{bound_units, bound_value, KeptAs, RangeKept, StatisticsKept, Makes, RepeatsKeys, with_index, with_index_statistics, with_table_statistics, new_table, changed, first_type}
 use Rattle.definitions.specs.Faults as faulty
 use Rattle.definitions.specs.Faults.{Faulty}
 use Rattle.definitions.specs.Loading.{Record, AreFileRecords}
@@ -42,7 +42,7 @@ is_change (tree.CreateTable name columns) = true
 is_change (tree.CreateIndex unique table columns) = true
 is_change (tree.Load name file) = false
 is_change (tree.SetTable table rows pages) = true
-is_change (tree.SetIndex table columns figures) = true
+is_change (tree.SetIndex table columns statistics) = true
 is_change (tree.Query q) = false
 is_change (tree.Explain q) = false
 
@@ -51,7 +51,7 @@ kind (tree.CreateTable name columns) = 3
 kind (tree.CreateIndex unique table columns) = 3
 kind (tree.Load name file) = 0
 kind (tree.SetTable table rows pages) = 3
-kind (tree.SetIndex table columns figures) = 3
+kind (tree.SetIndex table columns statistics) = 3
 kind (tree.Query q) = 1
 kind (tree.Explain q) = 2
 
@@ -68,7 +68,7 @@ makes_change : (db : Database) (s : Statement) (new : Database) → Makes db s n
 makes_change db s new (made.created name columns is n) = ap is_change is
 makes_change db s new (made.indexed unique name columns t numbers is named found distinct n) = ap is_change is
 makes_change db s new (made.table_set name rows pages is n) = ap is_change is
-makes_change db s new (made.index_set name columns given t numbers type kept is named found first figures n) = ap is_change is
+makes_change db s new (made.index_set name columns given t numbers type kept is named found first statistics n) = ap is_change is
 
 same_some : {X : Type 0} (o : Option X) (x y : X) → o ≡ Some x → o ≡ Some y → x ≡ y
 same_some o x y e f = let h : Some x ≡ Some y = sym e ∙ f in cc
@@ -126,7 +126,7 @@ load_is_faultless db s r name file t (faulty.two_primary n c h) is named = cc
 load_is_faultless db s r name file t (faulty.index u n c x h) is named = cc
 load_is_faultless db s r name file t (faulty.no_such_table n c p h) is named = cc
 load_is_faultless db s r name file t (faulty.out_of_range n c p h) is named = cc
-load_is_faultless db s r name file t (faulty.figures n c v x h) is named = cc
+load_is_faultless db s r name file t (faulty.statistics n c v x h) is named = cc
 load_is_faultless db s r name file t (faulty.query q x h) is named = cc
 load_is_faultless db s r name file t (faulty.not_yet q a h) is named = cc
 load_is_faultless db s r name file t (faulty.explained q x h) is named = cc
@@ -140,7 +140,7 @@ never_both db s new (made.repeated name columns t numbers is named found again) 
     again (rw (← t_is, ← numbers_are) at (distinct (sym u)))
 never_both db s new (made.repeated name columns t numbers is named found again) (made.created name' columns' is' n) = let e = sym is ∙ is' in cc
 never_both db s new (made.repeated name columns t numbers is named found again) (made.table_set name' rows pages is' n) = let e = sym is ∙ is' in cc
-never_both db s new (made.repeated name columns t numbers is named found again) (made.index_set name' columns' given t' numbers' type kept is' named' found' first figures n) = let e = sym is ∙ is' in cc
+never_both db s new (made.repeated name columns t numbers is named found again) (made.index_set name' columns' given t' numbers' type kept is' named' found' first statistics n) = let e = sym is ∙ is' in cc
 
 -- ---- what statements make
 
@@ -155,9 +155,9 @@ range_once type None a b g h = g ∙ sym h
 range_once type (Some r) a b (low, high, kl, kh, e) (low', high', kl', kh', e') =
     e ∙ ap₂ (λ l h. let range : KeyRange = record { low = l; high = h } in Some range) (kept_once type r.low low low' kl kl') (kept_once type r.high high high' kh kh') ∙ sym e'
 
-figures_once : (type : SqlType) (given : Given) (a b : IndexFigures) → FiguresKept type given a → FiguresKept type given b → a ≡ b
-figures_once type given a b (range, kept, e) (range', kept', e') =
-    e ∙ ap (λ r. let f : IndexFigures = record { keys = given.keys; pages = given.pages; clustered = given.clustered; range = r } in f) (range_once type given.range range range' kept kept') ∙ sym e'
+statistics_once : (type : SqlType) (given : Given) (a b : IndexStatistics) → StatisticsKept type given a → StatisticsKept type given b → a ≡ b
+statistics_once type given a b (range, kept, e) (range', kept', e') =
+    e ∙ ap (λ r. let f : IndexStatistics = record { keys = given.keys; pages = given.pages; clustered = given.clustered; range = r } in f) (range_once type given.range range range' kept kept') ∙ sym e'
 
 makes_once : (db : Database) (s : Statement) (a b : Database) → Makes db s a → Makes db s b → a ≡ b
 makes_once db s a b (made.created name columns is n) (made.created name' columns' is' n') =
@@ -165,7 +165,7 @@ makes_once db s a b (made.created name columns is n) (made.created name' columns
     n ∙ ap₂ (λ name columns. db ++ new_table name columns ∷ []) e f ∙ sym n'
 makes_once db s a b (made.created name columns is n) (made.indexed u name' columns' t numbers is' named found distinct n') = absurd (let e = sym is ∙ is' in cc)
 makes_once db s a b (made.created name columns is n) (made.table_set name' rows pages is' n') = absurd (let e = sym is ∙ is' in cc)
-makes_once db s a b (made.created name columns is n) (made.index_set name' columns' given t numbers type kept is' named found first figures n') = absurd (let e = sym is ∙ is' in cc)
+makes_once db s a b (made.created name columns is n) (made.index_set name' columns' given t numbers type kept is' named found first statistics n') = absurd (let e = sym is ∙ is' in cc)
 makes_once db s a b (made.indexed u name' columns' t numbers is' named found distinct n') (made.created name columns is n) = absurd (let e = sym is ∙ is' in cc)
 makes_once db s a b (made.indexed u name columns t numbers is named found distinct n) (made.indexed u' name' columns' t' numbers' is' named' found' distinct' n') =
     let (v, e, f) = indexed_is u u' name name' columns columns' (sym is ∙ is') in
@@ -173,23 +173,23 @@ makes_once db s a b (made.indexed u name columns t numbers is named found distin
     let numbers_are : numbers ≡ numbers' = same_some (column_numbers t'.columns columns') numbers numbers' (rw (t_is, f) at found) found' in
     n ∙ ap₂ (λ u numbers. changed (λ t. with_index t u numbers) db name) v numbers_are ∙ ap (λ name. changed (λ t. with_index t u' numbers') db name) e ∙ sym n'
 makes_once db s a b (made.indexed u name columns t numbers is named found distinct n) (made.table_set name' rows pages is' n') = absurd (let e = sym is ∙ is' in cc)
-makes_once db s a b (made.indexed u name columns t numbers is named found distinct n) (made.index_set name' columns' given t' numbers' type kept is' named' found' first figures n') = absurd (let e = sym is ∙ is' in cc)
+makes_once db s a b (made.indexed u name columns t numbers is named found distinct n) (made.index_set name' columns' given t' numbers' type kept is' named' found' first statistics n') = absurd (let e = sym is ∙ is' in cc)
 makes_once db s a b (made.table_set name rows pages is n) (made.created name' columns is' n') = absurd (let e = sym is ∙ is' in cc)
 makes_once db s a b (made.table_set name rows pages is n) (made.indexed u name' columns' t numbers is' named found distinct n') = absurd (let e = sym is ∙ is' in cc)
 makes_once db s a b (made.table_set name rows pages is n) (made.table_set name' rows' pages' is' n') =
     let (e, f, h) = table_set_is name name' rows rows' pages pages' (sym is ∙ is') in
-    n ∙ ap₂ (λ rows pages. changed (λ u. with_table_figures u (record { rows = rows; pages = pages })) db name) f h ∙ ap (λ name. changed (λ u. with_table_figures u (record { rows = rows'; pages = pages' })) db name) e ∙ sym n'
-makes_once db s a b (made.table_set name rows pages is n) (made.index_set name' columns given t numbers type kept is' named found first figures n') = absurd (let e = sym is ∙ is' in cc)
-makes_once db s a b (made.index_set name columns given t numbers type kept is named found first figures n) (made.created name' columns' is' n') = absurd (let e = sym is ∙ is' in cc)
-makes_once db s a b (made.index_set name columns given t numbers type kept is named found first figures n) (made.indexed u name' columns' t' numbers' is' named' found' distinct n') = absurd (let e = sym is ∙ is' in cc)
-makes_once db s a b (made.index_set name columns given t numbers type kept is named found first figures n) (made.table_set name' rows pages is' n') = absurd (let e = sym is ∙ is' in cc)
-makes_once db s a b (made.index_set name columns given t numbers type kept is named found first figures n) (made.index_set name' columns' given' t' numbers' type' kept' is' named' found' first' figures' n') =
+    n ∙ ap₂ (λ rows pages. changed (λ u. with_table_statistics u (record { rows = rows; pages = pages })) db name) f h ∙ ap (λ name. changed (λ u. with_table_statistics u (record { rows = rows'; pages = pages' })) db name) e ∙ sym n'
+makes_once db s a b (made.table_set name rows pages is n) (made.index_set name' columns given t numbers type kept is' named found first statistics n') = absurd (let e = sym is ∙ is' in cc)
+makes_once db s a b (made.index_set name columns given t numbers type kept is named found first statistics n) (made.created name' columns' is' n') = absurd (let e = sym is ∙ is' in cc)
+makes_once db s a b (made.index_set name columns given t numbers type kept is named found first statistics n) (made.indexed u name' columns' t' numbers' is' named' found' distinct n') = absurd (let e = sym is ∙ is' in cc)
+makes_once db s a b (made.index_set name columns given t numbers type kept is named found first statistics n) (made.table_set name' rows pages is' n') = absurd (let e = sym is ∙ is' in cc)
+makes_once db s a b (made.index_set name columns given t numbers type kept is named found first statistics n) (made.index_set name' columns' given' t' numbers' type' kept' is' named' found' first' statistics' n') =
     let (e, f, h) = index_set_is name name' columns columns' given given' (sym is ∙ is') in
     let t_is : t ≡ t' = same_some (table_named db name') t t' (rw e at named) named' in
     let numbers_are : numbers ≡ numbers' = same_some (column_numbers t'.columns columns') numbers numbers' (rw (t_is, f) at found) found' in
     let type_is : type ≡ type' = same_some (first_type t'.columns columns') type type' (rw (t_is, f) at first) first' in
-    let kept_is : kept ≡ kept' = figures_once type' given' kept kept' (rw (type_is, h) at figures) figures' in
-    n ∙ ap₂ (λ numbers kept. changed (λ u. with_index_figures u numbers kept) db name) numbers_are kept_is ∙ ap (λ name. changed (λ u. with_index_figures u numbers' kept') db name) e ∙ sym n'
+    let kept_is : kept ≡ kept' = statistics_once type' given' kept kept' (rw (type_is, h) at statistics) statistics' in
+    n ∙ ap₂ (λ numbers kept. changed (λ u. with_index_statistics u numbers kept) db name) numbers_are kept_is ∙ ap (λ name. changed (λ u. with_index_statistics u numbers' kept') db name) e ∙ sym n'
 
 -- ---- what queries tell
 

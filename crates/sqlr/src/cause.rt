@@ -2,11 +2,11 @@
 
 use binder::QueryFault;
 use catalog::{
-    CreateFault, FiguresFault, IndexFault, RefusedRecord, RepeatedRecord, TableFiguresFault,
+    CreateFault, StatisticsFault, IndexFault, RefusedRecord, RepeatedRecord, TableStatisticsFault,
 };
 use lexer::LexFault;
 use sqlvalue::Refusal;
-use syntax::{ColumnDefinition, Count, IndexFigures, Name, Select, StringLiteral, Unexpected};
+use syntax::{ColumnDefinition, Count, IndexStatistics, Name, Select, StringLiteral, Unexpected};
 
 /// A refusal and its cause.
 #[derive(Drop)]
@@ -38,8 +38,8 @@ pub enum Cause<'a> {
         list: ColumnList<'a>,
         fault: IndexFault,
     },
-    TableFigures(TableFiguresCause<'a>),
-    Figures(FiguresCause<'a>),
+    TableStatistics(TableStatisticsCause<'a>),
+    Statistics(StatisticsCause<'a>),
     /// There is no table to load.
     NoTable(&'a Name),
     /// There is no file of a name.
@@ -68,21 +68,21 @@ pub struct ColumnList<'a> {
     pub columns: &'a [Name],
 }
 
-/// Why the figures of a table are not set.
+/// Why the statistics of a table are not set.
 #[derive(Clone, Copy)]
-pub struct TableFiguresCause<'a> {
+pub struct TableStatisticsCause<'a> {
     pub table: &'a Name,
     pub rows: Count,
     pub pages: Count,
-    pub fault: TableFiguresFault,
+    pub fault: TableStatisticsFault,
 }
 
-/// Why the figures of an index are not set.
+/// Why the statistics of an index are not set.
 #[derive(Clone, Copy)]
-pub struct FiguresCause<'a> {
+pub struct StatisticsCause<'a> {
     pub list: ColumnList<'a>,
-    pub figures: &'a IndexFigures,
-    pub fault: FiguresFault,
+    pub statistics: &'a IndexStatistics,
+    pub fault: StatisticsFault,
 }
 
 /// A LOAD, with the bytes of its file.

@@ -2,15 +2,15 @@
 
 ghost use Rattle.std.specs.Prelude.{◌≡◌, map, IfOk, IfErr, OnErr};
 ghost use Rattle.definitions.specs.Statement as tree;
-ghost use Rattle.parse_tree.specs.Trees.{definitions_of, figures_of, name_of};
+ghost use Rattle.parse_tree.specs.Trees.{definitions_of, statistics_of, name_of};
 ghost use Rattle.sqlr.specs.declared.outcome.StepFault.TheVariants as fault;
 ghost use Rattle.sqlr.specs.Outcomes.{Changes};
 
-use crate::cause::{Cause, ColumnList, FiguresCause, TableFiguresCause};
+use crate::cause::{Cause, ColumnList, StatisticsCause, TableStatisticsCause};
 use crate::outcome::{Printed, StepFault, done, refused, refused_by};
 use catalog::Database;
 use std::alloc::Global;
-use syntax::{ColumnDefinition, Count, IndexFigures, Name};
+use syntax::{ColumnDefinition, Count, IndexStatistics, Name};
 
 pub fn create_table<'a>(
     alloc: Global,
@@ -72,13 +72,13 @@ pub fn set_table<'a>(
         Ok(()) => return Ok(done(text)),
         Err(fault) => fault,
     };
-    let cause = TableFiguresCause {
+    let cause = TableStatisticsCause {
         table,
         rows,
         pages,
         fault,
     };
-    refused(alloc, fault.refusal(), Cause::TableFigures(cause))
+    refused(alloc, fault.refusal(), Cause::TableStatistics(cause))
 }
 
 /// SET STATISTICS of an index.
@@ -87,21 +87,21 @@ pub fn set_index<'a>(
     database: &mut Database,
     table: &'a Name,
     columns: &'a [Name],
-    figures: &'a IndexFigures,
+    statistics: &'a IndexStatistics,
 ) -> Result<Printed<'a>, StepFault>
-    ensures changes { IfOk result (Changes database.old (tree.SetIndex (name_of table.now) (map name_of columns.now) (figures_of figures.now)) database.new) }
+    ensures changes { IfOk result (Changes database.old (tree.SetIndex (name_of table.now) (map name_of columns.now) (statistics_of statistics.now)) database.new) }
     ensures kept { OnErr result (database.new ≡ database.old) }
     ensures memory { IfErr result (λ f. f ≡ fault.Memory) }
 {
     let text = Vec::from_slice(alloc, b"OK\n")?;
-    let fault = match database.set_index(table.text.as_str(), columns, figures) {
+    let fault = match database.set_index(table.text.as_str(), columns, statistics) {
         Ok(()) => return Ok(done(text)),
         Err(fault) => fault,
     };
-    let cause = FiguresCause {
+    let cause = StatisticsCause {
         list: ColumnList { table, columns },
-        figures,
+        statistics,
         fault,
     };
-    refused_by(alloc, fault.refusal(), Cause::Figures(cause))
+    refused_by(alloc, fault.refusal(), Cause::Statistics(cause))
 }

@@ -18,7 +18,7 @@ mod session;
 mod sink;
 
 pub use cause::{
-    Cause, ColumnList, FiguresCause, FileLoad, QueryCause, Refused, TableFiguresCause,
+    Cause, ColumnList, StatisticsCause, FileLoad, QueryCause, Refused, TableStatisticsCause,
 };
 pub use certificate_files::FileTold;
 pub use checked::CheckedFile;

@@ -167,8 +167,8 @@ impl<L: Library> Session<L> {
             Statement::SetIndex {
                 table,
                 columns,
-                figures,
-            } => set_index(alloc, &mut self.database, table, columns, figures),
+                statistics,
+            } => set_index(alloc, &mut self.database, table, columns, statistics),
             Statement::Query(query) => self.query(query),
             Statement::Explain(query) => explain(alloc, &self.database, query),
         }

@@ -22,7 +22,7 @@ use Rattle.parse_tree.specs.declared.statement.Select.{Select}
 use Rattle.parse_tree.specs.declared.statement.ColumnDefinition.{ColumnDefinition}
 use Rattle.parse_tree.specs.declared.statement.Bound.{Bound}
 use Rattle.parse_tree.specs.declared.statement.Range.{Range}
-use Rattle.parse_tree.specs.declared.statement.IndexFigures.{IndexFigures}
+use Rattle.parse_tree.specs.declared.statement.IndexStatistics.{IndexStatistics}
 use Rattle.parse_tree.specs.declared.statement.Statement.{Statement}
 use Rattle.parse_tree.specs.declared.statement.Statement.TheVariants as s
 use Rattle.syntax_cursor.specs.Places.{Leaf, Placed, Reserved, Mark, one, if_there, name_leaves, numeral_leaves, string_leaves, count_leaves}
@@ -144,14 +144,14 @@ bound_leaves b = numeral_leaves b.number
 abbrev pub range_leaves : Range → List Placed
 range_leaves r = bound_leaves r.low ++ bound_leaves r.high
 
-abbrev pub figures_leaves : IndexFigures → List Placed
-figures_leaves f = (count_leaves f.keys ++ count_leaves f.pages) ++ if_there range_leaves f.range
+abbrev pub statistics_leaves : IndexStatistics → List Placed
+statistics_leaves f = (count_leaves f.keys ++ count_leaves f.pages) ++ if_there range_leaves f.range
 
 abbrev pub statement_leaves : Statement → List Placed
 statement_leaves (s.CreateTable name columns) = name_leaves name ++ all definition_leaves columns.items
 statement_leaves (s.CreateIndex unique table columns) = name_leaves table ++ all name_leaves columns.items
 statement_leaves (s.Load table file) = name_leaves table ++ string_leaves file
 statement_leaves (s.SetTable table rows pages) = (name_leaves table ++ count_leaves rows) ++ count_leaves pages
-statement_leaves (s.SetIndex table columns figures) = (name_leaves table ++ all name_leaves columns.items) ++ figures_leaves figures
+statement_leaves (s.SetIndex table columns statistics) = (name_leaves table ++ all name_leaves columns.items) ++ statistics_leaves statistics
 statement_leaves (s.Query q) = select_leaves q
 statement_leaves (s.Explain q) = select_leaves q

@@ -10,7 +10,7 @@ mod statement;
 
 pub use fault::{SyntaxFault, Unexpected};
 pub use parse_tree::{
-    Block, Bound, ColumnDefinition, ColumnReference, Constraint, Count, Expr, IndexFigures, Item,
+    Block, Bound, ColumnDefinition, ColumnReference, Constraint, Count, Expr, IndexStatistics, Item,
     Key, KeyName, LineOperator, Name, Numeral, Op, Operand, Quantifier, Range, Select, SelectList,
     SetFunction, Source, Statement, StringLiteral,
 };

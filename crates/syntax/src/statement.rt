@@ -3,16 +3,16 @@
 ghost use Rattle.std.specs.Prelude.{◌≡◌, [], IfOk, map, option_map};
 ghost use Rattle.definitions.specs.Grammar as grammar;
 ghost use Rattle.definitions.specs.Grammar.{within};
-ghost use Rattle.parse_tree.specs.Trees.{bound_of, constraint_of, figures_of, name_of, range_of, statement_of};
+ghost use Rattle.parse_tree.specs.Trees.{bound_of, constraint_of, statistics_of, name_of, range_of, statement_of};
 ghost use Rattle.sqlvalue.specs.Meaning.{declared_of};
 ghost use Rattle.syntax_cursor.specs.Places.{Stands, if_there, name_leaves};
 ghost use Rattle.syntax_cursor.specs.Reading.{Parses, ParsesFlat, viewed};
-ghost use Rattle.syntax.specs.Places.{all, bound_leaves, figures_leaves, range_leaves, statement_leaves};
+ghost use Rattle.syntax.specs.Places.{all, bound_leaves, statistics_leaves, range_leaves, statement_leaves};
 
 use crate::element::{Element, comma_list};
 use crate::query;
 use lexer::{Symbol, Word};
-use parse_tree::{Bound, ColumnDefinition, Constraint, IndexFigures, Name, Range, Statement};
+use parse_tree::{Bound, ColumnDefinition, Constraint, IndexStatistics, Name, Range, Statement};
 use sqlvalue::DeclaredType;
 use syntax_cursor::{Cursor, Stop, TokenClass, TypeWord};
 
@@ -189,18 +189,18 @@ fn set_statistics(cursor: &mut Cursor) -> Result<Statement, Stop>
         return Ok(Statement::SetTable { table, rows, pages });
     }
     let columns = names(cursor)?;
-    let figures = index_figures(cursor)?;
+    let statistics = index_statistics(cursor)?;
     Ok(Statement::SetIndex {
         table,
         columns,
-        figures,
+        statistics,
     })
 }
 
 /// `KEYS count PAGES count [ CLUSTERED ] [ LOW bound HIGH bound ]`.
-fn index_figures(cursor: &mut Cursor) -> Result<IndexFigures, Stop>
-    ensures reads { ParsesFlat grammar.FiguresAt cursor.old cursor.new (viewed figures_of result) }
-    ensures placed { IfOk result (λ figures. Stands cursor.old cursor.new (figures_leaves figures)) }
+fn index_statistics(cursor: &mut Cursor) -> Result<IndexStatistics, Stop>
+    ensures reads { ParsesFlat grammar.StatisticsAt cursor.old cursor.new (viewed statistics_of result) }
+    ensures placed { IfOk result (λ statistics. Stands cursor.old cursor.new (statistics_leaves statistics)) }
 {
     cursor.expect_word(Word::Keys)?;
     let keys = cursor.count()?;
@@ -208,7 +208,7 @@ fn index_figures(cursor: &mut Cursor) -> Result<IndexFigures, Stop>
     let pages = cursor.count()?;
     let clustered = cursor.eat_word(Word::Clustered);
     let range = range(cursor)?;
-    Ok(IndexFigures {
+    Ok(IndexStatistics {
         keys,
         pages,
         clustered,

@@ -1,10 +1,10 @@
-//! Indexes of tables and their figures, worked out by hand.
+//! Indexes of tables and their statistics, worked out by hand.
 
 ghost use Rattle.std.specs.Prelude.{◌<◌, ◌^◌, nat_abs};
 
 use catalog::{
-    Database, EarlierRow, IndexFault, IndexFigures, KeyRange, LoadFault, RepeatedKey,
-    RepeatedRecord, Table, TableFigures,
+    Database, EarlierRow, IndexFault, IndexStatistics, KeyRange, LoadFault, RepeatedKey,
+    RepeatedRecord, Table, TableStatistics,
 };
 use indexes::OrderedIndex;
 use sqlvalue::{Num, Value};
@@ -29,9 +29,9 @@ fn whole(units: i128) -> Value<'static>
     Value::Num(Num { units, scale: 0 })
 }
 
-fn figures_at(table: &Table, number: usize) -> Option<IndexFigures> {
+fn statistics_at(table: &Table, number: usize) -> Option<IndexStatistics> {
     if number < table.index_count() {
-        Some(table.index(number).figures())
+        Some(table.index(number).statistics())
     } else {
         None
     }
@@ -74,16 +74,16 @@ fn a_unique_column_has_an_index(rt: HostRuntime) -> Result<(), Fail> {
     assert!(rt; apply(rt.alloc(), &mut database, script));
     assert_eq!(rt; database.load("T", b"1\n2\n3\n"), Ok(3));
     let table = database.table("T").expect(&rt, "the table");
-    assert_eq!(rt; table.figures(), TableFigures { rows: 3, pages: 1 });
-    let figures = IndexFigures {
+    assert_eq!(rt; table.statistics(), TableStatistics { rows: 3, pages: 1 });
+    let statistics = IndexStatistics {
         keys: 3,
         pages: 1,
         clustered: true,
         range: Some(KeyRange { low: 1, high: 3 }),
     };
     assert_eq!(rt;
-        (table.index_count(), figures_at(table, 0)),
-        (1, Some(figures))
+        (table.index_count(), statistics_at(table, 0)),
+        (1, Some(statistics))
     );
     Ok(())
 }
@@ -94,31 +94,31 @@ fn keys_with_nulls_are_no_keys(rt: HostRuntime) -> Result<(), Fail> {
     let script =
         "CREATE TABLE T (A NUMERIC(4,1), B CHAR(3), C SMALLINT); CREATE INDEX ON T (B, A);";
     assert!(rt; apply(rt.alloc(), &mut database, script));
-    let empty = IndexFigures {
+    let empty = IndexStatistics {
         keys: 0,
         pages: 1,
         clustered: true,
         range: None,
     };
     let table = database.table("T").expect(&rt, "the table");
-    assert_eq!(rt; figures_at(table, 0), Some(empty));
+    assert_eq!(rt; statistics_at(table, 0), Some(empty));
     assert_eq!(rt; database.load("T", RECORDS), Ok(7));
     assert!(rt; apply(rt.alloc(), &mut database, "CREATE INDEX ON T (A, B, C);"));
     let table = database.table("T").expect(&rt, "the table");
-    let texts = IndexFigures {
+    let texts = IndexStatistics {
         keys: 3,
         pages: 1,
         clustered: false,
         range: None,
     };
-    let numbers = IndexFigures {
+    let numbers = IndexStatistics {
         keys: 3,
         pages: 1,
         clustered: false,
         range: Some(KeyRange { low: -20, high: 15 }),
     };
     assert_eq!(rt;
-        (figures_at(table, 0), figures_at(table, 1)),
+        (statistics_at(table, 0), statistics_at(table, 1)),
         (Some(texts), Some(numbers))
     );
     Ok(())
@@ -136,38 +136,38 @@ fn sixteen_rows_take_two_pages(rt: HostRuntime) -> Result<(), Fail> {
         Ok(15)
     );
     let table = database.table("T").expect(&rt, "the table");
-    let one = IndexFigures {
+    let one = IndexStatistics {
         keys: 1,
         pages: 1,
         clustered: true,
         range: None,
     };
     assert_eq!(rt;
-        (table.figures().pages, figures_at(table, 0)),
+        (table.statistics().pages, statistics_at(table, 0)),
         (1, Some(one))
     );
     assert_eq!(rt; database.load("T", b"\\N\n"), Ok(1));
     let table = database.table("T").expect(&rt, "the table");
-    let two = IndexFigures {
+    let two = IndexStatistics {
         keys: 1,
         pages: 2,
         clustered: false,
         range: None,
     };
     assert_eq!(rt;
-        (table.figures().pages, figures_at(table, 0)),
+        (table.statistics().pages, statistics_at(table, 0)),
         (2, Some(two))
     );
     Ok(())
 }
 
-/// A table with figures that are set, and an index behind them.
+/// A table with statistics that are set, and an index behind them.
 const SET: &str = "CREATE TABLE T (A INTEGER NOT NULL UNIQUE, B CHAR(3));
 SET STATISTICS T ROWS 1000 PAGES 50;
 SET STATISTICS T (A) KEYS 7 PAGES 9 LOW -1.0 HIGH 5;
 CREATE INDEX ON T (B);";
 
-const SET_FIGURES: IndexFigures = IndexFigures {
+const SET_FIGURES: IndexStatistics = IndexStatistics {
     keys: 7,
     pages: 9,
     clustered: false,
@@ -175,42 +175,42 @@ const SET_FIGURES: IndexFigures = IndexFigures {
 };
 
 #[test]
-fn a_new_index_leaves_all_other_figures(rt: HostRuntime) -> Result<(), Fail> {
+fn a_new_index_leaves_all_other_statistics(rt: HostRuntime) -> Result<(), Fail> {
     let mut database = Database::new(rt.alloc());
     assert!(rt; apply(rt.alloc(), &mut database, SET));
-    let counted = IndexFigures {
+    let counted = IndexStatistics {
         keys: 0,
         pages: 1,
         clustered: true,
         range: None,
     };
     let table = database.table("T").expect(&rt, "the table");
-    assert_eq!(rt; (table.figures().rows, table.figures().pages), (1000, 50));
+    assert_eq!(rt; (table.statistics().rows, table.statistics().pages), (1000, 50));
     assert_eq!(rt;
-        (figures_at(table, 0), figures_at(table, 1)),
+        (statistics_at(table, 0), statistics_at(table, 1)),
         (Some(SET_FIGURES), Some(counted))
     );
     Ok(())
 }
 
 #[test]
-fn figures_that_are_set_hold_until_a_load(rt: HostRuntime) -> Result<(), Fail> {
+fn statistics_that_are_set_hold_until_a_load(rt: HostRuntime) -> Result<(), Fail> {
     let mut database = Database::new(rt.alloc());
     assert!(rt; apply(rt.alloc(), &mut database, SET));
     assert!(rt; database.load("T", b"1,a\n1,b\n").is_err());
     let table = database.table("T").expect(&rt, "the table");
-    assert_eq!(rt; (table.figures().rows, table.figures().pages), (1000, 50));
-    assert_eq!(rt; figures_at(table, 0), Some(SET_FIGURES));
+    assert_eq!(rt; (table.statistics().rows, table.statistics().pages), (1000, 50));
+    assert_eq!(rt; statistics_at(table, 0), Some(SET_FIGURES));
     assert_eq!(rt; database.load("T", b"8,a\n6,b\n"), Ok(2));
     let table = database.table("T").expect(&rt, "the table");
-    let anew = IndexFigures {
+    let anew = IndexStatistics {
         keys: 2,
         pages: 1,
         clustered: false,
         range: Some(KeyRange { low: 6, high: 8 }),
     };
-    assert_eq!(rt; (table.figures().rows, table.figures().pages), (2, 1));
-    assert_eq!(rt; figures_at(table, 0), Some(anew));
+    assert_eq!(rt; (table.statistics().rows, table.statistics().pages), (2, 1));
+    assert_eq!(rt; statistics_at(table, 0), Some(anew));
     Ok(())
 }
 
@@ -368,12 +368,12 @@ fn an_index_that_grows_is_as_one_built_anew(rt: HostRuntime) -> Result<(), Fail>
     );
     let table = database.table("T").expect(&rt, "the table");
     assert_eq!(rt; equal(table, &[]), Some([1, 3, 5, 4, 0, 2, 6].as_slice()));
-    let figures = IndexFigures {
+    let statistics = IndexStatistics {
         keys: 3,
         pages: 1,
         clustered: false,
         range: Some(KeyRange { low: -20, high: 15 }),
     };
-    assert_eq!(rt; figures_at(table, 0), Some(figures));
+    assert_eq!(rt; statistics_at(table, 0), Some(statistics));
     Ok(())
 }

@@ -5,7 +5,7 @@ use crate::writer::Writer;
 use sqlvalue::DeclaredType;
 use std::alloc::{AllocError, Global};
 use syntax::{
-    Block, Bound, ColumnDefinition, ColumnReference, Constraint, Count, Expr, IndexFigures, Item,
+    Block, Bound, ColumnDefinition, ColumnReference, Constraint, Count, Expr, IndexStatistics, Item,
     Key, KeyName, LineOperator, Name, Numeral, Op, Operand, Quantifier, Select, SelectList,
     SetFunction, Source, Statement, StringLiteral,
 };
@@ -49,11 +49,11 @@ impl Writer {
             Statement::SetIndex {
                 table,
                 columns,
-                figures,
+                statistics,
             } => {
                 self.behind("SET STATISTICS ", table);
                 self.names(columns);
-                self.figures(*figures);
+                self.statistics(*statistics);
             }
             Statement::Query(select) => self.select(select),
             Statement::Explain(select) => {
@@ -92,11 +92,11 @@ impl Writer {
         self.put(")");
     }
 
-    fn figures(&mut self, figures: IndexFigures) {
-        self.count(" KEYS ", figures.keys);
-        self.count(" PAGES ", figures.pages);
-        self.put(if figures.clustered { " CLUSTERED" } else { "" });
-        if let Some(range) = figures.range {
+    fn statistics(&mut self, statistics: IndexStatistics) {
+        self.count(" KEYS ", statistics.keys);
+        self.count(" PAGES ", statistics.pages);
+        self.put(if statistics.clustered { " CLUSTERED" } else { "" });
+        if let Some(range) = statistics.range {
             self.bound(" LOW ", range.low);
             self.bound(" HIGH ", range.high);
         }

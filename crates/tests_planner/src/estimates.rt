@@ -1,7 +1,7 @@
 //! Shares, rows and sorts (Selinger et al. 1979, sections 4 and 5).
 
 use catalog::Database;
-use estimate::{Estimate, SetFigures};
+use estimate::{Estimate, SetEstimates};
 use plan_tree::TableSet;
 use std::alloc::Global;
 use std::test::Fail;
@@ -52,13 +52,13 @@ fn conditions_have_their_shares(rt: HostRuntime) -> Result<(), Fail> {
 
 /// The rows of both tables, of the second for a known row of the first, and what sorts of the first, the second and both cost; and
 /// as they are made at once for all sets, the rows of no table and of both, and what a sort of both costs.
-fn figures(alloc: Global, database: &Database, query: &str) -> Option<[u64; 8]> {
+fn estimates(alloc: Global, database: &Database, query: &str) -> Option<[u64; 8]> {
     let block = block(alloc, database, query)?;
     let estimate = Estimate::new(alloc, database, &block).ok()?;
     if estimate.table_count() != 2 {
         return None;
     }
-    let made = SetFigures::new(alloc, &estimate).ok()?;
+    let made = SetEstimates::new(alloc, &estimate).ok()?;
     let both = TableSet::first(2);
     Some([
         estimate.cardinality(both),
@@ -90,7 +90,7 @@ fn sets_of_tables_have_their_rows(rt: HostRuntime) -> Result<(), Fail> {
             [1000, 100, 30, 1080, 1160, 1, 1000, 1160],
         ),
     ] {
-        assert_eq!(rt; figures(rt.alloc(), &database, query), Some(wanted));
+        assert_eq!(rt; estimates(rt.alloc(), &database, query), Some(wanted));
     }
     Ok(())
 }

@@ -39,9 +39,9 @@ fn changes(database: &mut Database, statement: &Statement) -> bool {
         Statement::SetIndex {
             table,
             columns,
-            figures,
+            statistics,
         } => database
-            .set_index(table.text.as_str(), columns, figures)
+            .set_index(table.text.as_str(), columns, statistics)
             .is_ok(),
         _ => false,
     }

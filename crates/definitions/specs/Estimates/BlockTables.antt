@@ -1,4 +1,4 @@
--- The tables of a bound block: sets of them, their figures and their indexes.
+-- The tables of a bound block: sets of them, their statistics and their indexes.
 use Rattle.std.specs.Prelude.{ℕ, Bool, ◌==◌, bit_or, List, [], length, filter, Option, option_map, option_and_then, unwrap_or, slice_get}
 use Rattle.std.specs.List.{range_with_len}
 use Rattle.std.specs.Int.{bit_at}
@@ -18,16 +18,16 @@ module _ (db : Database) (block : Block) where
   abbrev pub table_at : ℕ → Option Table
   table_at table = option_and_then (slice_get db) (slice_get block.tables table)
 
-  -- a figure of a table
-  abbrev pub figure_at : (Table → ℕ) → ℕ → ℕ
-  figure_at figure table = unwrap_or (option_map figure (table_at table)) 0
+  -- a statistic of a table
+  abbrev pub statistic_at : (Table → ℕ) → ℕ → ℕ
+  statistic_at statistic table = unwrap_or (option_map statistic (table_at table)) 0
 
   -- how many rows it is taken to have, and on how many pages (Selinger et al. 1979, section 4: NCARD and TCARD)
   abbrev pub rows_at : ℕ → ℕ
-  rows_at table = figure_at (λ t. t.figures.rows) table
+  rows_at table = statistic_at (λ t. t.statistics.rows) table
 
   abbrev pub pages_at : ℕ → ℕ
-  pages_at table = figure_at (λ t. t.figures.pages) table
+  pages_at table = statistic_at (λ t. t.statistics.pages) table
 
   -- an index of a table, and its columns, the one that counts most first
   abbrev pub index_at : ℕ → ℕ → Option Index

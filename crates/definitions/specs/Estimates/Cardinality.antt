@@ -3,12 +3,12 @@
 use Rattle.std.specs.Prelude.{ℕ, ◌+◌, ◌*◌, Bool, not, ◌&&◌, List, [], ◌∷◌, filter, fold, sum_by}
 use Rattle.std.specs.Int.{div_ceil}
 use Rattle.definitions.specs.Table.{Table, Database}
-use Rattle.definitions.specs.Figures.{row_width}
+use Rattle.definitions.specs.Statistics.{row_width}
 use Rattle.definitions.specs.Plans.TableSet.{TableSet, no_tables, with_table}
 use Rattle.definitions.specs.Plans.Conjunct.{Conjunct}
 use Rattle.definitions.specs.Plans.Cost.{saturated, share}
 use Rattle.definitions.specs.Queries.BoundBlock.{Block}
-use Rattle.definitions.specs.Estimates.BlockTables.{has, is_within, figure_at, rows_at, members}
+use Rattle.definitions.specs.Estimates.BlockTables.{has, is_within, statistic_at, rows_at, members}
 use Rattle.definitions.specs.Estimates.PlanConjuncts.{plan_conjuncts}
 
 -- what the early conjuncts of some kind leave of some rows: in the order of the text, each its share
@@ -40,7 +40,7 @@ module _ (db : Database) (block : Block) where
 
   -- the bytes of a row of a set of tables, and the pages that its rows fill
   abbrev pub width : TableSet → ℕ
-  width tables = sum_by (figure_at db block (λ (t : Table). row_width t.columns)) (members block tables)
+  width tables = sum_by (statistic_at db block (λ (t : Table). row_width t.columns)) (members block tables)
 
   abbrev pub pages : TableSet → ℕ
   pages tables = saturated (div_ceil (cardinality tables * width tables) 4096)

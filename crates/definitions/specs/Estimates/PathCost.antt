@@ -40,16 +40,16 @@ equals_each block tables table _ _ = false
 module _ (db : Database) (block : Block) where
   -- NINDX + TCARD: the index, and each page of the table once
   abbrev pub pages_once : Index → ℕ → ℕ
-  pages_once i table = saturated (i.figures.pages + pages_at db block table)
+  pages_once i table = saturated (i.statistics.pages + pages_at db block table)
 
   -- NINDX + NCARD: the index, and a page of the table for each row
   abbrev pub pages_by_row : Index → ℕ → ℕ
-  pages_by_row i table = saturated (i.figures.pages + rows_at db block table)
+  pages_by_row i table = saturated (i.statistics.pages + rows_at db block table)
 
   -- what is fetched of them where a share of the index is read
   abbrev pub pages_fetched : Index → ℕ → (ℕ → ℕ) → ℕ
   pages_fetched i table share_of =
-      if i.figures.clustered || nat_le (share_of (pages_once i table)) buffer_pages then share_of (pages_once i table)
+      if i.statistics.clustered || nat_le (share_of (pages_once i table)) buffer_pages then share_of (pages_once i table)
       else share_of (pages_by_row i table)
 
   -- the share of pages that conjuncts leave, each its own of what those before it left
@@ -59,7 +59,7 @@ module _ (db : Database) (block : Block) where
   -- the share of a matching scan: one key where two columns or more are all equal to a value, else what its conjuncts leave
   abbrev pub matched : Index → Bool → List ℕ → ℕ → ℕ
   matched i all_equal conjuncts pages =
-      if nat_le 2 (length i.columns) && all_equal then share pages (fraction 1 (max 1 i.figures.keys)) else shares conjuncts pages
+      if nat_le 2 (length i.columns) && all_equal then share pages (fraction 1 (max 1 i.statistics.keys)) else shares conjuncts pages
 
   -- all of an index
   abbrev pub whole_index_cost : TableSet → ℕ → Option Index → ℕ

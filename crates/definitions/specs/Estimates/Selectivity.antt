@@ -29,11 +29,11 @@ module _ (db : Database) (block : Block) where
 
   -- how many keys that has, if it is there; one at least (ICARD)
   abbrev pub keys_of : BlockColumn → Option ℕ
-  keys_of column = option_map (λ (i : Index). max 1 i.figures.keys) (own_index column)
+  keys_of column = option_map (λ (i : Index). max 1 i.statistics.keys) (own_index column)
 
   -- the range of its keys, if it is known and has an extent
   abbrev pub range_over : BlockColumn → Option KeyRange
-  range_over column = option_and_then extent (option_and_then (λ (i : Index). i.figures.range) (own_index column))
+  range_over column = option_and_then extent (option_and_then (λ (i : Index). i.statistics.range) (own_index column))
 
   -- a part of that range, or else another share
   abbrev pub part_or : BlockColumn → (KeyRange → ℕ) → ℕ → ℕ

@@ -23,8 +23,8 @@ whole n = Number (pos n) 0
 -- T (X INTEGER, C CHAR(2)): 1, 'ab'; U (V INTEGER): 1 and 2
 abbrev pub t_and_u : Database
 t_and_u =
-    record { name = codes "T"; columns = record { name = codes "X"; type = Integer; constraint = Rattle.definitions.specs.Statement.Nullable } ∷ record { name = codes "C"; type = Char 2; constraint = Rattle.definitions.specs.Statement.Nullable } ∷ []; rows = (whole 1 ∷ Null ∷ []) ∷ []; indexes = []; figures = record { rows = 0; pages = 1 } }
-    ∷ record { name = codes "U"; columns = record { name = codes "V"; type = Integer; constraint = Rattle.definitions.specs.Statement.Nullable } ∷ []; rows = (whole 1 ∷ []) ∷ (whole 2 ∷ []) ∷ []; indexes = []; figures = record { rows = 0; pages = 1 } }
+    record { name = codes "T"; columns = record { name = codes "X"; type = Integer; constraint = Rattle.definitions.specs.Statement.Nullable } ∷ record { name = codes "C"; type = Char 2; constraint = Rattle.definitions.specs.Statement.Nullable } ∷ []; rows = (whole 1 ∷ Null ∷ []) ∷ []; indexes = []; statistics = record { rows = 0; pages = 1 } }
+    ∷ record { name = codes "U"; columns = record { name = codes "V"; type = Integer; constraint = Rattle.definitions.specs.Statement.Nullable } ∷ []; rows = (whole 1 ∷ []) ∷ (whole 2 ∷ []) ∷ []; indexes = []; statistics = record { rows = 0; pages = 1 } }
     ∷ []
 
 abbrev pub column : Name → Expr
@@ -189,10 +189,10 @@ abbrev pub v_column : table.Column
 v_column = record { name = codes "V"; type = Integer; constraint = Rattle.definitions.specs.Statement.Nullable }
 
 abbrev pub t_table : Table
-t_table = record { name = codes "T"; columns = x_column ∷ record { name = codes "C"; type = Char 2; constraint = Rattle.definitions.specs.Statement.Nullable } ∷ []; rows = (whole 1 ∷ Null ∷ []) ∷ []; indexes = []; figures = record { rows = 0; pages = 1 } }
+t_table = record { name = codes "T"; columns = x_column ∷ record { name = codes "C"; type = Char 2; constraint = Rattle.definitions.specs.Statement.Nullable } ∷ []; rows = (whole 1 ∷ Null ∷ []) ∷ []; indexes = []; statistics = record { rows = 0; pages = 1 } }
 
 abbrev pub u_table : Table
-u_table = record { name = codes "U"; columns = v_column ∷ []; rows = (whole 1 ∷ []) ∷ (whole 2 ∷ []) ∷ []; indexes = []; figures = record { rows = 0; pages = 1 } }
+u_table = record { name = codes "U"; columns = v_column ∷ []; rows = (whole 1 ∷ []) ∷ (whole 2 ∷ []) ∷ []; indexes = []; statistics = record { rows = 0; pages = 1 } }
 
 abbrev pub outer_block : b.Block
 outer_block = plain_bound (0 ∷ []) (record { name = codes "X"; value = own 0 0 } ∷ []) (Some (b.Exists 1))

@@ -1,4 +1,4 @@
--- Worked examples of estimates: the figures of small blocks, and the plans that are least by them.
+-- Worked examples of estimates: the statistics of small blocks, and the plans that are least by them.
 pub mod Setups
 pub mod Paths
 pub mod Shares

@@ -20,7 +20,7 @@ whole n = Number (pos n) 0
 
 -- a table; names don't matter here
 abbrev pub table_of : List Row → Table
-table_of rows = record { name = []; columns = []; rows = rows; indexes = []; figures = record { rows = 0; pages = 1 } }
+table_of rows = record { name = []; columns = []; rows = rows; indexes = []; statistics = record { rows = 0; pages = 1 } }
 
 abbrev pub integer : (table column : ℕ) → ValueExpr
 integer t c = b.Column (record { table = t; number = c }) Integer

@@ -37,7 +37,7 @@ MatchIsCheapest = (selectivity (one_index None) (select_b a_is_seven) a_is_seven
     × (paths_of One (one_index None) (select_b a_is_seven) 0 0 ≡ SegmentScan 0 ∷ IndexScan 0 0 false ∷ match_of (0 ∷ []) false ∷ [])
     × (path_costs One (one_index None) (select_b a_is_seven) 0 0 ≡ 510 ∷ 560 ∷ 20 ∷ [])
 
--- a match by `=` in a unique index costs 21, whatever its figures
+-- a match by `=` in a unique index costs 21, whatever its statistics
 abbrev pub unique_index : Database
 unique_index = s.indexed_table true None ∷ []
 

@@ -17,7 +17,7 @@ use Rattle.definitions.specs.Estimates.Laws.{bare, IsCertified}
 use Rattle.definitions.specs.Examples.Estimates.Setups as s
 use Rattle.definitions.specs.Examples.Estimates.Setups.{state, certificate_of, scan_of}
 
--- ---- SELECT COUNT(*) over twelve or fourteen times a table that cannot have more rows: every figure stops at 10^18
+-- ---- SELECT COUNT(*) over twelve or fourteen times a table that cannot have more rows: every statistic stops at 10^18
 
 abbrev pub full : Database
 full = s.table_with (codes "T") (codes "A" ∷ []) limit 1 [] ∷ []

@@ -1,4 +1,4 @@
--- The tables and blocks of the worked examples. Their figures stand as SET STATISTICS writes them; no row is looked at.
+-- The tables and blocks of the worked examples. Their statistics stand as SET STATISTICS writes them; no row is looked at.
 use Rattle.std.specs.Prelude.{ℕ, pos, Bool, false, List, [], ◌∷◌, Option, Some, None, map, codes}
 use Rattle.definitions.specs.Value.{Integer}
 use Rattle.definitions.specs.Statement.{Name, Equals, Nullable}
@@ -21,12 +21,12 @@ integer name = record { name = name; type = Integer; constraint = Nullable }
 -- a table of INTEGER columns, of so many rows on so many pages
 abbrev pub table_with : Name → List Name → ℕ → ℕ → List Index → Table
 table_with name names rows pages indexes =
-    record { name = name; columns = map integer names; indexes = indexes; rows = []; figures = record { rows = rows; pages = pages } }
+    record { name = name; columns = map integer names; indexes = indexes; rows = []; statistics = record { rows = rows; pages = pages } }
 
 -- an index that isn't clustered, of so many keys on so many pages
 abbrev pub index_with : Bool → List ℕ → ℕ → ℕ → Option KeyRange → Index
 index_with unique columns keys pages range =
-    record { columns = columns; unique = unique; figures = record { keys = keys; pages = pages; clustered = false; range = range } }
+    record { columns = columns; unique = unique; statistics = record { keys = keys; pages = pages; clustered = false; range = range } }
 
 abbrev pub from_to : ℕ → ℕ → Option KeyRange
 from_to low high = Some (record { low = pos low; high = pos high })

@@ -5,7 +5,7 @@ use Rattle.definitions.specs.Plans.TableSet.{TableSet, with_table}
 use Rattle.definitions.specs.Estimates.Cardinality.{cardinality, joined_with}
 use Rattle.query_tree.specs.Bound.{block_of}
 use Rattle.plan_tree.specs.Sets.{set_of}
-use Rattle.estimate.specs.Figures.{AreExact, IsExact}
+use Rattle.estimate.specs.SetEstimate.{AreExact, IsExact}
 use Rattle.estimate.proofs.LastTable.{place_with}
 use Rattle.estimate.proofs.Taking.{last_table}
 use Rattle.estimate.proofs.Made.{one_more, rows_in_place}
@@ -25,8 +25,8 @@ of-requires-clause-exact c =
     let place = c.sets.place in
     let table = c.args.table in
     let below : place < 2 ^ table = omega (arith, c.sets-test.true, c.len-place-end.ensures, c.requires.whole) in
-    let inside : place < length c.sets.figures.items = omega (arith, below, c.sets.invariant.whole) in
-    let known = rows_in_place db b c.sets.figures.items place c.index.result.now c.sets.invariant.exact inside c.index.ensures in
+    let inside : place < length c.sets.estimates.items = omega (arith, below, c.sets.invariant.whole) in
+    let known = rows_in_place db b c.sets.estimates.items place c.index.result.now c.sets.invariant.exact inside c.index.ensures in
     c.joined_with-rows.ensures.exact
     ∙ ap₂ (λ s rows. joined_with db b s rows table) c.at-set.ensures known
     ∙ sym (last_table db b place table below c.requires.table)
@@ -39,10 +39,10 @@ sets-preserved c =
     let b = block_of c.args.estimate.now.block in
     let place = c.sets.place in
     let table = c.args.table in
-    let figures = c.sets.figures.items in
+    let estimates = c.sets.estimates.items in
     let below : place < 2 ^ table = omega (arith, c.sets-test.true, c.len-place-end.ensures, c.requires.whole) in
-    let here : set_of c.with.result ≡ length figures = c.with.ensures ∙ ap (λ s. with_table s table) c.at-set.ensures ∙ place_with place table below ∙ sym c.sets.invariant.whole in
+    let here : set_of c.with.result ≡ length estimates = c.with.ensures ∙ ap (λ s. with_table s table) c.at-set.ensures ∙ place_with place table below ∙ sym c.sets.invariant.whole in
     record {
-      whole = ap length c.in_ok-push.ensures.items ∙ omega (arith, length-append figures (c.of.result ∷ []), c.sets.invariant.whole);
-      exact = subst (AreExact db b) (sym c.in_ok-push.ensures.items) (one_more db b figures c.of.result c.sets.invariant.exact (subst (λ (s : TableSet). IsExact db b s c.of.result) here c.of.ensures));
+      whole = ap length c.in_ok-push.ensures.items ∙ omega (arith, length-append estimates (c.of.result ∷ []), c.sets.invariant.whole);
+      exact = subst (AreExact db b) (sym c.in_ok-push.ensures.items) (one_more db b estimates c.of.result c.sets.invariant.exact (subst (λ (s : TableSet). IsExact db b s c.of.result) here c.of.ensures));
     }

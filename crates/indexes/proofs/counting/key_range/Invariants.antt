@@ -1,6 +1,6 @@
 use Rattle.std.proofs.Common.{◌≡◌, take}
 use Rattle.std.specs.Prelude.{filter_map, option_map}
-use Rattle.definitions.specs.Figures.{range_of, units_of}
+use Rattle.definitions.specs.Statistics.{range_of, units_of}
 use Rattle.indexes.specs.Meaning.{key_range_of}
 use Rattle.indexes.proofs.counting.key_range.Given as goal
 

@@ -1,5 +1,5 @@
 use Rattle.std.proofs.Common.{ap, arith}
-use Rattle.definitions.specs.Figures.{bytes_of}
+use Rattle.definitions.specs.Statistics.{bytes_of}
 use Rattle.indexes.proofs.Counted.{wider_entry, there_at}
 use Rattle.indexes.proofs.pages.entry_width.Goals as goal
 

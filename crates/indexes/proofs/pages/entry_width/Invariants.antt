@@ -1,6 +1,6 @@
 use Rattle.std.proofs.Common.{◌≡◌, ◌≤◌, ◌+◌, ◌*◌, take}
 use Rattle.std.specs.Prelude.{sum_by}
-use Rattle.definitions.specs.Figures.{bytes_at}
+use Rattle.definitions.specs.Statistics.{bytes_at}
 use Rattle.loading.specs.Stored.{headers}
 use Rattle.indexes.proofs.pages.entry_width.Given as goal
 

@@ -1,7 +1,7 @@
 use Rattle.std.proofs.Common.{◌≡◌, ◌≤◌, ◌+◌, ◌*◌, take}
 use Rattle.std.specs.Prelude.{sum_by}
 use Rattle.definitions.specs.Table.{Column}
-use Rattle.definitions.specs.Figures.{bytes_of}
+use Rattle.definitions.specs.Statistics.{bytes_of}
 use Rattle.loading.specs.Stored.{headers}
 use Rattle.indexes.proofs.pages.row_width.Given as goal
 

@@ -1,6 +1,6 @@
 use Rattle.std.proofs.Common.{rules}
 use Rattle.definitions.specs.Grammar as g
-use Rattle.definitions.proofs.Grammar.{name_alike, count_alike, names_alike, figures_alike}
+use Rattle.definitions.proofs.Grammar.{name_alike, count_alike, names_alike, statistics_alike}
 use Rattle.syntax_cursor.proofs.Outcomes.{flat_on, past_on, misses_on, if_on, gives, past_fails, then_fails, answers}
 use Rattle.syntax_cursor.proofs.Places.{here, on, stays, past}
 use Rattle.std.proofs.Common.{refl}
@@ -37,13 +37,13 @@ pub returns-in_err-columns-clause-reads : goal.returns-in_err-columns-clause-rea
 unfolding g.SetAt
 returns-in_err-columns-clause-reads c l k = answers _ _ (search rules) (past_on c.in_ok-expect_word.ensures (flat_on name_alike c.in_ok-table.ensures.reads (misses_on c.if-eat_word.ensures (then_fails (c.in_err-columns.ensures.reads l k)))))
 
-pub returns-in_err-figures-clause-reads : goal.returns-in_err-figures-clause-reads
+pub returns-in_err-statistics-clause-reads : goal.returns-in_err-statistics-clause-reads
 unfolding g.SetAt
-returns-in_err-figures-clause-reads c l k = answers _ _ (search rules) (past_on c.in_ok-expect_word.ensures (flat_on name_alike c.in_ok-table.ensures.reads (misses_on c.if-eat_word.ensures (flat_on names_alike c.in_ok-columns.ensures.reads (then_fails (c.in_err-figures.ensures.reads l k))))))
+returns-in_err-statistics-clause-reads c l k = answers _ _ (search rules) (past_on c.in_ok-expect_word.ensures (flat_on name_alike c.in_ok-table.ensures.reads (misses_on c.if-eat_word.ensures (flat_on names_alike c.in_ok-columns.ensures.reads (then_fails (c.in_err-statistics.ensures.reads l k))))))
 
 pub returns-clause-reads : goal.returns-clause-reads
 unfolding g.SetAt
-returns-clause-reads c l k = past_on c.in_ok-expect_word.ensures (flat_on name_alike c.in_ok-table.ensures.reads (misses_on c.if-eat_word.ensures (flat_on names_alike c.in_ok-columns.ensures.reads (flat_on figures_alike c.in_ok-figures.ensures.reads gives))))
+returns-clause-reads c l k = past_on c.in_ok-expect_word.ensures (flat_on name_alike c.in_ok-table.ensures.reads (misses_on c.if-eat_word.ensures (flat_on names_alike c.in_ok-columns.ensures.reads (flat_on statistics_alike c.in_ok-statistics.ensures.reads gives))))
 
 pub returns-clause-placed : goal.returns-clause-placed
-returns-clause-placed c = on (on (stays (on (past refl here c.in_ok-expect_word.ensures) c.in_ok-table.ensures.placed) c.if-eat_word.ensures.1) c.in_ok-columns.ensures.placed) c.in_ok-figures.ensures.placed
+returns-clause-placed c = on (on (stays (on (past refl here c.in_ok-expect_word.ensures) c.in_ok-table.ensures.placed) c.if-eat_word.ensures.1) c.in_ok-columns.ensures.placed) c.in_ok-statistics.ensures.placed

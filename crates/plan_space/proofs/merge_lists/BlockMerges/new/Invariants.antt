@@ -4,7 +4,7 @@ use Rattle.definitions.specs.Estimates.BlockSpace.{space_of}
 use Rattle.definitions.specs.Estimates.Version.{Version}
 use Rattle.query_tree.specs.Bound.{block_of}
 use Rattle.interesting_orders.specs.Uses.{AreUses}
-use Rattle.estimate.specs.Sets.{AreFigures}
+use Rattle.estimate.specs.Sets.{AreEstimates}
 use Rattle.plan_space.specs.PathLists.{AreBlockPaths}
 use Rattle.plan_space.proofs.Listing.{AreFirst}
 use Rattle.plan_space.specs.MergeListed.{merge_told, AreMergesOf}
@@ -16,6 +16,6 @@ invariant-tables l = record {
   len : length l.tables.items ≡ l.table;
   each : (version : Version) → AreBlockPaths version l.estimate.database (block_of l.estimate.block) l.paths
       → AreUses (space_of version l.estimate.database (block_of l.estimate.block)) l.uses
-      → AreFigures l.estimate.database (block_of l.estimate.block) l.figures
+      → AreEstimates l.estimate.database (block_of l.estimate.block) l.estimates
       → AreFirst (AreMergesOf (space_of version l.estimate.database (block_of l.estimate.block))) (λ (v : Vec ListedMerge). map merge_told v.items) l.tables.items l.table;
 }

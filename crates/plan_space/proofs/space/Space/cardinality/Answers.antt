@@ -8,4 +8,4 @@ use Rattle.plan_space.proofs.space.Space.cardinality.Goals as goal
 pub returns-clause-exact : goal.returns-clause-exact
 returns-clause-exact c =
     let s = c.self.inside in
-    rw (← c.self.view_is) (c.cardinality.ensures.exact s.estimate.database (block_of s.estimate.block) c.self.invariant.figures ∙ sym (cardinality_is (planned s) (set_of c.args.tables)))
+    rw (← c.self.view_is) (c.cardinality.ensures.exact s.estimate.database (block_of s.estimate.block) c.self.invariant.estimates ∙ sym (cardinality_is (planned s) (set_of c.args.tables)))

@@ -13,11 +13,11 @@ only-requires c = omega (arith, c.requires, c.self.invariant.few, ap (λ (p : Pl
 
 pub cardinality-requires : goal.cardinality-requires
 cardinality-requires c =
-    let count = c.self.invariant.figures_count ∙ ap (λ (p : Planned). (space_in p).table_count) c.self.view_is in
-    record { set = subst (λ n. n < 2 ^ c.self.inside.figures.tables) (sym c.only.ensures) (subst (λ n. only c.args.table < 2 ^ n) (sym count) (pow_below c.args.table (space_in c.args.self.now).table_count c.requires)) }
+    let count = c.self.invariant.estimates_count ∙ ap (λ (p : Planned). (space_in p).table_count) c.self.view_is in
+    record { set = subst (λ n. n < 2 ^ c.self.inside.estimates.tables) (sym c.only.ensures) (subst (λ n. only c.args.table < 2 ^ n) (sym count) (pow_below c.args.table (space_in c.args.self.now).table_count c.requires)) }
 
 pub returns-clause-exact : goal.returns-clause-exact
 returns-clause-exact c =
     let s = c.self.inside in
-    rw (← c.self.view_is) (c.cardinality.ensures.exact s.estimate.database (block_of s.estimate.block) c.self.invariant.figures
+    rw (← c.self.view_is) (c.cardinality.ensures.exact s.estimate.database (block_of s.estimate.block) c.self.invariant.estimates
     ∙ ap (cardinality s.estimate.database (block_of s.estimate.block)) c.only.ensures ∙ sym (cardinality_is (planned s) (only c.args.table)))

@@ -1,4 +1,4 @@
--- Figures that are counted lie in their ranges.
+-- Statistics that are counted lie in their ranges.
 use Rattle.std.proofs.Common.{◌≡◌, refl, ℕ, zero, suc, ◌*◌, ◌/◌, ◌<◌, ◌≤◌, List, [], ◌∷◌, Option, Some, None, Bool, true, false, cond, length, map, arith}
 use Rattle.std.specs.Prelude.{ℤ, ◌≤ℤ◌, not, filter, filter_map, fold, slice_get, sum_by, option_map}
 use Rattle.std.specs.Int.{int_min, int_max}
@@ -13,7 +13,7 @@ use Rattle.definitions.specs.Limits.{most_columns, most_rows, most_index_columns
 use Rattle.definitions.specs.Value.{Value, Null, Number, Text, SqlType, Smallint, Integer, Numeric, Char, HasType, IsType, IsInRange}
 use Rattle.definitions.specs.Table.{Column, Row, IsRow}
 use Rattle.definitions.specs.Key.{Key, key_of, key_rank, has_null, value_at, full_keys, distinct_keys}
-use Rattle.definitions.specs.Figures.{bytes_of, bytes_at, row_width, entry_width, pages_for, units_of, range_of, index_figures, table_figures}
+use Rattle.definitions.specs.Statistics.{bytes_of, bytes_at, row_width, entry_width, pages_for, units_of, range_of, index_statistics, table_statistics}
 use Rattle.definitions.specs.Invariant.{IsCount, IsPageCount, IsRange, type_at}
 
 -- ---- pages
@@ -43,10 +43,10 @@ pages_fit count width h l =
     let quotient : (count * width) / 4096 ≤ count * width = div-le_self (count * width) 4096 in
     (omega (arith), omega (arith, product, quotient))
 
-pub table_pages : (cs : List Column) (rows : List Row) → length cs ≤ most_columns → AllByRecursion (λ (c : Column). IsType c.type) cs → length rows ≤ most_rows → IsPageCount (table_figures cs rows).pages
+pub table_pages : (cs : List Column) (rows : List Row) → length cs ≤ most_columns → AllByRecursion (λ (c : Column). IsType c.type) cs → length rows ≤ most_rows → IsPageCount (table_statistics cs rows).pages
 table_pages cs rows narrow types few = pages_fit (length rows) (row_width cs) few (omega (arith, narrow, columns_few cs types))
 
-pub index_pages : (cs : List Column) (rows : List Row) (ns : List ℕ) → length ns ≤ most_index_columns → AllByRecursion (λ (c : Column). IsType c.type) cs → length rows ≤ most_rows → IsPageCount (index_figures cs rows ns).pages
+pub index_pages : (cs : List Column) (rows : List Row) (ns : List ℕ) → length ns ≤ most_index_columns → AllByRecursion (λ (c : Column). IsType c.type) cs → length rows ≤ most_rows → IsPageCount (index_statistics cs rows ns).pages
 index_pages cs rows ns short types few = pages_fit (length rows) (entry_width cs ns) few (omega (arith, short, numbers_few cs ns types))
 
 -- ---- keys
@@ -58,7 +58,7 @@ distinct_fewer : (keys : List Key) → length (distinct_keys keys) ≤ length ke
 distinct_fewer [] = omega arith
 distinct_fewer (key ∷ keys) = omega (arith, fewer (λ other. not (is_eq (key_rank key other))) (distinct_keys keys), distinct_fewer keys)
 
-pub index_keys : (cs : List Column) (rows : List Row) (ns : List ℕ) → length rows ≤ most_rows → IsCount (index_figures cs rows ns).keys
+pub index_keys : (cs : List Column) (rows : List Row) (ns : List ℕ) → length rows ≤ most_rows → IsCount (index_statistics cs rows ns).keys
 index_keys cs rows ns few =
     let keys = map (key_of ns) rows in
     omega (arith, few, length-map rows (key_of ns), fewer (λ key. not (has_null key)) keys, distinct_fewer (full_keys keys))
@@ -116,6 +116,6 @@ range_at cs rows n (Some c) e h typed = range_fits c.type _ (units_typed cs rows
 range_at cs rows n None e h typed = absurd (none_behind cs n e h)
 
 pub index_range : (cs : List Column) (rows : List Row) (ns : List ℕ) → AllByRecursion (λ n. n < length cs) ns → AllByRecursion (IsRow cs) rows
-    → IsRange (type_at cs ns) (index_figures cs rows ns).range
+    → IsRange (type_at cs ns) (index_statistics cs rows ns).range
 index_range cs rows [] h typed = tt
 index_range cs rows (n ∷ ns) h typed = range_at cs rows n (slice_get cs n) refl h.0 typed

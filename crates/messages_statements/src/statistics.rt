@@ -1,52 +1,52 @@
-//! Why the figures of a table or of an index are not set.
+//! Why the statistics of a table or of an index are not set.
 
 use crate::list::{Listed, name_at, name_in_list, write_list};
-use catalog::{Database, FiguresFault, MAX_FIGURE, RangeEnd, TableFiguresFault};
-use sqlr::{ColumnList, FiguresCause, TableFiguresCause};
+use catalog::{Database, StatisticsFault, MAX_FIGURE, RangeEnd, TableStatisticsFault};
+use sqlr::{ColumnList, StatisticsCause, TableStatisticsCause};
 use std::fmt::{self, Display, Formatter};
 use syntax::{Bound, Count, Range};
 
-/// The byte of the script that a fault of a table's figures is about.
-pub(crate) fn offset_of_table_figures(cause: TableFiguresCause) -> usize {
+/// The byte of the script that a fault of a table's statistics is about.
+pub(crate) fn offset_of_table_statistics(cause: TableStatisticsCause) -> usize {
     match cause.fault {
-        TableFiguresFault::NoTable => cause.table.start,
-        TableFiguresFault::Rows => cause.rows.start,
-        TableFiguresFault::Pages => cause.pages.start,
+        TableStatisticsFault::NoTable => cause.table.start,
+        TableStatisticsFault::Rows => cause.rows.start,
+        TableStatisticsFault::Pages => cause.pages.start,
     }
 }
 
-pub(crate) fn write_table_figures<W: fmt::Write>(
+pub(crate) fn write_table_statistics<W: fmt::Write>(
     f: &mut Formatter<W>,
-    cause: TableFiguresCause,
+    cause: TableStatisticsCause,
 ) -> fmt::Result {
     match cause.fault {
-        TableFiguresFault::NoTable => write!(f, "there is no table {}", cause.table.text),
-        TableFiguresFault::Rows => write_out_of_range(f, "ROWS", cause.rows, 0),
-        TableFiguresFault::Pages => write_out_of_range(f, "PAGES", cause.pages, 1),
+        TableStatisticsFault::NoTable => write!(f, "there is no table {}", cause.table.text),
+        TableStatisticsFault::Rows => write_out_of_range(f, "ROWS", cause.rows, 0),
+        TableStatisticsFault::Pages => write_out_of_range(f, "PAGES", cause.pages, 1),
     }
 }
 
 fn write_out_of_range<W: fmt::Write>(
     f: &mut Formatter<W>,
-    figure: &str,
+    statistic: &str,
     given: Count,
     least: u8,
 ) -> fmt::Result {
     let units = given.units;
     write!(
         f,
-        "{figure} can't be {units}: it is {least} to {MAX_FIGURE}"
+        "{statistic} can't be {units}: it is {least} to {MAX_FIGURE}"
     )
 }
 
-/// The byte of the script that a fault of an index's figures is about.
-pub(crate) fn offset_of_figures(cause: FiguresCause) -> usize {
-    match (cause.fault, cause.figures.range) {
-        (FiguresFault::List(fault), _) => name_in_list(cause.list, fault).start,
-        (FiguresFault::Keys, _) => cause.figures.keys.start,
-        (FiguresFault::Pages, _) => cause.figures.pages.start,
-        (FiguresFault::Unfit { end }, Some(range)) => bound_at(range, end).number.start,
-        (FiguresFault::Texts | FiguresFault::Falls, Some(range)) => range.low.number.start,
+/// The byte of the script that a fault of an index's statistics is about.
+pub(crate) fn offset_of_statistics(cause: StatisticsCause) -> usize {
+    match (cause.fault, cause.statistics.range) {
+        (StatisticsFault::List(fault), _) => name_in_list(cause.list, fault).start,
+        (StatisticsFault::Keys, _) => cause.statistics.keys.start,
+        (StatisticsFault::Pages, _) => cause.statistics.pages.start,
+        (StatisticsFault::Unfit { end }, Some(range)) => bound_at(range, end).number.start,
+        (StatisticsFault::Texts | StatisticsFault::Falls, Some(range)) => range.low.number.start,
         _ => name_at(cause.list, 0).start,
     }
 }
@@ -58,26 +58,26 @@ fn bound_at(range: Range, end: RangeEnd) -> Bound {
     }
 }
 
-pub(crate) fn write_figures<W: fmt::Write>(
+pub(crate) fn write_statistics<W: fmt::Write>(
     f: &mut Formatter<W>,
     script: &str,
     database: &Database,
-    cause: FiguresCause,
+    cause: StatisticsCause,
 ) -> fmt::Result {
-    let (list, figures) = (cause.list, cause.figures);
-    match (cause.fault, figures.range) {
-        (FiguresFault::List(fault), _) => write_list(f, list, fault),
-        (FiguresFault::NoIndex, _) => {
+    let (list, statistics) = (cause.list, cause.statistics);
+    match (cause.fault, statistics.range) {
+        (StatisticsFault::List(fault), _) => write_list(f, list, fault),
+        (StatisticsFault::NoIndex, _) => {
             let columns = Listed(list.columns);
             write!(f, "table {} has no index on {columns}", list.table.text)
         }
-        (FiguresFault::Keys, _) => write_out_of_range(f, "KEYS", figures.keys, 0),
-        (FiguresFault::Pages, _) => write_out_of_range(f, "PAGES", figures.pages, 1),
-        (FiguresFault::Texts, _) => {
+        (StatisticsFault::Keys, _) => write_out_of_range(f, "KEYS", statistics.keys, 0),
+        (StatisticsFault::Pages, _) => write_out_of_range(f, "PAGES", statistics.pages, 1),
+        (StatisticsFault::Texts, _) => {
             f.write_str("LOW and HIGH are numbers")?;
             write_first_type(f, database, list)
         }
-        (FiguresFault::Unfit { end }, Some(range)) => {
+        (StatisticsFault::Unfit { end }, Some(range)) => {
             let word = if end == RangeEnd::Low { "LOW" } else { "HIGH" };
             write!(
                 f,
@@ -86,11 +86,11 @@ pub(crate) fn write_figures<W: fmt::Write>(
             )?;
             write_first_type(f, database, list)
         }
-        (FiguresFault::Falls, Some(Range { low, high })) => {
+        (StatisticsFault::Falls, Some(Range { low, high })) => {
             let (low, high) = (Written(script, low), Written(script, high));
             write!(f, "LOW {low} is above HIGH {high}")
         }
-        (FiguresFault::Unfit { .. } | FiguresFault::Falls, None) => Ok(()),
+        (StatisticsFault::Unfit { .. } | StatisticsFault::Falls, None) => Ok(()),
     }
 }
 

@@ -1,9 +1,9 @@
--- The figures of a table and of an index, counted over the rows (own, after Selinger et al. 1979, section 4, whose names stand beside them).
+-- The statistics of a table and of an index, counted over the rows (own, after Selinger et al. 1979, section 4, whose names stand beside them).
 use Rattle.std.specs.Prelude.{ℕ, ℤ, ◌+◌, ◌*◌, max, Bool, true, not, ◌&&◌, List, [], ◌∷◌, Option, Some, None, length, map, filter_map, fold, slice_get, sum_by, option_map, unwrap_or}
 use Rattle.std.specs.Int.{div_ceil, int_min, int_max}
 use Rattle.std.specs.Ordering.{is_gt}
 use Rattle.definitions.specs.Value.{Value, Number, SqlType, Smallint, Integer, Numeric, Char}
-use Rattle.definitions.specs.Table.{Column, Row, TableFigures, KeyRange, IndexFigures, Index, Table}
+use Rattle.definitions.specs.Table.{Column, Row, TableStatistics, KeyRange, IndexStatistics, Index, Table}
 use Rattle.definitions.specs.Key.{Key, key_of, key_rank, value_at, full_keys, distinct_keys}
 
 -- how many bytes a value takes (own)
@@ -28,8 +28,8 @@ abbrev pub pages_for : ℕ → ℕ → ℕ
 pages_for count width = max 1 (div_ceil (count * width) 4096)
 
 -- NCARD and TCARD
-abbrev pub table_figures : List Column → List Row → TableFigures
-table_figures columns rows = record { rows = length rows; pages = pages_for (length rows) (row_width columns) }
+abbrev pub table_statistics : List Column → List Row → TableStatistics
+table_statistics columns rows = record { rows = length rows; pages = pages_for (length rows) (row_width columns) }
 
 -- keys that don't fall from one row to the next
 abbrev pub rises_from : Key → List Key → Bool
@@ -54,17 +54,17 @@ first_numbers [] rows = []
 first_numbers (column ∷ columns) rows = filter_map (λ row. units_of (value_at row column)) rows
 
 -- ICARD, NINDX, whether the index is clustered, and its range
-abbrev pub index_figures : List Column → List Row → List ℕ → IndexFigures
-index_figures columns rows numbers = record {
+abbrev pub index_statistics : List Column → List Row → List ℕ → IndexStatistics
+index_statistics columns rows numbers = record {
   keys = length (distinct_keys (full_keys (map (key_of numbers) rows)));
   pages = pages_for (length rows) (entry_width columns numbers);
   clustered = never_falls (map (key_of numbers) rows);
   range = range_of (first_numbers numbers rows);
 }
 
--- a table with all its figures counted over its rows
+-- a table with all its statistics counted over its rows
 abbrev pub counted : Table → Table
 counted t = record t {
-  figures = table_figures t.columns t.rows;
-  indexes = map (λ (i : Index). record i { figures = index_figures t.columns t.rows i.columns }) t.indexes;
+  statistics = table_statistics t.columns t.rows;
+  indexes = map (λ (i : Index). record i { statistics = index_statistics t.columns t.rows i.columns }) t.indexes;
 }

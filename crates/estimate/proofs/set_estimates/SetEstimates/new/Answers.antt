@@ -2,7 +2,7 @@ use Rattle.std.proofs.Common.{◌∙◌, sym, ap}
 use Rattle.definitions.specs.Estimates.Cardinality.{cardinality}
 use Rattle.query_tree.specs.Bound.{block_of}
 use Rattle.estimate.proofs.Taking.{rows_of_none}
-use Rattle.estimate.proofs.set_estimates.SetFigures.new.Goals as goal
+use Rattle.estimate.proofs.set_estimates.SetEstimates.new.Goals as goal
 
 pub of-requires-clause-exact : goal.of-requires-clause-exact
 of-requires-clause-exact c =

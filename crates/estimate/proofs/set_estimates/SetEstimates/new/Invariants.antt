@@ -1,0 +1,10 @@
+use Rattle.std.proofs.Common.{◌≡◌, ◌^◌, length}
+use Rattle.query_tree.specs.Bound.{block_of}
+use Rattle.estimate.specs.SetEstimate.{AreExact}
+use Rattle.estimate.proofs.set_estimates.SetEstimates.new.Given as goal
+
+abbrev pub invariant-tables : goal.invariant-tables
+invariant-tables l = record {
+  whole : length l.estimates.items ≡ 2 ^ l.table;
+  exact : AreExact l.estimate.database (block_of l.estimate.block) l.estimates.items;
+}
