@@ -5,15 +5,15 @@ use Rattle.std.specs.Int.{bit_at}
 use Rattle.std.proofs.lemmas.Bool.{false≢true}
 use Rattle.std.proofs.lemmas.Bool.Decides.{nat_tests}
 use Rattle.std.proofs.lemmas.Nat.Bits.{bit_at_or, bit_at-pow_same, same_from_bits}
-use Rattle.definitions.specs.Statement.{Op, Equals, NotEquals, LessThan, GreaterThan, LessOrEquals, GreaterOrEquals}
+use Rattle.definitions.specs.Statement.{ComparisonOperator, Equals, NotEquals, LessThan, GreaterThan, LessOrEquals, GreaterOrEquals}
 use Rattle.definitions.specs.Plans.TableSet.{TableSet, only}
 use Rattle.definitions.specs.Plans.Order.{BlockColumn}
-use Rattle.definitions.specs.Queries.BoundBlock.{ValueExpr, Column, Parameter, Numeral, String, Signed, Chain, SetValue, Subquery, Condition, Compare, Quantified, IsNull, Between, Like, InList, InQuery, Exists, Not, And, Or}
+use Rattle.definitions.specs.Queries.BoundBlock.{ValueExpr, Column, Parameter, Numeral, String, Signed, Chain, AggregateValue, Subquery, Condition, Compare, Quantified, IsNull, Between, Like, InList, InQuery, Exists, Not, And, Or}
 use Rattle.definitions.specs.Queries.Conjuncts.{tables_named}
 use Rattle.definitions.specs.Estimates.BlockTables.{has, is_within}
 use Rattle.definitions.specs.Estimates.Paths.{is_same_column, is_column, is_known, bounds_column, equals_column, limits_column}
 use Rattle.definitions.proofs.EstimateTheory.Tests.{left_of, right_of, eq_of}
-use Rattle.access_paths.specs.Bounds.{Bound, tables_beside, other_side, comparison_bound, between_bound, bound_of}
+use Rattle.access_paths.specs.Bounds.{SargableTerm, tables_beside, other_side, comparison_bound, between_bound, bound_of}
 
 -- ---- tests
 
@@ -73,13 +73,13 @@ module _ (column : BlockColumn) where
   column_named (String codes) h = absurd (false≢true h)
   column_named (Signed minus operand) h = absurd (false≢true h)
   column_named (Chain first others) h = absurd (false≢true h)
-  column_named (SetValue number type) h = absurd (false≢true h)
+  column_named (AggregateValue number type) h = absurd (false≢true h)
   column_named (Subquery block type) h = absurd (false≢true h)
 
   module _ (tables : TableSet) where
     abbrev pub within_of : Option TableSet → Bool
     within_of None = false
-    within_of (Some needs) = is_within needs tables
+    within_of (Some required_outer) = is_within required_outer tables
 
     with_true : (x : Bool) → (x && true) ≡ x
     with_true true = refl
@@ -117,26 +117,26 @@ module _ (column : BlockColumn) where
 
     -- ---- conditions
 
-    abbrev pub is_met : Option Bound → Bool
+    abbrev pub is_met : Option SargableTerm → Bool
     is_met None = false
-    is_met (Some b) = is_within b.needs tables
+    is_met (Some b) = is_within b.required_outer tables
 
-    abbrev pub is_met_by_equals : Option Bound → Bool
+    abbrev pub is_met_by_equals : Option SargableTerm → Bool
     is_met_by_equals None = false
-    is_met_by_equals (Some b) = b.equals && is_within b.needs tables
+    is_met_by_equals (Some b) = b.equals && is_within b.required_outer tables
 
-    equal_side : (needs : Option TableSet) → (within_of needs ≡ is_met (comparison_bound Equals needs)) × (within_of needs ≡ is_met_by_equals (comparison_bound Equals needs))
+    equal_side : (required_outer : Option TableSet) → (within_of required_outer ≡ is_met (comparison_bound Equals required_outer)) × (within_of required_outer ≡ is_met_by_equals (comparison_bound Equals required_outer))
     equal_side None = (refl, refl)
-    equal_side (Some needs) = (refl, refl)
+    equal_side (Some required_outer) = (refl, refl)
 
-    limit_side : (op : Op) (needs : Option TableSet) → comparison_bound op needs ≡ option_map (λ tables. record { equals = false; needs = tables }) needs
-        → (within_of needs ≡ is_met (comparison_bound op needs)) × (false ≡ is_met_by_equals (comparison_bound op needs))
+    limit_side : (op : ComparisonOperator) (required_outer : Option TableSet) → comparison_bound op required_outer ≡ option_map (λ tables. record { equals = false; required_outer = tables }) required_outer
+        → (within_of required_outer ≡ is_met (comparison_bound op required_outer)) × (false ≡ is_met_by_equals (comparison_bound op required_outer))
     limit_side op None e = rw e (refl, refl)
-    limit_side op (Some needs) e = rw e (refl, refl)
+    limit_side op (Some required_outer) e = rw e (refl, refl)
 
     both_ends : (x : Bool) (low high : Option TableSet) (kl kh : Bool) → kl ≡ within_of low → kh ≡ within_of high
-        → ((x && kl && kh) ≡ is_met (if x then option_and_then (λ below. option_map (λ above. record { equals = false; needs = bit_or below above }) high) low else None))
-        × (false ≡ is_met_by_equals (if x then option_and_then (λ below. option_map (λ above. record { equals = false; needs = bit_or below above }) high) low else None))
+        → ((x && kl && kh) ≡ is_met (if x then option_and_then (λ below. option_map (λ above. record { equals = false; required_outer = bit_or below above }) high) low else None))
+        × (false ≡ is_met_by_equals (if x then option_and_then (λ below. option_map (λ above. record { equals = false; required_outer = bit_or below above }) high) low else None))
     both_ends false low high kl kh l h = (refl, refl)
     both_ends true None high kl kh l h = (ap (λ b. b && kh) l, refl)
     both_ends true (Some below) None kl kh l h = (ap (λ b. kl && b) h ∙ with_false kl, refl)

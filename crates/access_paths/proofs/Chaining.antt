@@ -14,8 +14,8 @@ use Rattle.definitions.specs.Estimates.BlockTables.{is_within}
 use Rattle.definitions.specs.Estimates.Paths.{equals_at, matching, matching_lists}
 use Rattle.definitions.specs.Estimates.PathCost.{equals_each}
 use Rattle.definitions.proofs.EstimateTheory.Tests.{eq_of, left_of, right_of}
-use Rattle.access_paths.specs.Bounds.{Bound}
-use Rattle.access_paths.specs.Matches.{Match, Chain, early_bound, match_at, column_matches, only_match, before, chains_from, with_column, matches_of, index_chains}
+use Rattle.access_paths.specs.Bounds.{SargableTerm}
+use Rattle.access_paths.specs.Matches.{Match, IndexMatch, early_bound, match_at, column_matches, only_match, before, chains_from, with_column, matches_of, index_matches}
 use Rattle.access_paths.proofs.Bounding.{same_tests, or_within}
 use Rattle.access_paths.proofs.Matching.{is_open, met_by_equals, equals_as_met, matching_as_matches}
 use Rattle.access_paths.proofs.Rooms.{joined}
@@ -26,10 +26,10 @@ module _ (block : Block) (column : BlockColumn) where
   abbrev pub IsMatchOf : Match → Type 0
   IsMatchOf m = match_at block column m.conjunct ≡ Some m
 
-  abbrev numbered_match : ℕ → Option Bound → Option Match
-  numbered_match number = option_map (λ (b : Bound). record { conjunct = number; equals = b.equals; needs = b.needs })
+  abbrev numbered_match : ℕ → Option SargableTerm → Option Match
+  numbered_match number = option_map (λ (b : SargableTerm). record { conjunct = number; equals = b.equals; required_outer = b.required_outer })
 
-  its_number : (number : ℕ) (b : Option Bound) (m : Match) → numbered_match number b ≡ Some m → m.conjunct ≡ number
+  its_number : (number : ℕ) (b : Option SargableTerm) (m : Match) → numbered_match number b ≡ Some m → m.conjunct ≡ number
   its_number number None m e = absurd cc
   its_number number (Some b) m e = cc
 
@@ -64,17 +64,17 @@ module _ (block : Block) (column : BlockColumn) where
 
 -- ---- which chains are open
 
-abbrev pub conjuncts_in : Chain → List ℕ
+abbrev pub conjuncts_in : IndexMatch → List ℕ
 conjuncts_in c = c.conjuncts
 
 module _ (tables : TableSet) where
-  abbrev pub is_open_chain : Chain → Bool
-  is_open_chain c = is_within c.needs tables
+  abbrev pub is_open_chain : IndexMatch → Bool
+  is_open_chain c = is_within c.required_outer tables
 
-  open_before : (m : Match) (c : Chain) → is_open_chain (before m c) ≡ (is_open tables m && is_open_chain c)
-  open_before m c = or_within m.needs c.needs tables
+  open_before : (m : Match) (c : IndexMatch) → is_open_chain (before m c) ≡ (is_open tables m && is_open_chain c)
+  open_before m c = or_within m.required_outer c.required_outer tables
 
-  open_after : (m : Match) (others : List Chain) → is_open tables m ≡ true
+  open_after : (m : Match) (others : List IndexMatch) → is_open tables m ≡ true
       → map conjuncts_in (filter is_open_chain (map (before m) others)) ≡ map (λ numbers. m.conjunct ∷ numbers) (map conjuncts_in (filter is_open_chain others))
   open_after m [] h = refl
   open_after m (c ∷ cs) h = by_test (is_open_chain c) refl (open_after m cs h)
@@ -84,11 +84,11 @@ module _ (tables : TableSet) where
       by_test true e rest = let test : is_open_chain (before m c) ≡ true = open_before m c ∙ ap (λ b. b && is_open_chain c) h ∙ e in rw (test, e) (ap (λ l. (m.conjunct ∷ c.conjuncts) ∷ l) rest)
       by_test false e rest = let test : is_open_chain (before m c) ≡ false = open_before m c ∙ ap (λ b. b && is_open_chain c) h ∙ e in rw (test, e) rest
 
-  closed_after : (m : Match) (others : List Chain) → is_open tables m ≡ false → filter is_open_chain (map (before m) others) ≡ []
+  closed_after : (m : Match) (others : List IndexMatch) → is_open tables m ≡ false → filter is_open_chain (map (before m) others) ≡ []
   closed_after m [] h = refl
   closed_after m (c ∷ cs) h = let test : is_open_chain (before m c) ≡ false = open_before m c ∙ ap (λ b. b && is_open_chain c) h in rw test (closed_after m cs h)
 
-  module _ (block : Block) (column : BlockColumn) (lists : List (List ℕ)) (others : List Chain) (same : lists ≡ map conjuncts_in (filter is_open_chain others)) where
+  module _ (block : Block) (column : BlockColumn) (lists : List (List ℕ)) (others : List IndexMatch) (same : lists ≡ map conjuncts_in (filter is_open_chain others)) where
     -- what a conjunct gives, and what its match gives
     abbrev lists_from : ℕ → List (List ℕ)
     lists_from conjunct = (conjunct ∷ []) ∷ (if equals_at block tables column conjunct then map (λ numbers. conjunct ∷ numbers) lists else [])
@@ -108,7 +108,7 @@ module _ (tables : TableSet) where
     of_closed m true e h = let test : is_open_chain (only_match m) ≡ false = h in rw (e, test) (closed_after m others h)
     of_closed m false e h = let test : is_open_chain (only_match m) ≡ false = h in rw (e, test) refl
 
-    map-append : (xs ys : List Chain) → map conjuncts_in (xs ++ ys) ≡ map conjuncts_in xs ++ map conjuncts_in ys
+    map-append : (xs ys : List IndexMatch) → map conjuncts_in (xs ++ ys) ≡ map conjuncts_in xs ++ map conjuncts_in ys
     map-append [] ys = refl
     map-append (x ∷ xs) ys = ap (λ l. x.conjuncts ∷ l) (map-append xs ys)
 
@@ -135,12 +135,12 @@ module _ (tables : TableSet) where
 
   module _ (block : Block) (table : ℕ) where
     -- the lists of conjuncts that match an index are those of its open chains
-    pub lists_as_chains : (numbers : List ℕ) → matching_lists block tables table numbers ≡ map conjuncts_in (filter is_open_chain (index_chains block table numbers))
+    pub lists_as_chains : (numbers : List ℕ) → matching_lists block tables table numbers ≡ map conjuncts_in (filter is_open_chain (index_matches block table numbers))
     lists_as_chains [] = refl
     lists_as_chains (number ∷ numbers) =
         let column : BlockColumn = record { table = table; number = number } in
         let lists = matching_lists block tables table numbers in
-        let others = index_chains block table numbers in
+        let others = index_matches block table numbers in
         let same = lists_as_chains numbers in
         ap (flat_map (λ conjunct. (conjunct ∷ []) ∷ (if equals_at block tables column conjunct then map (λ numbers. conjunct ∷ numbers) lists else []))) (matching_as_matches tables block column)
         ∙ all_open block column lists others same (column_matches block column) (are_matches block column)
@@ -159,7 +159,7 @@ next_test n m = same_tests (nat_eq (suc n) (suc m)) (nat_eq n m) (λ h. let e = 
 
 module _ (tables : TableSet) (block : Block) (table : ℕ) where
   -- where it is open, it equals all columns exactly if it is as long as they are, and each of its conjuncts says what its column equals
-  abbrev pub EqualsAll : List ℕ → Chain → Type 0
+  abbrev pub EqualsAll : List ℕ → IndexMatch → Type 0
   EqualsAll numbers c = is_open_chain tables c ≡ true → equals_each block tables table numbers c.conjuncts ≡ (c.equal && nat_eq (length c.conjuncts) (length numbers))
 
   abbrev column_of_number : ℕ → BlockColumn
@@ -177,32 +177,32 @@ module _ (tables : TableSet) (block : Block) (table : ℕ) where
       ap₂ (λ a b. a && b) (equals_of block (column_of_number number) tables m is h) (none_left numbers ∙ sym (next_test 0 (length numbers)))
 
   before_equals : (number : ℕ) (numbers : List ℕ) (m : Match) → m.equals ≡ true → IsMatchOf block (column_of_number number) m
-      → (others : List Chain) → AllByRecursion (EqualsAll numbers) others → AllByRecursion (EqualsAll (number ∷ numbers)) (map (before m) others)
+      → (others : List IndexMatch) → AllByRecursion (EqualsAll numbers) others → AllByRecursion (EqualsAll (number ∷ numbers)) (map (before m) others)
   before_equals number numbers m q is [] all = tt
   before_equals number numbers m q is (c ∷ cs) all = (first, before_equals number numbers m q is cs all.1)
     where
       first : EqualsAll (number ∷ numbers) (before m c)
       first h =
-          let both : (is_open tables m && is_open_chain tables c) ≡ true = sym (or_within m.needs c.needs tables) ∙ h in
+          let both : (is_open tables m && is_open_chain tables c) ≡ true = sym (or_within m.required_outer c.required_outer tables) ∙ h in
           let own : is_open tables m ≡ true = left_of (is_open tables m) (is_open_chain tables c) both in
           let rest : is_open_chain tables c ≡ true = right_of (is_open tables m) (is_open_chain tables c) both in
           ap₂ (λ a b. a && b) (equals_of block (column_of_number number) tables m is own ∙ q) (all.0 rest ∙ ap (λ b. c.equal && b) (sym (next_test (length c.conjuncts) (length numbers))))
 
   from_equals : (number : ℕ) (numbers : List ℕ) (m : Match) → IsMatchOf block (column_of_number number) m
-      → (others : List Chain) → AllByRecursion (EqualsAll numbers) others → AllByRecursion (EqualsAll (number ∷ numbers)) (chains_from others m)
+      → (others : List IndexMatch) → AllByRecursion (EqualsAll numbers) others → AllByRecursion (EqualsAll (number ∷ numbers)) (chains_from others m)
   from_equals number numbers m is others all =
       (only_equals number numbers m is, where_true (EqualsAll (number ∷ numbers)) (map (before m) others) m.equals (λ q. before_equals number numbers m q is others all))
 
-  column_equals : (number : ℕ) (numbers : List ℕ) (others : List Chain) → AllByRecursion (EqualsAll numbers) others
+  column_equals : (number : ℕ) (numbers : List ℕ) (others : List IndexMatch) → AllByRecursion (EqualsAll numbers) others
       → (ms : List Match) → AllByRecursion (IsMatchOf block (column_of_number number)) ms → AllByRecursion (EqualsAll (number ∷ numbers)) (with_column others ms)
   column_equals number numbers others all [] are = tt
   column_equals number numbers others all (m ∷ ms) are =
       joined (EqualsAll (number ∷ numbers)) (chains_from others m) (with_column others ms) (from_equals number numbers m are.0 others all) (column_equals number numbers others all ms are.1)
 
-  pub chains_equal : (numbers : List ℕ) → AllByRecursion (EqualsAll numbers) (index_chains block table numbers)
+  pub chains_equal : (numbers : List ℕ) → AllByRecursion (EqualsAll numbers) (index_matches block table numbers)
   chains_equal [] = tt
   chains_equal (number ∷ numbers) =
-      column_equals number numbers (index_chains block table numbers) (chains_equal numbers) (column_matches block (column_of_number number)) (are_matches block (column_of_number number))
+      column_equals number numbers (index_matches block table numbers) (chains_equal numbers) (column_matches block (column_of_number number)) (are_matches block (column_of_number number))
 
 -- ---- their conjuncts are of the block
 
@@ -210,23 +210,23 @@ module _ (block : Block) (table : ℕ) where
   abbrev pub IsOfBlock : ℕ → Type 0
   IsOfBlock conjunct = conjunct < length (conjuncts block)
 
-  abbrev pub IsChainOfBlock : Chain → Type 0
+  abbrev pub IsChainOfBlock : IndexMatch → Type 0
   IsChainOfBlock c = AllByRecursion IsOfBlock c.conjuncts
 
-  before_within : (m : Match) → IsOfBlock m.conjunct → (others : List Chain) → AllByRecursion IsChainOfBlock others → AllByRecursion IsChainOfBlock (map (before m) others)
+  before_within : (m : Match) → IsOfBlock m.conjunct → (others : List IndexMatch) → AllByRecursion IsChainOfBlock others → AllByRecursion IsChainOfBlock (map (before m) others)
   before_within m h [] all = tt
   before_within m h (c ∷ cs) all = ((h, all.0), before_within m h cs all.1)
 
-  from_within : (m : Match) → IsOfBlock m.conjunct → (others : List Chain) → AllByRecursion IsChainOfBlock others → AllByRecursion IsChainOfBlock (chains_from others m)
+  from_within : (m : Match) → IsOfBlock m.conjunct → (others : List IndexMatch) → AllByRecursion IsChainOfBlock others → AllByRecursion IsChainOfBlock (chains_from others m)
   from_within m h others all = ((h, tt), where_true IsChainOfBlock (map (before m) others) m.equals (λ q. before_within m h others all))
 
-  column_within : (column : BlockColumn) (others : List Chain) → AllByRecursion IsChainOfBlock others → (ms : List Match) → AllByRecursion (IsMatchOf block column) ms → AllByRecursion IsChainOfBlock (with_column others ms)
+  column_within : (column : BlockColumn) (others : List IndexMatch) → AllByRecursion IsChainOfBlock others → (ms : List Match) → AllByRecursion (IsMatchOf block column) ms → AllByRecursion IsChainOfBlock (with_column others ms)
   column_within column others all [] are = tt
   column_within column others all (m ∷ ms) are =
       joined IsChainOfBlock (chains_from others m) (with_column others ms) (from_within m (match_within block column m are.0) others all) (column_within column others all ms are.1)
 
-  pub chains_of_block : (numbers : List ℕ) → AllByRecursion IsChainOfBlock (index_chains block table numbers)
+  pub chains_of_block : (numbers : List ℕ) → AllByRecursion IsChainOfBlock (index_matches block table numbers)
   chains_of_block [] = tt
   chains_of_block (number ∷ numbers) =
       let column : BlockColumn = record { table = table; number = number } in
-      column_within column (index_chains block table numbers) (chains_of_block numbers) (column_matches block column) (are_matches block column)
+      column_within column (index_matches block table numbers) (chains_of_block numbers) (column_matches block column) (are_matches block column)

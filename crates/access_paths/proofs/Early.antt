@@ -14,7 +14,7 @@ use Rattle.conjuncts.specs.Naming.{NamesFew}
 use Rattle.estimate.specs.PlanConjuncts.{condition_told, conjunct_of}
 use Rattle.estimate.specs.declared.plan_conjunct.PlanConjunct.{PlanConjunct}
 use Rattle.estimate.proofs.Places.{all_at, twice_mapped}
-use Rattle.access_paths.specs.Bounds.{Bound, bound_of}
+use Rattle.access_paths.specs.Bounds.{SargableTerm, bound_of}
 use Rattle.access_paths.specs.Matches.{Match, match_at, early_bound, column_matches}
 
 same_at : {X Z : Type 0} (f g : X → Z) (xs : List X) (i : ℕ) (x : X) → map f xs ≡ map g xs → i < length xs → x ≡ get_or xs i x → f x ≡ g x
@@ -46,8 +46,8 @@ module _ (db : Database) (block : Block) (items : List PlanConjunct) (i : ℕ) (
       all_of (c ∷ cs) (suc i) e few = all_of cs i e few.1
 
 module _ (block : Block) (column : BlockColumn) (number : ℕ) (c : Condition) (at : slice_get (conjuncts block) number ≡ Some c) where
-  abbrev pub match_of : Option Bound → Option Match
-  match_of = option_map (λ (b : Bound). record { conjunct = number; equals = b.equals; needs = b.needs })
+  abbrev pub match_of : Option SargableTerm → Option Match
+  match_of = option_map (λ (b : SargableTerm). record { conjunct = number; equals = b.equals; required_outer = b.required_outer })
 
   by_test : (late early : Bool) → is_late c ≡ late → early ≡ not late → early_bound column c ≡ (if early then bound_of column c else None)
   by_test true early e f = rw (e, f) refl

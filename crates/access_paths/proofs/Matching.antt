@@ -10,15 +10,15 @@ use Rattle.definitions.specs.Queries.Conjuncts.{conjuncts, is_late}
 use Rattle.definitions.specs.Estimates.BlockTables.{is_within}
 use Rattle.definitions.specs.Estimates.Paths.{equals_column, limits_column, is_early_and, equals_at, matches_at, matching, matching_lists}
 use Rattle.definitions.specs.Estimates.PathCost.{equals_each}
-use Rattle.access_paths.specs.Bounds.{Bound, bound_of}
-use Rattle.access_paths.specs.Matches.{Match, Chain, early_bound, match_at, column_matches, only_match, before, chains_from, with_column, matches_of, index_chains}
+use Rattle.access_paths.specs.Bounds.{SargableTerm, bound_of}
+use Rattle.access_paths.specs.Matches.{Match, IndexMatch, early_bound, match_at, column_matches, only_match, before, chains_from, with_column, matches_of, index_matches}
 use Rattle.access_paths.proofs.Bounding.{or_within, is_met, is_met_by_equals, equals_as_bound, matches_as_bound}
 
 -- ---- one column
 
 module _ (tables : TableSet) where
   abbrev pub is_open : Match → Bool
-  is_open m = is_within m.needs tables
+  is_open m = is_within m.required_outer tables
 
   -- what holds of a match that a number has or has not
   abbrev pub met : Option Match → Bool
@@ -30,10 +30,10 @@ module _ (tables : TableSet) where
   met_by_equals (Some m) = m.equals && is_open m
 
   module _ (block : Block) (column : BlockColumn) where
-    abbrev numbered_match : ℕ → Option Bound → Option Match
-    numbered_match number = option_map (λ (b : Bound). record { conjunct = number; equals = b.equals; needs = b.needs })
+    abbrev numbered_match : ℕ → Option SargableTerm → Option Match
+    numbered_match number = option_map (λ (b : SargableTerm). record { conjunct = number; equals = b.equals; required_outer = b.required_outer })
 
-    of_bound : (number : ℕ) (b : Option Bound) → (is_met column tables b ≡ met (numbered_match number b)) × (is_met_by_equals column tables b ≡ met_by_equals (numbered_match number b))
+    of_bound : (number : ℕ) (b : Option SargableTerm) → (is_met column tables b ≡ met (numbered_match number b)) × (is_met_by_equals column tables b ≡ met_by_equals (numbered_match number b))
     of_bound number None = (refl, refl)
     of_bound number (Some b) = (refl, refl)
 
@@ -64,7 +64,7 @@ module _ (tables : TableSet) where
     own_number : (number : ℕ) → IsOwn number (match_at block column number)
     own_number number = of (option_and_then (early_bound column) (slice_get (conjuncts block) number))
       where
-        of : (b : Option Bound) → IsOwn number (numbered_match number b)
+        of : (b : Option SargableTerm) → IsOwn number (numbered_match number b)
         of None = tt
         of (Some b) = refl
 

@@ -15,7 +15,7 @@ use Rattle.definitions.specs.Estimates.BlockTables.{is_within, table_at, index_a
 use Rattle.definitions.specs.Estimates.Orders.{known_indexes, indexes_at}
 use Rattle.definitions.specs.Estimates.Paths.{matching_lists, index_paths, paths_of}
 use Rattle.definitions.specs.Estimates.Version.{Version, directions}
-use Rattle.access_paths.specs.Matches.{Chain, index_chains}
+use Rattle.access_paths.specs.Matches.{IndexMatch, index_matches}
 use Rattle.access_paths.specs.Found.{FoundPath, is_open}
 use Rattle.access_paths.specs.Listing.{segment_found, whole_found, matching_found, scans_found, index_found, number_found, table_found}
 use Rattle.access_paths.proofs.Chaining.{conjuncts_in, is_open_chain, lists_as_chains, test_of}
@@ -42,7 +42,7 @@ module _ (known : TableSet) where
   whole_is_open = test_of (bit_or no_tables known) known (or_zero_l known)
 
   module _ (db : Database) (block : Block) (table number : ℕ) (i : Index) where
-    open_matches : (backward : Bool) (chains : List Chain)
+    open_matches : (backward : Bool) (chains : List IndexMatch)
         → map path_in (filter (is_open known) (map (matching_found db block table number i backward) chains))
         ≡ map (λ conjuncts. MatchingScan table number conjuncts backward) (map conjuncts_in (filter (is_open_chain known) chains))
     open_matches backward [] = refl
@@ -59,18 +59,18 @@ module _ (known : TableSet) where
     paths_in lists backward = IndexScan table number backward ∷ map (λ conjuncts. MatchingScan table number conjuncts backward) lists
 
     open_scans : (backward : Bool)
-        → map path_in (filter (is_open known) (scans_found db block table number i (index_chains block table i.columns) backward)) ≡ paths_in (matching_lists block known table i.columns) backward
+        → map path_in (filter (is_open known) (scans_found db block table number i (index_matches block table i.columns) backward)) ≡ paths_in (matching_lists block known table i.columns) backward
     open_scans backward =
-        ap (λ b. map path_in (if b then whole_found db block table number i backward ∷ filter (is_open known) (map (matching_found db block table number i backward) (index_chains block table i.columns))
-        else filter (is_open known) (map (matching_found db block table number i backward) (index_chains block table i.columns)))) whole_is_open
-        ∙ ap (λ l. IndexScan table number backward ∷ l) (open_matches backward (index_chains block table i.columns) ∙ ap (map (λ conjuncts. MatchingScan table number conjuncts backward)) (sym (lists_as_chains known block table i.columns)))
+        ap (λ b. map path_in (if b then whole_found db block table number i backward ∷ filter (is_open known) (map (matching_found db block table number i backward) (index_matches block table i.columns))
+        else filter (is_open known) (map (matching_found db block table number i backward) (index_matches block table i.columns)))) whole_is_open
+        ∙ ap (λ l. IndexScan table number backward ∷ l) (open_matches backward (index_matches block table i.columns) ∙ ap (map (λ conjuncts. MatchingScan table number conjuncts backward)) (sym (lists_as_chains known block table i.columns)))
 
     open_directions : (directions : List Bool)
-        → map path_in (filter (is_open known) (flat_map (scans_found db block table number i (index_chains block table i.columns)) directions))
+        → map path_in (filter (is_open known) (flat_map (scans_found db block table number i (index_matches block table i.columns)) directions))
         ≡ flat_map (paths_in (matching_lists block known table i.columns)) directions
     open_directions [] = refl
     open_directions (d ∷ ds) =
-        let all = scans_found db block table number i (index_chains block table i.columns) in
+        let all = scans_found db block table number i (index_matches block table i.columns) in
         ap (map path_in) (filter-append (is_open known) (all d) (flat_map all ds)) ∙ paths-append (filter (is_open known) (all d)) (filter (is_open known) (flat_map all ds)) ∙ ap₂ (λ a b. a ++ b) (open_scans d) (open_directions ds)
 
   module _ (version : Version) (db : Database) (block : Block) (table : ℕ) where

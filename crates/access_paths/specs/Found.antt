@@ -15,11 +15,11 @@ use Rattle.access_paths.specs.declared.paths.TablePath.{TablePath}
 -- a path, the tables whose rows have to be known for it, and what a scan costs but for the rows that it hands on
 pub record FoundPath : Type 0 where
   pub path : p.Path
-  pub needs : TableSet
+  pub required_outer : TableSet
   pub cost : ScanCost
 
 abbrev pub path_told : TablePath → FoundPath
-path_told x = record { path = path_of x.path; needs = set_of x.needs; cost = scan_cost_of x.cost }
+path_told x = record { path = path_of x.path; required_outer = set_of x.required_outer; cost = scan_cost_of x.cost }
 
 -- the directions of indexes: forward, and backward, too
 abbrev pub directions_with : Bool → List Bool
@@ -27,7 +27,7 @@ directions_with backward = if backward then false ∷ true ∷ [] else false ∷
 
 -- those for which no more has to be known
 abbrev pub is_open : TableSet → FoundPath → Bool
-is_open known x = is_within x.needs known
+is_open known x = is_within x.required_outer known
 
 abbrev pub open_paths : TableSet → List TablePath → List p.Path
 open_paths known paths = map (λ (x : FoundPath). x.path) (filter (is_open known) (map path_told paths))

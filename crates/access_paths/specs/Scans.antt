@@ -5,7 +5,7 @@ use Rattle.definitions.specs.Plans.Cost.{saturated}
 use Rattle.definitions.specs.Queries.BoundBlock.{Block}
 use Rattle.definitions.specs.Estimates.BlockTables.{rows_at, pages_at}
 use Rattle.definitions.specs.Estimates.PathCost.{one_row, weighted, pages_fetched, matched}
-use Rattle.access_paths.specs.Matches.{Chain}
+use Rattle.access_paths.specs.Matches.{IndexMatch}
 use Rattle.access_paths.specs.declared.scans.ScanCost.{ScanCost as Code}
 use Rattle.access_paths.specs.declared.scans.ScanCost.TheVariants as c
 use Rattle.access_paths.specs.declared.scans.IndexSize.{IndexSize}
@@ -28,10 +28,10 @@ module _ (db : Database) (block : Block) (table : ℕ) (i : Index) where
   abbrev pub whole_scan : ScanCost
   whole_scan = Pages (pages_fetched db block i table (λ pages. pages))
 
-  abbrev pub is_all_equal : Chain → Bool
+  abbrev pub is_all_equal : IndexMatch → Bool
   is_all_equal c = c.equal && nat_eq (length c.conjuncts) (length i.columns)
 
-  abbrev pub matching_scan : Chain → ScanCost
+  abbrev pub matching_scan : IndexMatch → ScanCost
   matching_scan c =
       if i.unique && is_all_equal c then OneRow
       else Pages (pages_fetched db block i table (matched db block i (is_all_equal c) c.conjuncts))

@@ -2,15 +2,15 @@
 use Rattle.plan_tree.specs.Sets.{set_of}
 use Rattle.access_paths.specs.Bounds as b
 use Rattle.access_paths.specs.Matches as m
-use Rattle.access_paths.specs.declared.bounds.Bound.{Bound}
-use Rattle.access_paths.specs.declared.matches.ColumnMatch.{ColumnMatch}
-use Rattle.access_paths.specs.declared.chains.Chain.{Chain}
+use Rattle.access_paths.specs.declared.bounds.SargableTerm.{SargableTerm}
+use Rattle.access_paths.specs.declared.matches.MatchingTerm.{MatchingTerm}
+use Rattle.access_paths.specs.declared.chains.IndexMatch.{IndexMatch}
 
-abbrev pub bound_told : Bound → b.Bound
-bound_told x = record { equals = x.equals; needs = set_of x.needs }
+abbrev pub bound_told : SargableTerm → b.SargableTerm
+bound_told x = record { equals = x.equals; required_outer = set_of x.required_outer }
 
-abbrev pub match_told : ColumnMatch → m.Match
-match_told x = record { conjunct = x.conjunct; equals = x.equals; needs = set_of x.needs }
+abbrev pub match_told : MatchingTerm → m.Match
+match_told x = record { conjunct = x.conjunct; equals = x.equals; required_outer = set_of x.required_outer }
 
-abbrev pub chain_told : Chain → m.Chain
-chain_told x = record { conjuncts = x.conjuncts.items; equal = x.equal; needs = set_of x.needs }
+abbrev pub chain_told : IndexMatch → m.IndexMatch
+chain_told x = record { conjuncts = x.conjuncts.items; equal = x.equal; required_outer = set_of x.required_outer }

@@ -13,17 +13,17 @@ ghost use Rattle.access_paths.specs.Views.{bound_told};
 use conjuncts::value_tables;
 use plan_tree::TableSet;
 use query_tree::{BlockColumn, Condition, ValueExpr};
-use sqlvalue::Op;
+use sqlvalue::ComparisonOperator;
 
 /// A bound of a column's values: whether they are to be equal to a value, and the tables whose rows that is made of.
 #[derive(Clone, Copy)]
-pub(crate) struct Bound {
+pub(crate) struct SargableTerm {
     pub equals: bool,
-    pub needs: TableSet,
+    pub required_outer: TableSet,
 }
 
 /// What a condition says of a column, if it matches it (Selinger et al. 1979, section 4: sargable predicates that match an index).
-pub(crate) fn bound_of(column: BlockColumn, condition: &Condition) -> Option<Bound>
+pub(crate) fn bound_of(column: BlockColumn, condition: &Condition) -> Option<SargableTerm>
     requires few { NamesFew (condition_of condition.now) }
     ensures exact { option_map bound_told result ≡ spec.bound_of (column_of column) (condition_of condition.now) }
 {
@@ -41,19 +41,19 @@ pub(crate) fn bound_of(column: BlockColumn, condition: &Condition) -> Option<Bou
     }
 }
 
-fn comparison_bound(op: Op, needs: Option<TableSet>) -> Option<Bound>
-    ensures exact { option_map bound_told result ≡ spec.comparison_bound (op_of op) (option_map set_of needs) }
+fn comparison_bound(op: ComparisonOperator, required_outer: Option<TableSet>) -> Option<SargableTerm>
+    ensures exact { option_map bound_told result ≡ spec.comparison_bound (op_of op) (option_map set_of required_outer) }
 {
-    let needs = needs?;
+    let required_outer = required_outer?;
     match op {
-        Op::NotEquals => None,
-        Op::Equals => Some(Bound {
+        ComparisonOperator::NotEquals => None,
+        ComparisonOperator::Equals => Some(SargableTerm {
             equals: true,
-            needs,
+            required_outer,
         }),
-        _ => Some(Bound {
+        _ => Some(SargableTerm {
             equals: false,
-            needs,
+            required_outer,
         }),
     }
 }
@@ -78,7 +78,7 @@ fn between_bound(
     value: &ValueExpr,
     low: &ValueExpr,
     high: &ValueExpr,
-) -> Option<Bound>
+) -> Option<SargableTerm>
     requires few { AreFew (tables_in (value_of value.now ∷ value_of low.now ∷ value_of high.now ∷ [])) }
     ensures exact { option_map bound_told result ≡ spec.between_bound (column_of column) (value_of value.now) (value_of low.now) (value_of high.now) }
 {
@@ -87,9 +87,9 @@ fn between_bound(
     }
     let below = tables_beside(column.table, low)?;
     let above = tables_beside(column.table, high)?;
-    Some(Bound {
+    Some(SargableTerm {
         equals: false,
-        needs: below.union(above),
+        required_outer: below.union(above),
     })
 }
 

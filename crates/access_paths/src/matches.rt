@@ -14,10 +14,10 @@ use std::alloc::{AllocError, Global};
 
 /// A conjunct that matches a column once the rows of some tables are known, and whether it says what the column equals.
 #[derive(Clone, Copy)]
-pub(crate) struct ColumnMatch {
+pub(crate) struct MatchingTerm {
     pub conjunct: usize,
     pub equals: bool,
-    pub needs: TableSet,
+    pub required_outer: TableSet,
 }
 
 /// The conjuncts of a block that match a column, in text order.
@@ -25,7 +25,7 @@ pub(crate) fn column_matches(
     alloc: Global,
     estimate: &Estimate,
     column: BlockColumn,
-) -> Result<Vec<ColumnMatch>, AllocError>
+) -> Result<Vec<MatchingTerm>, AllocError>
     ensures exact { IfOk result (λ matches. map match_told matches.items ≡ spec.column_matches (block_of estimate.now.block) (column_of column)) }
 {
     let mut matches = Vec::new(alloc);
@@ -37,7 +37,7 @@ pub(crate) fn column_matches(
 
 /// Adds a conjunct if it matches a column.
 fn push_match(
-    matches: &mut Vec<ColumnMatch>,
+    matches: &mut Vec<MatchingTerm>,
     estimate: &Estimate,
     column: BlockColumn,
     number: usize,
@@ -52,7 +52,7 @@ fn push_match(
 }
 
 /// How a conjunct matches a column, if it does.
-fn match_at(estimate: &Estimate, column: BlockColumn, number: usize) -> Option<ColumnMatch>
+fn match_at(estimate: &Estimate, column: BlockColumn, number: usize) -> Option<MatchingTerm>
     requires there { number < length (queries.conjuncts (block_of estimate.now.block)) }
     ensures exact { option_map match_told result ≡ spec.match_at (block_of estimate.now.block) (column_of column) number }
 {
@@ -61,9 +61,9 @@ fn match_at(estimate: &Estimate, column: BlockColumn, number: usize) -> Option<C
         return None;
     }
     let bound = bound_of(column, conjunct.condition)?;
-    Some(ColumnMatch {
+    Some(MatchingTerm {
         conjunct: number,
         equals: bound.equals,
-        needs: bound.needs,
+        required_outer: bound.required_outer,
     })
 }

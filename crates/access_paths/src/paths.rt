@@ -18,7 +18,7 @@ ghost use Rattle.access_paths.specs.Scans.{IsSizeOf};
 ghost use Rattle.access_paths.specs.Matches as matches;
 ghost use Rattle.access_paths.specs.Views.{chain_told};
 
-use crate::chains::{Chain, index_chains};
+use crate::chains::{IndexMatch, index_matches};
 use crate::scans::{IndexSize, ScanCost};
 use estimate::Estimate;
 use plan_tree::{Path, TableSet};
@@ -29,7 +29,7 @@ use std::alloc::{AllocError, Global};
 pub struct TablePath {
     pub path: Path,
     /// The tables of the values that its conjuncts compare columns with: their rows have to be known.
-    pub needs: TableSet,
+    pub required_outer: TableSet,
     /// What one scan costs, but for the rows that it hands on.
     pub cost: ScanCost,
 }
@@ -64,7 +64,7 @@ fn segment_path(estimate: &Estimate, table: usize) -> TablePath
 {
     TablePath {
         path: Path::Segment { table },
-        needs: TableSet::none(),
+        required_outer: TableSet::none(),
         cost: ScanCost::Pages(estimate.table(table).statistics().pages),
     }
 }
@@ -86,7 +86,7 @@ fn push_index(
     // A look at its length tells what holds of a table.
     let _len = found.len();
     let index = found.index(number);
-    let chains = index_chains(alloc, estimate, table, index.columns())?;
+    let chains = index_matches(alloc, estimate, table, index.columns())?;
     let scan = IndexScan {
         table,
         number,
@@ -113,10 +113,10 @@ impl IndexScan {
         self,
         paths: &mut Vec<TablePath>,
         estimate: &Estimate,
-        chains: &[Chain],
+        chains: &[IndexMatch],
         backward: bool,
     ) -> Result<(), AllocError>
-        requires there { AllByRecursion (λ (c : matches.Chain). AllByRecursion (λ conjunct. conjunct < length (queries.conjuncts (block_of estimate.now.block))) c.conjuncts) (map chain_told chains.now) }
+        requires there { AllByRecursion (λ (c : matches.IndexMatch). AllByRecursion (λ conjunct. conjunct < length (queries.conjuncts (block_of estimate.now.block))) c.conjuncts) (map chain_told chains.now) }
         ensures exact { OnOk result ((i : stored.Index) → IsSizeOf estimate.now.database (block_of estimate.now.block) self.table i self.size → map path_told paths.new.items ≡ map path_told paths.old.items ++ scans_found estimate.now.database (block_of estimate.now.block) self.table self.number i (map chain_told chains.now) backward) }
     {
         paths.push(self.whole(backward))?;
@@ -135,7 +135,7 @@ impl IndexScan {
                 index: self.number,
                 backward,
             },
-            needs: TableSet::none(),
+            required_outer: TableSet::none(),
             cost: self.size.whole(),
         }
     }
@@ -143,7 +143,7 @@ impl IndexScan {
     fn matching(
         self,
         estimate: &Estimate,
-        chain: &Chain,
+        chain: &IndexMatch,
         backward: bool,
     ) -> Result<TablePath, AllocError>
         requires there { AllByRecursion (λ conjunct. conjunct < length (queries.conjuncts (block_of estimate.now.block))) (chain_told chain.now).conjuncts }
@@ -156,7 +156,7 @@ impl IndexScan {
                 conjuncts: chain.conjuncts.clone()?,
                 backward,
             },
-            needs: chain.needs,
+            required_outer: chain.required_outer,
             cost: self.size.matched(estimate, chain),
         })
     }

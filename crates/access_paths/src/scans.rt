@@ -14,7 +14,7 @@ ghost use Rattle.query_tree.specs.Bound.{block_of};
 ghost use Rattle.access_paths.specs.Scans.{cost_with, matching_scan, scan_cost_of, whole_scan, IsSizeOf};
 ghost use Rattle.access_paths.specs.Views.{chain_told};
 
-use crate::chains::Chain;
+use crate::chains::IndexMatch;
 use catalog::{Index, Table};
 use estimate::{Estimate, fraction, saturated, share};
 
@@ -82,7 +82,7 @@ impl IndexSize {
     }
 
     /// A scan of what a chain matches.
-    pub fn matched(self, estimate: &Estimate, chain: &Chain) -> ScanCost
+    pub fn matched(self, estimate: &Estimate, chain: &IndexMatch) -> ScanCost
         requires there { AllByRecursion (λ conjunct. conjunct < length (queries.conjuncts (block_of estimate.now.block))) (chain_told chain.now).conjuncts }
         ensures { (number : ℕ) (i : table.Index) → IsSizeOf estimate.now.database (block_of estimate.now.block) number i self → scan_cost_of result ≡ matching_scan estimate.now.database (block_of estimate.now.block) number i (chain_told chain.now) }
     {
@@ -97,7 +97,7 @@ impl IndexSize {
 
     /// The share of pages that a chain matches: one key where two columns or more are all equal to a value, else what its
     /// conjuncts leave.
-    fn share_of(self, estimate: &Estimate, chain: &Chain, all_equal: bool, pages: u64) -> u64
+    fn share_of(self, estimate: &Estimate, chain: &IndexMatch, all_equal: bool, pages: u64) -> u64
         requires there { AllByRecursion (λ conjunct. conjunct < length (queries.conjuncts (block_of estimate.now.block))) (chain_told chain.now).conjuncts }
         ensures { (number : ℕ) (i : table.Index) → IsSizeOf estimate.now.database (block_of estimate.now.block) number i self → result ≡ costs.matched estimate.now.database (block_of estimate.now.block) i all_equal (chain_told chain.now).conjuncts pages }
     {

@@ -18,13 +18,13 @@ use Rattle.definitions.specs.Table.{Database}
 use Rattle.definitions.specs.Binding.Scopes.{Scopes}
 use Rattle.query_tree.specs.Bound.{block_of, bound_function_of, value_of, value_type_of}
 use Rattle.query_tree.specs.declared.block.Block.{Block}
-use Rattle.query_tree.specs.declared.block.BoundFunction.{BoundFunction}
+use Rattle.query_tree.specs.declared.block.Aggregate.{Aggregate}
 use Rattle.query_rules.specs.declared.fault.QueryFault.{QueryFault}
 use Rattle.query_rules.specs.declared.fault.BindFault.{BindFault}
 use Rattle.query_rules.specs.declared.fault.BindFault.TheVariants as f
 use Rattle.query_rules.specs.declared.clause.Clause.{Clause}
 use Rattle.query_rules.specs.declared.leaf.Typed.{Typed}
-use Rattle.query_rules.specs.Judging.{Place, PartFaulty, Progress, RefusesValue, RefusesCondition, RefusesMembers, RefusesQuery, RefusesColumn}
+use Rattle.query_rules.specs.Judging.{ClauseKind, PartFaulty, Progress, RefusesValue, RefusesCondition, RefusesMembers, RefusesQuery, RefusesColumn}
 use Rattle.query_rules.specs.Leaves.{BindsLeaf}
 use Rattle.query_rules.specs.Meaning.{bind_refusal, query_refusal, place_of}
 use Rattle.binder.specs.Meaning.{ValueAnswer, ConditionAnswer, MembersAnswer, QueryAnswer, ColumnAnswer}
@@ -80,10 +80,10 @@ few_items blocks h = rw (← same_length blocks) h
     same_length [] = refl
     same_length (x ∷ xs) = let h = same_length xs in omega (arith, h)
 
-pub column_refused : (db : Database) (scopes : Scopes) (place : Place) (s : Progress) (reference : ColumnReference) (r : Refusal) → PartFaulty db scopes place (Column reference) r → RefusesValue db scopes place s (Column reference) r
+pub column_refused : (db : Database) (scopes : Scopes) (place : ClauseKind) (s : Progress) (reference : ColumnReference) (r : Refusal) → PartFaulty db scopes place (Column reference) r → RefusesValue db scopes place s (Column reference) r
 column_refused db scopes place s reference r h = inl (fault_here db scopes place (length s.blocks) (Column reference) [] [] r h)
 
-pub numeral_refused : (db : Database) (scopes : Scopes) (place : Place) (s : Progress) (units digits scale : ℕ) (r : Refusal) → PartFaulty db scopes place (Numeral units digits scale) r → RefusesValue db scopes place s (Numeral units digits scale) r
+pub numeral_refused : (db : Database) (scopes : Scopes) (place : ClauseKind) (s : Progress) (units digits scale : ℕ) (r : Refusal) → PartFaulty db scopes place (Numeral units digits scale) r → RefusesValue db scopes place s (Numeral units digits scale) r
 numeral_refused db scopes place s units digits scale r h = inl (fault_here db scopes place (length s.blocks) (Numeral units digits scale) [] [] r h)
 
 pub column_answer : (c : Clause) (s : Progress) (reference : ColumnReference) (result : Result Typed BindFault) → length s.blocks ≤ most_blocks
@@ -108,11 +108,11 @@ pushed_operand (y ∷ xs) x = ap (λ ys. bound_operand_of y ∷ ys) (pushed_oper
 
 -- ---- one more set function
 
-pub pushed_function : (xs : List BoundFunction) (x : BoundFunction) → map bound_function_of (xs ++ x ∷ []) ≡ map bound_function_of xs ++ bound_function_of x ∷ []
+pub pushed_function : (xs : List Aggregate) (x : Aggregate) → map bound_function_of (xs ++ x ∷ []) ≡ map bound_function_of xs ++ bound_function_of x ∷ []
 pushed_function [] x = refl
 pushed_function (y ∷ xs) x = ap (λ ys. bound_function_of y ∷ ys) (pushed_function xs x)
 
-pub as_many_functions : (xs : List BoundFunction) → length (map bound_function_of xs) ≡ length xs
+pub as_many_functions : (xs : List Aggregate) → length (map bound_function_of xs) ≡ length xs
 as_many_functions [] = refl
 as_many_functions (x ∷ xs) = let h = as_many_functions xs in omega (arith, h)
 

@@ -24,7 +24,7 @@ use Rattle.query_rules.specs.declared.fault.BindFault.{BindFault}
 use Rattle.query_rules.specs.declared.fault.BindFault.TheVariants as f
 use Rattle.query_rules.specs.declared.fault.QueryFault.{QueryFault}
 use Rattle.binder.specs.declared.items.ResultColumns.{ResultColumns}
-use Rattle.query_rules.specs.Judging.{Place, Progress, RefusesBlock}
+use Rattle.query_rules.specs.Judging.{ClauseKind, Progress, RefusesBlock}
 use Rattle.binder.specs.Blocks.{OptionAnswer, ListAnswer, RefusesList, RefusesOption}
 use Rattle.query_rules.specs.Groups.{SomeNotOwn}
 use Rattle.binder.specs.Clauses.{ClausesAnswer, RefusesClauses}
@@ -40,7 +40,7 @@ pub list_err : (c : Clause) (old new : Progress) (list : t.SelectList) (result :
     → IfSome (bind_refusal fault) (RefusesList c.database.now c.scopes.now (place_of c.place) old list) → ListAnswer c old new list result
 list_err c old new list result fault is h = subst (ListAnswer c old new list) (sym is) h
 
-pub clauses_err : (db : Database) (scopes : Scopes) (shown : Place) (old new : Blocks) (query : t.Block) (result : Result Clauses BindFault) (fault : BindFault) → result ≡ Err fault
+pub clauses_err : (db : Database) (scopes : Scopes) (shown : ClauseKind) (old new : Blocks) (query : t.Block) (result : Result Clauses BindFault) (fault : BindFault) → result ≡ Err fault
     → IfSome (bind_refusal fault) (RefusesClauses db scopes shown (length old) query) → ClausesAnswer db scopes shown old new query result
 clauses_err db scopes shown old new query result fault is h = subst (ClausesAnswer db scopes shown old new query) (sym is) h
 

@@ -15,7 +15,7 @@ use Rattle.definitions.specs.Binding.BoundForm.{own_column}
 use Rattle.definitions.specs.Binding.Faults as fault
 use Rattle.definitions.specs.Binding.Faults.{IsTooFine, NamesNoColumn, MixesKinds, takes_right, is_condition, HasManyMembers, IsOuterColumn, IsNotOwn, IsUngrouped, IsGrouped, argument_parts, where_parts, shown_parts, all_argument_parts, all_parts, conjunct_count, item_count, BlockFaulty}
 use Rattle.query_rules.specs.Judging as judged
-use Rattle.query_rules.specs.Judging.{Place, InWhere, InShown, InArgument, takes_functions, IsUngroupedIn, PartFaulty, Refuses, IsClean}
+use Rattle.query_rules.specs.Judging.{ClauseKind, InWhere, InShown, InArgument, takes_functions, IsUngroupedIn, PartFaulty, Refuses, IsClean}
 use Rattle.binder.proofs.Bundles.{any_left, any_right, any_split, length_of_both}
 
 -- ---- some element
@@ -111,11 +111,11 @@ all_there db (s ∷ ss) h (inl a) = not_none (table_named db s.table) (first_tru
 all_there db (s ∷ ss) h (inr a) = all_there db ss (second_true (is_some (table_named db s.table)) _ h) a
 
 -- in a place of result columns: whether the block is grouped, and by what
-abbrev grouped_in : Place → Bool
+abbrev grouped_in : ClauseKind → Bool
 grouped_in (InShown grouped columns) = grouped
 grouped_in _ = false
 
-abbrev columns_in : Place → List BlockColumn
+abbrev columns_in : ClauseKind → List BlockColumn
 columns_in (InShown grouped columns) = columns
 columns_in _ = []
 
@@ -177,7 +177,7 @@ module _ (db : Database) (outer : Scopes) (distinct : Bool) (list : SelectList) 
     in_argument : (P : Expr → Type 0) (r : Refusal) → ((e : Expr) → P e → PartFaulty db scopes InArgument e r) → AnyOf P (flat_map argument_parts (shown_parts whole)) → ⊥
     in_argument P r f a = h.shown_clean r (judged.argument r refl (any_map P _ f (flat_map argument_parts (shown_parts whole)) a))
 
-    in_part : (P : Expr → Type 0) (r : Refusal) → ((place : Place) (e : Expr) → P e → PartFaulty db scopes place e r) → AnyOf P (all_parts whole) → ⊥
+    in_part : (P : Expr → Type 0) (r : Refusal) → ((place : ClauseKind) (e : Expr) → P e → PartFaulty db scopes place e r) → AnyOf P (all_parts whole) → ⊥
     in_part P r f = none_of_all P (where_parts whole) (shown_parts whole) no_function
         (λ a. h.where_clean r (judged.part r (any_map P _ (f InWhere) (where_parts whole) a)))
         (λ a. h.shown_clean r (judged.part r (any_map P _ (f (InShown grouped columns)) (shown_parts whole) a)))
@@ -246,7 +246,7 @@ module _ (db : Database) (outer : Scopes) (distinct : Bool) (list : SelectList) 
     in_arguments e i = subst (IsIn e) (sym (arguments_of_both (where_parts whole) (shown_parts whole))) (any_right _ (flat_map argument_parts (where_parts whole)) (flat_map argument_parts (shown_parts whole)) i)
 
     -- a fault of a part, but for those that hang on the place
-    of_part : (place : Place) (e : Expr) → IsIn e (all_parts whole)
+    of_part : (place : ClauseKind) (e : Expr) → IsIn e (all_parts whole)
         → (IsFalse (takes_functions place) → IsTrue (is_function e) → BlockFaulty db placed MisplacedFunction)
         → (place ≡ InArgument → IsOuterColumn scopes e → BlockFaulty db placed MisplacedFunction)
         → ((columns : List BlockColumn) → place ≡ InShown true columns → IsUngroupedIn db scopes columns e → BlockFaulty db placed UngroupedColumn)

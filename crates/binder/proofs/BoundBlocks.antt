@@ -14,7 +14,7 @@ use Rattle.definitions.specs.Binding.Parts.{PlacedBlock, is_function, functions_
 use Rattle.definitions.specs.Binding.BoundForm.{Next, after_list, after_condition, bound_block, bound_blocks, bound_function, bound_option, select_items}
 use Rattle.definitions.specs.Binding.Faults.{is_condition, conjunct_count, column_count, IsGrouped, shown_parts}
 use Rattle.definitions.specs.Queries.BoundBlock as b
-use Rattle.definitions.specs.Queries.BoundBlock.{Blocks, BoundFunction}
+use Rattle.definitions.specs.Queries.BoundBlock.{Blocks, Aggregate}
 use Rattle.query_rules.specs.Judging.{InWhere, IsClean, Progress, next_of, BindsBlock}
 use Rattle.query_rules.specs.BlockLimits.{IsWithinLimits}
 use Rattle.query_rules.specs.Groups.{SomeNotOwn, own_columns, shown_in}
@@ -159,7 +159,7 @@ module _ (db : Database) (outer : Scopes) (distinct : Bool) (list : SelectList) 
 
     its_functions : bound.functions ≡ map (bound_function db scopes) (flat_map functions_in (item_values list ++ condition_values having))
     its_functions =
-        let f : List Expr → List BoundFunction = map (bound_function db scopes) in
+        let f : List Expr → List Aggregate = map (bound_function db scopes) in
         h.having.adds.functions
         ∙ ap (λ fs. fs ++ f (filter is_function (condition_parts having))) (h.condition.adds.functions ∙ ap (λ xs. h.listed.functions ++ f xs) (no_functions db scopes h.listed h.kept (condition_parts where') ws h.condition.adds) ∙ nothing_more h.listed.functions ∙ h.columns.adds.functions)
         ∙ sym (map_of_both db scopes InWhere (filter is_function (list_parts list)) (filter is_function (condition_parts having)))
@@ -191,7 +191,7 @@ module _ (db : Database) (outer : Scopes) (distinct : Bool) (list : SelectList) 
       order = [];
     }
 
-    abbrev made : List b.Item → Option b.Condition → List BlockColumn → Option b.Condition → List BoundFunction → b.Block
+    abbrev made : List b.Item → Option b.Condition → List BlockColumn → Option b.Condition → List Aggregate → b.Block
     made items condition columns having functions = record {
       tables = map (λ (t : NamedTable). t.number) (scope_of db sources);
       distinct = distinct;

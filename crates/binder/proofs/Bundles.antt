@@ -11,7 +11,7 @@ use Rattle.definitions.specs.Binding.Scopes.{Scopes}
 use Rattle.definitions.specs.Binding.Parts.{PlacedBlock, is_function}
 use Rattle.definitions.specs.Binding.BoundForm.{bound_block, bound_blocks, bound_function}
 use Rattle.definitions.specs.Binding.Faults.{argument_parts}
-use Rattle.query_rules.specs.Judging.{Place, InArgument, PartFaulty, Refuses, part, argument, inner, misplaced, many, IsClean, Progress, Adds}
+use Rattle.query_rules.specs.Judging.{ClauseKind, InArgument, PartFaulty, Refuses, part, argument, inner, misplaced, many, IsClean, Progress, Adds}
 
 -- ---- some element
 
@@ -39,7 +39,7 @@ length_of_both (x ∷ xs) ys = let h = length_of_both xs ys in omega (arith, h)
 
 -- ---- faults of parts, side by side
 
-module _ (db : Database) (scopes : Scopes) (place : Place) where
+module _ (db : Database) (scopes : Scopes) (place : ClauseKind) where
   pub fault_left : (count : ℕ) (ps qs : List Expr) (bs cs : List PlacedBlock) (r : Refusal) → Refuses db scopes place count ps bs r → Refuses db scopes place count (ps ++ qs) (bs ++ cs) r
   fault_left count ps qs bs cs _ (part r a) = part r (any_left _ ps qs a)
   fault_left count ps qs bs cs _ (argument r p a) = argument r p (rw (arguments_of_both ps qs) (any_left _ (flat_map argument_parts ps) (flat_map argument_parts qs) a))

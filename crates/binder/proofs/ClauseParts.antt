@@ -15,7 +15,7 @@ use Rattle.parse_tree.specs.Trees.{block_of, condition_of}
 use Rattle.parse_tree.specs.Trees as tree
 use Rattle.parse_tree.specs.declared.expr.Block.{Block}
 use Rattle.parse_tree.proofs.Views.{of_block}
-use Rattle.query_rules.specs.Judging.{Place, InWhere, InShown, InArgument, is_where, takes_functions, Refuses, part, argument, inner, misplaced, misplaced_function, many, Progress, Adds}
+use Rattle.query_rules.specs.Judging.{ClauseKind, InWhere, InShown, InArgument, is_where, takes_functions, Refuses, part, argument, inner, misplaced, misplaced_function, many, Progress, Adds}
 use Rattle.binder.specs.Blocks.{condition_parts, list_parts, BindsList, BindsOption, RefusesList, RefusesOption}
 use Rattle.binder.specs.Clauses.{BoundClauses, BindsClauses, RefusesClauses, in_where, in_shown, condition_for_item, value_for_condition}
 use Rattle.binder.proofs.Bundles.{any_left, any_right, fault_left, fault_right}
@@ -26,7 +26,7 @@ pub parts_of_both : (xs ys : List Expr) → flat_map parts (xs ++ ys) ≡ flat_m
 parts_of_both [] ys = refl
 parts_of_both (x ∷ xs) ys = ap (λ zs. parts x ++ zs) (parts_of_both xs ys) ∙ sym (append_assoc (parts x) (flat_map parts xs) (flat_map parts ys))
 
-not_where : (place : Place) → IsTrue (takes_functions place) → IsFalse (is_where place)
+not_where : (place : ClauseKind) → IsTrue (takes_functions place) → IsFalse (is_where place)
 not_where InWhere h = absurd cc
 not_where (InShown grouped columns) h = refl
 not_where InArgument h = absurd cc
@@ -38,14 +38,14 @@ nothing_behind n bs e = ap (λ xs. n + length xs) e ∙ zero_behind n
     zero_behind n = omega (arith)
 
 module _ (db : Database) (scopes : Scopes) where
-  pub later_refuses : (place : Place) (n k : ℕ) (ps : List Expr) (bs : List PlacedBlock) (r : Refusal) → Refuses db scopes place n ps bs r → Refuses db scopes place (n + k) ps bs r
+  pub later_refuses : (place : ClauseKind) (n k : ℕ) (ps : List Expr) (bs : List PlacedBlock) (r : Refusal) → Refuses db scopes place n ps bs r → Refuses db scopes place (n + k) ps bs r
   later_refuses place n k ps bs _ (part r a) = part r a
   later_refuses place n k ps bs _ (argument r p a) = argument r p a
   later_refuses place n k ps bs _ (inner r a) = inner r a
   later_refuses place n k ps bs r (misplaced p x) = misplaced p x
   later_refuses place n k ps bs r (many h) = many (omega (arith, h))
 
-  pub no_blocks : (place : Place) (old new : Progress) (ps : List Expr) (bs : List PlacedBlock) → IsTrue (takes_functions place) → Adds db scopes place old new ps bs → bs ≡ []
+  pub no_blocks : (place : ClauseKind) (old new : Progress) (ps : List Expr) (bs : List PlacedBlock) → IsTrue (takes_functions place) → Adds db scopes place old new ps bs → bs ≡ []
   no_blocks place old new ps [] t h = refl
   no_blocks place old new ps (b ∷ bs) t h = absurd (h.clean OverQueryLimit (misplaced (not_where place t) (λ e. absurd cc)))
 
@@ -60,7 +60,7 @@ module _ (db : Database) (scopes : Scopes) where
   pub no_functions : (old new : Progress) (ps : List Expr) (bs : List PlacedBlock) → Adds db scopes InWhere old new ps bs → filter is_function ps ≡ []
   no_functions old new ps bs h = no_functions_among ps (λ a. h.clean MisplacedFunction (part MisplacedFunction (any_map _ _ (λ e x. misplaced_function refl x) ps a)))
 
-  module _ (shown : Place) (old : Blocks) where
+  module _ (shown : ClauseKind) (old : Blocks) where
     abbrev start : Progress
     start = record { blocks = old; functions = [] }
 

@@ -19,7 +19,7 @@ use Rattle.definitions.specs.Binding.Parts.{parts, item_values, item_blocks, blo
 use Rattle.definitions.specs.Binding.BoundForm.{after_items, bound_items, header_name, result_name, star_items}
 use Rattle.definitions.specs.Binding.Faults.{is_condition}
 use Rattle.definitions.specs.Queries.BoundBlock as b
-use Rattle.query_rules.specs.Judging.{Place, Refuses, Progress, next_of, Adds, BindsValue, RefusesValue, IsFine}
+use Rattle.query_rules.specs.Judging.{ClauseKind, Refuses, Progress, next_of, Adds, BindsValue, RefusesValue, IsFine}
 use Rattle.query_rules.proofs.ResolvedColumns.{all_in, numbers, HasColumnIn}
 use Rattle.parse_tree.specs.Trees.{expr_of, item_of, name_of}
 use Rattle.parse_tree.specs.declared.expr.Item.{Item}
@@ -66,7 +66,7 @@ header_same x name m k h e = h ∙ ap₂ header_name e (ap (λ (y : t.Item). res
 abbrev pub item_parts : Items → List Expr
 item_parts is = flat_map parts (item_values (Listed is))
 
-module _ (db : Database) (scopes : Scopes) (place : Place) where
+module _ (db : Database) (scopes : Scopes) (place : ClauseKind) where
   -- items are bound, of which the first has a number
   pub record BindsItems (old new : Progress) (k : ℕ) (is : Items) (bound : List b.Item) : Type 0 where
     pub adds : Adds db scopes place old new (item_parts is) (item_blocks db scopes is)

@@ -15,7 +15,7 @@ use Rattle.definitions.specs.Binding.BoundForm.{operator_of, connected, bound_op
 use Rattle.definitions.specs.Binding.Faults.{same, is_logical, is_condition, operands_are, SomeOperandIsText, IsGreat, HasGreatProduct}
 use Rattle.definitions.specs.Queries.BoundBlock as b
 use Rattle.query_tree.specs.Bound.{OperandTree, operands, conditions}
-use Rattle.query_rules.specs.Judging.{Place, PartFaulty, too_fine, mixed_kinds, wrong_operand, Refuses, Progress, next_of, Adds, BindsValue, BindsCondition, RefusesValue, RefusesCondition}
+use Rattle.query_rules.specs.Judging.{ClauseKind, PartFaulty, too_fine, mixed_kinds, wrong_operand, Refuses, Progress, next_of, Adds, BindsValue, BindsCondition, RefusesValue, RefusesCondition}
 use Rattle.binder.proofs.Bundles.{add_node, add_none, add_both, fault_here, fault_behind, fault_left, fault_right}
 use Rattle.binder.proofs.Nodes.{sound, no_text, next_after, blocks_after}
 
@@ -47,7 +47,7 @@ condition_is_no_value : (x : Bool) → x ≡ true → same false x ≡ false
 condition_is_no_value true h = refl
 condition_is_no_value false h = absurd cc
 
-module _ (db : Database) (scopes : Scopes) (place : Place) where
+module _ (db : Database) (scopes : Scopes) (place : ClauseKind) where
   -- ---- arithmetic
 
   -- operands behind a number of a scale are bound, and the scale of all of them together is known

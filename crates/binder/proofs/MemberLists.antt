@@ -13,11 +13,11 @@ use Rattle.definitions.specs.Binding.Parts.{parts, member_parts, blocks_in, memb
 use Rattle.definitions.specs.Binding.BoundForm.{bound_members}
 use Rattle.definitions.specs.Binding.Faults.{is_condition, SomeMemberDiffers, members_are_values, HasManyMembers}
 use Rattle.definitions.specs.Queries.BoundBlock as b
-use Rattle.query_rules.specs.Judging.{Place, PartFaulty, mixed_kinds, wrong_operand, many_members, Refuses, Progress, BindsValue, BindsCondition, BindsMembers, RefusesValue, RefusesCondition, RefusesMembers}
+use Rattle.query_rules.specs.Judging.{ClauseKind, PartFaulty, mixed_kinds, wrong_operand, many_members, Refuses, Progress, BindsValue, BindsCondition, BindsMembers, RefusesValue, RefusesCondition, RefusesMembers}
 use Rattle.binder.proofs.Bundles.{add_node, add_none, add_both, fault_here, fault_behind, fault_left, fault_right}
 use Rattle.binder.proofs.Nodes.{sound, alike, unlike, next_after, blocks_after}
 
-module _ (db : Database) (scopes : Scopes) (place : Place) where
+module _ (db : Database) (scopes : Scopes) (place : ClauseKind) where
   pub no_members : (s : Progress) (k : ValueType) → length s.blocks ≤ most_blocks → BindsMembers db scopes place s s k NoMember []
   no_members s k few = record { adds = add_none db scopes place s few; are = refl; alike = λ x. x; values = refl }
 

@@ -15,11 +15,11 @@ use Rattle.definitions.specs.Binding.Parts.{PlacedBlock, is_function, parts, blo
 use Rattle.definitions.specs.Binding.BoundForm.{Next, after, bound_value, bound_function}
 use Rattle.definitions.specs.Binding.Faults.{Differ, IsTooFine, NamesNoColumn, MixesKinds, takes_right, is_condition, HasManyMembers, IsOuterColumn, argument_parts}
 use Rattle.definitions.specs.Queries.BoundBlock as b
-use Rattle.query_rules.specs.Judging.{Place, IsUngroupedIn, PartFaulty, too_fine, no_column, mixed_kinds, wrong_operand, many_members, misplaced_function, outer_column, ungrouped, Refuses, many, Progress, next_of, Adds, BindsValue, BindsCondition, RefusesValue, RefusesCondition}
+use Rattle.query_rules.specs.Judging.{ClauseKind, IsUngroupedIn, PartFaulty, too_fine, no_column, mixed_kinds, wrong_operand, many_members, misplaced_function, outer_column, ungrouped, Refuses, many, Progress, next_of, Adds, BindsValue, BindsCondition, RefusesValue, RefusesCondition}
 use Rattle.query_rules.specs.Leaves.{BindsLeaf}
 use Rattle.binder.proofs.Bundles.{IsSoundPart, add_node, add_none, add_both, fault_here, fault_behind, fault_left, fault_right, as_many_blocks, length_of_both}
 
-module _ (db : Database) (scopes : Scopes) (place : Place) where
+module _ (db : Database) (scopes : Scopes) (place : ClauseKind) where
   -- a part that is neither a column, nor a numeral, nor a set function: what can still be wrong with it
   pub record IsFaultless (e : Expr) : Type 0 where
     pub fine : IsTooFine db scopes e → ⊥
@@ -177,7 +177,7 @@ module _ (db : Database) (scopes : Scopes) (place : Place) where
   pub unlike : (o p : Option ValueType) (t u : ValueType) → o ≡ Some t → p ≡ Some u → (type_kind t ≡ type_kind u → ⊥) → Differ o p
   unlike o p t u h k apart = rw (h, k) apart
 
-  pub binds_compare : (old mid new : Progress) (op : t.Op) (x y : Expr) (v w : b.ValueExpr) (k l : ValueType) → BindsValue db scopes place old mid x v k → BindsValue db scopes place mid new y w l → type_kind k ≡ type_kind l
+  pub binds_compare : (old mid new : Progress) (op : t.ComparisonOperator) (x y : Expr) (v w : b.ValueExpr) (k l : ValueType) → BindsValue db scopes place old mid x v k → BindsValue db scopes place mid new y w l → type_kind k ≡ type_kind l
       → BindsCondition db scopes place old new (t.Compare op x y) (b.Compare op v w)
   binds_compare old mid new op x y v w k l h m same = record {
     adds = add_node db scopes place old new (t.Compare op x y) (parts x ++ parts y) (blocks_in db scopes x ++ blocks_in db scopes y) refl (sound (t.Compare op x y) (record {
@@ -196,13 +196,13 @@ module _ (db : Database) (scopes : Scopes) (place : Place) where
     is_condition = refl;
   }
 
-  pub compare_left : (s : Progress) (op : t.Op) (x y : Expr) (r : Refusal) → RefusesValue db scopes place s x r → RefusesCondition db scopes place s (t.Compare op x y) r
+  pub compare_left : (s : Progress) (op : t.ComparisonOperator) (x y : Expr) (r : Refusal) → RefusesValue db scopes place s x r → RefusesCondition db scopes place s (t.Compare op x y) r
   compare_left s op x y r f = inl (of_first s (t.Compare op x y) x (parts y) (blocks_in db scopes y) r f (first_not_taken (is_condition x) (is_condition y)))
 
-  pub compare_right : (old mid : Progress) (op : t.Op) (x y : Expr) (v : b.ValueExpr) (k : ValueType) (r : Refusal) → BindsValue db scopes place old mid x v k → RefusesValue db scopes place mid y r → RefusesCondition db scopes place old (t.Compare op x y) r
+  pub compare_right : (old mid : Progress) (op : t.ComparisonOperator) (x y : Expr) (v : b.ValueExpr) (k : ValueType) (r : Refusal) → BindsValue db scopes place old mid x v k → RefusesValue db scopes place mid y r → RefusesCondition db scopes place old (t.Compare op x y) r
   compare_right old mid op x y v k r h f = inl (of_second old mid (t.Compare op x y) x y r h.adds f (second_not_taken (is_condition x) (is_condition y)))
 
-  pub compare_mixed : (old mid new : Progress) (op : t.Op) (x y : Expr) (v w : b.ValueExpr) (k l : ValueType) → BindsValue db scopes place old mid x v k → BindsValue db scopes place mid new y w l → (type_kind k ≡ type_kind l → ⊥)
+  pub compare_mixed : (old mid new : Progress) (op : t.ComparisonOperator) (x y : Expr) (v w : b.ValueExpr) (k l : ValueType) → BindsValue db scopes place old mid x v k → BindsValue db scopes place mid new y w l → (type_kind k ≡ type_kind l → ⊥)
       → RefusesCondition db scopes place old (t.Compare op x y) MixedKinds
   compare_mixed old mid new op x y v w k l h m apart =
       inl (fault_here db scopes place (length old.blocks) (t.Compare op x y) (parts x ++ parts y) (blocks_in db scopes x ++ blocks_in db scopes y) MixedKinds (mixed_kinds (unlike _ _ k l h.typed m.typed apart)))

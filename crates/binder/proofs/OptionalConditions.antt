@@ -9,7 +9,7 @@ use Rattle.definitions.specs.Binding.Scopes.{Scopes}
 use Rattle.definitions.specs.Binding.Parts.{parts, blocks_in}
 use Rattle.definitions.specs.Binding.Faults.{is_condition}
 use Rattle.definitions.specs.Queries.BoundBlock as b
-use Rattle.query_rules.specs.Judging.{Place, Progress, Adds, Refuses, BindsCondition, RefusesCondition}
+use Rattle.query_rules.specs.Judging.{ClauseKind, Progress, Adds, Refuses, BindsCondition, RefusesCondition}
 use Rattle.binder.specs.Blocks.{BindsOption, RefusesOption}
 use Rattle.binder.proofs.Bundles.{add_none}
 use Rattle.binder.proofs.Nodes.{next_after}
@@ -26,7 +26,7 @@ is_wrong : (b : Bool) → b ≡ false → IsFalse b
 is_wrong false h = search
 is_wrong true h = absurd cc
 
-module _ (db : Database) (scopes : Scopes) (place : Place) where
+module _ (db : Database) (scopes : Scopes) (place : ClauseKind) where
   pub binds_absent : (s : Progress) → length s.blocks ≤ most_blocks → BindsOption db scopes place s s Absent None
   binds_absent s few = record { adds = add_none db scopes place s few; are = refl; next = refl; conditions = λ a. a }
 

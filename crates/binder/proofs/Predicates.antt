@@ -13,11 +13,11 @@ use Rattle.definitions.specs.Binding.Parts.{parts, blocks_in, block_blocks}
 use Rattle.definitions.specs.Binding.BoundForm.{Next, after, bound_value, known_type}
 use Rattle.definitions.specs.Binding.Faults.{is_condition, takes_right}
 use Rattle.definitions.specs.Queries.BoundBlock as b
-use Rattle.query_rules.specs.Judging.{Place, PartFaulty, mixed_kinds, wrong_operand, Refuses, Progress, next_of, Adds, BindsValue, BindsCondition, BindsColumn, BindsQuery, RefusesValue, RefusesCondition, RefusesQuery, RefusesColumn}
+use Rattle.query_rules.specs.Judging.{ClauseKind, PartFaulty, mixed_kinds, wrong_operand, Refuses, Progress, next_of, Adds, BindsValue, BindsCondition, BindsColumn, BindsQuery, RefusesValue, RefusesCondition, RefusesQuery, RefusesColumn}
 use Rattle.binder.proofs.Bundles.{add_node, add_both, fault_here, fault_behind, fault_left, fault_right}
 use Rattle.binder.proofs.Nodes.{sound, of_only, taken, not_taken, alike, unlike, next_after, blocks_after}
 
-module _ (db : Database) (scopes : Scopes) (place : Place) where
+module _ (db : Database) (scopes : Scopes) (place : ClauseKind) where
   -- ---- IS NULL, LIKE and NOT
 
   pub binds_is_null : (old new : Progress) (negated : Bool) (e : Expr) (v : b.ValueExpr) (k : ValueType) → BindsValue db scopes place old new e v k → BindsCondition db scopes place old new (t.IsNull negated e) (b.IsNull negated v)
@@ -257,7 +257,7 @@ module _ (db : Database) (scopes : Scopes) (place : Place) where
   -- x IN (query) and x op ALL (query), in one
   pub data IsTest (query : t.Block) (e : Expr) : Expr → (b.ValueExpr → ℕ → b.Condition) → Type 0 where
     in_query : (negated : Bool) → IsTest query e (t.InQuery negated e query) (b.InQuery negated)
-    compare_all : (op : t.Op) (quantifier : t.Quantifier) → IsTest query e (t.CompareAll op quantifier e query) (b.Quantified op quantifier)
+    compare_all : (op : t.ComparisonOperator) (quantifier : t.Quantifier) → IsTest query e (t.CompareAll op quantifier e query) (b.Quantified op quantifier)
 
   pub binds_test : (old mid new : Progress) (whole e : Expr) (query : t.Block) (make : b.ValueExpr → ℕ → b.Condition) (v : b.ValueExpr) (k l : ValueType) (number : ℕ) → IsTest query e whole make
       → BindsValue db scopes place old mid e v k → BindsColumn db scopes place mid new query number l → type_kind k ≡ type_kind l → BindsCondition db scopes place old new whole (make v number)

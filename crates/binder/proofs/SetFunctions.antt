@@ -16,18 +16,18 @@ use Rattle.definitions.specs.Binding.BoundForm.{bound_blocks, known_type}
 use Rattle.definitions.specs.Binding.Faults.{is_condition, takes_right, argument_parts}
 use Rattle.definitions.specs.Binding.Faults as faults
 use Rattle.definitions.specs.Queries.BoundBlock as b
-use Rattle.definitions.specs.Queries.BoundBlock.{BoundFunction}
-use Rattle.query_rules.specs.Judging.{Place, InWhere, InShown, InArgument, is_where, takes_functions, PartFaulty, too_fine, no_column, mixed_kinds, wrong_operand, many_members, misplaced_function, outer_column, ungrouped, part, argument, inner, misplaced, many, IsClean, Progress, BindsValue, RefusesValue, IsFine}
+use Rattle.definitions.specs.Queries.BoundBlock.{Aggregate}
+use Rattle.query_rules.specs.Judging.{ClauseKind, InWhere, InShown, InArgument, is_where, takes_functions, PartFaulty, too_fine, no_column, mixed_kinds, wrong_operand, many_members, misplaced_function, outer_column, ungrouped, part, argument, inner, misplaced, many, IsClean, Progress, BindsValue, RefusesValue, IsFine}
 use Rattle.query_rules.specs.Leaves.{WantsNumbers}
 use Rattle.binder.proofs.Bundles.{any_left, fault_here}
 
 abbrev pub nothing_bound : Progress
 nothing_bound = record { blocks = []; functions = [] }
 
-abbrev pub with_function : Progress → BoundFunction → Progress
+abbrev pub with_function : Progress → Aggregate → Progress
 with_function s f = record { blocks = s.blocks; functions = s.functions ++ f ∷ [] }
 
-module _ (db : Database) (scopes : Scopes) (place : Place) where
+module _ (db : Database) (scopes : Scopes) (place : ClauseKind) where
   -- ---- a function is bound: of rows, and of an argument
 
   is_refused : (x : Bool) → IsTrue x → IsFalse x → ⊥
@@ -52,7 +52,7 @@ module _ (db : Database) (scopes : Scopes) (place : Place) where
   no_fault count e few h k r (misplaced p n) = n refl
   no_fault count e few h k r (many m) = absurd (omega (arith, m, few))
 
-  pub binds_count_rows : (s : Progress) → length s.blocks ≤ most_blocks → IsTrue (takes_functions place) → BindsValue db scopes place s (with_function s b.CountRows) t.CountRows (b.SetValue (length s.functions) (NumberType 0)) (NumberType 0)
+  pub binds_count_rows : (s : Progress) → length s.blocks ≤ most_blocks → IsTrue (takes_functions place) → BindsValue db scopes place s (with_function s b.CountRows) t.CountRows (b.AggregateValue (length s.functions) (NumberType 0)) (NumberType 0)
   binds_count_rows s few p = record {
     adds = record { blocks = sym (append-nil s.blocks); functions = refl; clean = no_fault (length s.blocks) t.CountRows few (rows_sound p) (λ r x. x) };
     bound = refl;
@@ -103,7 +103,7 @@ module _ (db : Database) (scopes : Scopes) (place : Place) where
 
   pub binds_function : (s inside : Progress) (function : t.SetFunction) (distinct : Bool) (e : Expr) (v : b.ValueExpr) (k type : ValueType) → length s.blocks ≤ most_blocks → IsTrue (takes_functions place)
       → BindsValue db scopes InArgument nothing_bound inside e v k → (WantsNumbers function → type_kind k ≡ Numbers) → function_type function (Some k) ≡ Some type → IsFine type
-      → BindsValue db scopes place s (with_function s (b.OfValues function distinct v)) (t.Function function distinct e) (b.SetValue (length s.functions) type) type
+      → BindsValue db scopes place s (with_function s (b.OfValues function distinct v)) (t.Function function distinct e) (b.AggregateValue (length s.functions) type) type
   binds_function s inside function distinct e v k type few p h numbers typed fine =
       let none = none_inside 0 (parts e) (blocks_in db scopes e) h.adds.clean in
       let known : function_type function (expr_type db scopes e) ≡ Some type = ap (function_type function) h.typed ∙ typed in
@@ -114,7 +114,7 @@ module _ (db : Database) (scopes : Scopes) (place : Place) where
           clean = subst (IsClean db scopes place (length s.blocks) (t.Function function distinct e ∷ [])) (sym none)
               (no_fault (length s.blocks) (t.Function function distinct e) few (function_sound function distinct e k p h.is_value h.typed numbers) (λ r x. h.adds.clean r (part r (subst (AnyOf (λ q. PartFaulty db scopes InArgument q r)) (append-nil (parts e)) x))));
         };
-        bound = ap (b.SetValue (length s.functions)) (sym (ap known_type known));
+        bound = ap (b.AggregateValue (length s.functions)) (sym (ap known_type known));
         typed = known;
         fine = fine;
         is_value = refl;
@@ -123,10 +123,10 @@ module _ (db : Database) (scopes : Scopes) (place : Place) where
   pub function_misplaced : (s : Progress) (function : t.SetFunction) (distinct : Bool) (e : Expr) → IsFalse (takes_functions place) → RefusesValue db scopes place s (t.Function function distinct e) MisplacedFunction
   function_misplaced s function distinct e p = inl (fault_here db scopes place (length s.blocks) (t.Function function distinct e) [] (blocks_in db scopes e) MisplacedFunction (misplaced_function p search))
 
-  shown_is_not_where : (p : Place) → IsTrue (takes_functions p) → IsFalse (is_where p)
+  shown_is_not_where : (p : ClauseKind) → IsTrue (takes_functions p) → IsFalse (is_where p)
   shown_is_not_where p h = not_where p h
     where
-      not_where : (p : Place) → IsTrue (takes_functions p) → IsFalse (is_where p)
+      not_where : (p : ClauseKind) → IsTrue (takes_functions p) → IsFalse (is_where p)
       not_where InWhere h = absurd cc
       not_where (InShown grouped columns) h = search
       not_where InArgument h = search

@@ -7,10 +7,10 @@ use Rattle.definitions.specs.Table.{Database}
 use Rattle.definitions.specs.ValueType.{ValueType}
 use Rattle.definitions.specs.Binding.Scopes.{Scopes}
 use Rattle.definitions.specs.Binding.Parts.{block_blocks}
-use Rattle.definitions.specs.Queries.BoundBlock.{BoundFunction, Blocks}
-use Rattle.query_rules.specs.declared.clause.Place.{Place as ClausePlace}
-use Rattle.query_rules.specs.declared.clause.Place.TheVariants as p
-use Rattle.query_rules.specs.Judging.{Place, InWhere, is_where, Refuses, part, argument, inner, misplaced, many, Progress, BindsColumn, BindsQuery, BindsBlock, RefusesQuery, RefusesColumn, RefusesBlock, IsClean}
+use Rattle.definitions.specs.Queries.BoundBlock.{Aggregate, Blocks}
+use Rattle.query_rules.specs.declared.clause.ClauseKind.{ClauseKind as ClausePlace}
+use Rattle.query_rules.specs.declared.clause.ClauseKind.TheVariants as p
+use Rattle.query_rules.specs.Judging.{ClauseKind, InWhere, is_where, Refuses, part, argument, inner, misplaced, many, Progress, BindsColumn, BindsQuery, BindsBlock, RefusesQuery, RefusesColumn, RefusesBlock, IsClean}
 use Rattle.query_rules.specs.Meaning.{place_of}
 
 pub not_where : (place : ClausePlace) → (place ≡ p.Where → ⊥) → IsFalse (is_where (place_of place))
@@ -19,7 +19,7 @@ not_where p.Shown h = search
 not_where (p.Grouped columns) h = search
 not_where p.Argument h = search
 
-module _ (db : Database) (scopes : Scopes) (place : Place) where
+module _ (db : Database) (scopes : Scopes) (place : ClauseKind) where
   pub one_column : (old new : Progress) (query : t.Block) (number : ℕ) (type : ValueType) → BindsQuery db scopes place old new query number (Some type) → BindsColumn db scopes place old new query number type
   one_column old new query number type h = record { is = h.is; adds = h.adds; typed = h.typed; one = λ n. n.1 (h.one.1 refl); fine = h.fine }
 
@@ -40,7 +40,7 @@ module _ (db : Database) (scopes : Scopes) (place : Place) where
       differ true e h = absurd cc
       differ false e h = absurd cc
 
-  pub query_in_where : (old new : Blocks) (functions : List BoundFunction) (query : t.Block) (number : ℕ) (only : Option ValueType) → place ≡ InWhere → number ≡ length old → BindsBlock db scopes old new query only
+  pub query_in_where : (old new : Blocks) (functions : List Aggregate) (query : t.Block) (number : ℕ) (only : Option ValueType) → place ≡ InWhere → number ≡ length old → BindsBlock db scopes old new query only
       → BindsQuery db scopes place (record { blocks = old; functions = functions }) (record { blocks = new; functions = functions }) query number only
   query_in_where old new functions query number only here is h = record {
     is = is;

@@ -17,7 +17,7 @@ use Rattle.query_tree.specs.declared.condition.Condition.{Condition}
 use Rattle.query_rules.specs.declared.clause.Clause.{Clause}
 use Rattle.query_rules.specs.declared.fault.BindFault.{BindFault}
 use Rattle.binder.specs.declared.items.ResultColumns.{ResultColumns}
-use Rattle.query_rules.specs.Judging.{Place, Progress, next_of, Adds, Refuses, IsFine}
+use Rattle.query_rules.specs.Judging.{ClauseKind, Progress, next_of, Adds, Refuses, IsFine}
 use Rattle.query_rules.specs.Meaning.{bind_refusal, place_of}
 
 -- ---- a condition that may be absent
@@ -40,7 +40,7 @@ IsOnly db scopes [] only = only ≡ None
 IsOnly db scopes (i ∷ []) only = (type : ValueType) × (only ≡ Some type) × (expr_type db scopes i.value ≡ Some type) × IsFine type
 IsOnly db scopes (i ∷ j ∷ is) only = only ≡ None
 
-module _ (db : Database) (scopes : Scopes) (place : Place) where
+module _ (db : Database) (scopes : Scopes) (place : ClauseKind) where
   -- a condition is bound, if there is one
   pub record BindsOption (old new : Progress) (c : t.Condition) (bound : Option b.Condition) : Type 0 where
     pub adds : Adds db scopes place old new (condition_parts c) (condition_blocks db scopes c)

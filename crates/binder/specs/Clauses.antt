@@ -9,11 +9,11 @@ use Rattle.definitions.specs.Binding.Scopes.{Scopes}
 use Rattle.definitions.specs.Binding.Parts.{item_values, condition_values, list_blocks, condition_blocks}
 use Rattle.definitions.specs.Binding.Faults.{is_condition, list_of, where_of, having_of, where_parts, shown_parts}
 use Rattle.definitions.specs.Queries.BoundBlock as b
-use Rattle.definitions.specs.Queries.BoundBlock.{Blocks, BoundFunction}
+use Rattle.definitions.specs.Queries.BoundBlock.{Blocks, Aggregate}
 use Rattle.query_tree.specs.Bound.{bound_function_of, condition_of, item_of, value_type_of}
 use Rattle.binder.specs.declared.block.Clauses.{Clauses}
 use Rattle.query_rules.specs.declared.fault.BindFault.{BindFault}
-use Rattle.query_rules.specs.Judging.{Place, InWhere, Progress, Refuses}
+use Rattle.query_rules.specs.Judging.{ClauseKind, InWhere, Progress, Refuses}
 use Rattle.binder.specs.Blocks.{BindsList, BindsOption}
 use Rattle.query_rules.specs.Meaning.{bind_refusal}
 
@@ -23,9 +23,9 @@ pub record BoundClauses : Type 0 where
   pub only : Option ValueType
   pub condition : Option b.Condition
   pub having : Option b.Condition
-  pub functions : List BoundFunction
+  pub functions : List Aggregate
 
-module _ (db : Database) (scopes : Scopes) (shown : Place) where
+module _ (db : Database) (scopes : Scopes) (shown : ClauseKind) where
   pub record BindsClauses (old new : Blocks) (query : t.Block) (bound : BoundClauses) : Type 0 where
     pub listed : Progress
     pub kept : Progress
@@ -48,6 +48,6 @@ clauses_of c = record {
   functions = map bound_function_of c.functions.items;
 }
 
-abbrev pub ClausesAnswer : Database → Scopes → Place → (old new : Blocks) → t.Block → Result Clauses BindFault → Type 0
+abbrev pub ClausesAnswer : Database → Scopes → ClauseKind → (old new : Blocks) → t.Block → Result Clauses BindFault → Type 0
 ClausesAnswer db scopes shown old new query (Ok x) = BindsClauses db scopes shown old new query (clauses_of x)
 ClausesAnswer db scopes shown old new query (Err f) = IfSome (bind_refusal f) (RefusesClauses db scopes shown (length old) query)

@@ -15,7 +15,7 @@ use Rattle.definitions.specs.Binding.Scopes.{Scopes}
 use Rattle.definitions.specs.Queries.BoundBlock.{Blocks}
 use Rattle.query_tree.specs.Bound.{block_of, bound_function_of, condition_of, member_of, value_of, value_type_of}
 use Rattle.query_tree.specs.declared.block.Block.{Block}
-use Rattle.query_tree.specs.declared.block.BoundFunction.{BoundFunction}
+use Rattle.query_tree.specs.declared.block.Aggregate.{Aggregate}
 use Rattle.query_tree.specs.declared.condition.Condition.{Condition}
 use Rattle.query_tree.specs.declared.value.ValueExpr.{ValueExpr}
 use Rattle.query_tree.specs.declared.leaf.ValueType.{ValueType}
@@ -25,7 +25,7 @@ use Rattle.query_rules.specs.declared.leaf.Typed.{Typed}
 use Rattle.query_rules.specs.Judging as j
 use Rattle.query_rules.specs.Meaning.{bind_refusal, place_of}
 
-abbrev pub progress_of : List Block → List BoundFunction → j.Progress
+abbrev pub progress_of : List Block → List Aggregate → j.Progress
 progress_of blocks functions = record { blocks = map block_of blocks; functions = map bound_function_of functions }
 
 -- what is answered where a value or a condition is bound in a clause, a subquery, or one of one column

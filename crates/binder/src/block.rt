@@ -16,10 +16,10 @@ use crate::items::{ResultColumns, result_columns};
 use catalog::Database;
 use parse_tree::Expr;
 use query_rules::{
-    BindFault, Clause, Place, QueryFault, Scopes, group_columns, is_grouped, judge_limits,
+    BindFault, Clause, ClauseKind, QueryFault, Scopes, group_columns, is_grouped, judge_limits,
     shown_place,
 };
-use query_tree::{Block, BoundFunction, Condition, Item, ValueType};
+use query_tree::{Block, Aggregate, Condition, Item, ValueType};
 use std::alloc::Global;
 
 /// How many blocks a query may have (own).
@@ -100,7 +100,7 @@ struct Clauses {
     only: Option<ValueType>,
     condition: Option<Condition>,
     having: Option<Condition>,
-    functions: Vec<BoundFunction>,
+    functions: Vec<Aggregate>,
 }
 
 /// The clauses of a block, of which result columns and HAVING stand in a clause that is given.
@@ -109,7 +109,7 @@ fn bound_clauses<'d, 'q: 'd>(
     alloc: Global,
     database: &'d Database,
     scopes: &Scopes<'d>,
-    place: Place<'_>,
+    place: ClauseKind<'_>,
     blocks: &mut Vec<Block>,
     query: &'q parse_tree::Block,
 ) -> Result<Clauses, BindFault<'q>>
@@ -125,7 +125,7 @@ fn bound_clauses<'d, 'q: 'd>(
         place,
     };
     let within = Clause {
-        place: Place::Where,
+        place: ClauseKind::Where,
         ..shown
     };
     let mut functions = Vec::new(alloc);
@@ -151,7 +151,7 @@ fn bound_clauses<'d, 'q: 'd>(
 fn optional_condition<'d, 'q: 'd>(
     clause: &Clause<'_, '_, 'd>,
     blocks: &mut Vec<Block>,
-    functions: &mut Vec<BoundFunction>,
+    functions: &mut Vec<Aggregate>,
     expr: &'q Option<Expr>,
 ) -> Result<Option<Condition>, BindFault<'q>>
     requires sight { InSight clause.now.database.now clause.now.scopes.now }

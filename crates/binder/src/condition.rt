@@ -13,8 +13,8 @@ ghost use Rattle.binder.specs.Meaning.{IsLine, IsList, members_in, progress_of, 
 
 use crate::value::value;
 use parse_tree::{Expr, LineOperator, Operand};
-use query_rules::{BindFault, Clause, Place, QueryFault, are_logical, judge_kinds};
-use query_tree::{Block, BoundFunction, Condition, ValueExpr, ValueType};
+use query_rules::{BindFault, Clause, ClauseKind, QueryFault, are_logical, judge_kinds};
+use query_tree::{Block, Aggregate, Condition, ValueExpr, ValueType};
 
 /// How many members an IN list may have (own).
 pub const MAX_MEMBERS: usize = 256;
@@ -24,7 +24,7 @@ pub const MAX_MEMBERS: usize = 256;
 pub(crate) fn condition<'d, 'q: 'd>(
     clause: &Clause<'_, '_, 'd>,
     blocks: &mut Vec<Block>,
-    functions: &mut Vec<BoundFunction>,
+    functions: &mut Vec<Aggregate>,
     expr: &'q Expr,
 ) -> Result<Condition, BindFault<'q>>
     requires sight { InSight clause.now.database.now clause.now.scopes.now }
@@ -162,7 +162,7 @@ pub(crate) fn condition<'d, 'q: 'd>(
 fn logical<'d, 'q: 'd>(
     clause: &Clause<'_, '_, 'd>,
     blocks: &mut Vec<Block>,
-    functions: &mut Vec<BoundFunction>,
+    functions: &mut Vec<Aggregate>,
     line: &'q Expr,
 ) -> Result<Condition, BindFault<'q>>
     requires sight { InSight clause.now.database.now clause.now.scopes.now }
@@ -189,7 +189,7 @@ fn logical<'d, 'q: 'd>(
 fn bound_members<'d, 'q: 'd>(
     clause: &Clause<'_, '_, 'd>,
     blocks: &mut Vec<Block>,
-    functions: &mut Vec<BoundFunction>,
+    functions: &mut Vec<Aggregate>,
     value_type: ValueType,
     list: &'q Expr,
 ) -> Result<Vec<Option<ValueExpr>>, BindFault<'q>>
@@ -224,7 +224,7 @@ pub(crate) fn column_of_query<'d, 'q: 'd>(
 ) -> Result<(usize, ValueType), BindFault<'q>>
     requires sight { InSight clause.now.database.now clause.now.scopes.now }
     requires few { length blocks.old.items ≤ most_blocks }
-    ensures { (functions : List spec.BoundFunction) → ColumnAnswer clause.now (record { blocks = map block_of blocks.old.items; functions = functions }) (record { blocks = map block_of blocks.new.items; functions = functions }) (query_of query.now) result }
+    ensures { (functions : List spec.Aggregate) → ColumnAnswer clause.now (record { blocks = map block_of blocks.old.items; functions = functions }) (record { blocks = map block_of blocks.new.items; functions = functions }) (query_of query.now) result }
 {
     match inner_block(clause, blocks, query)? {
         (block, Some(value_type)) => Ok((block, value_type)),
@@ -241,10 +241,10 @@ fn inner_block<'d, 'q: 'd>(
 ) -> Result<(usize, Option<ValueType>), BindFault<'q>>
     requires sight { InSight clause.now.database.now clause.now.scopes.now }
     requires few { length blocks.old.items ≤ most_blocks }
-    ensures { (functions : List spec.BoundFunction) → QueryAnswer clause.now (record { blocks = map block_of blocks.old.items; functions = functions }) (record { blocks = map block_of blocks.new.items; functions = functions }) (query_of query.now) result }
+    ensures { (functions : List spec.Aggregate) → QueryAnswer clause.now (record { blocks = map block_of blocks.old.items; functions = functions }) (record { blocks = map block_of blocks.new.items; functions = functions }) (query_of query.now) result }
 {
     match clause.place {
-        Place::Where => {
+        ClauseKind::Where => {
             let number = blocks.len();
             let only = crate::block::block(
                 clause.alloc,

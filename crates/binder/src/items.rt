@@ -15,7 +15,7 @@ ghost use Rattle.binder.specs.Meaning.{progress_of};
 use crate::value::value;
 use parse_tree::{Expr, SelectList};
 use query_rules::{BindFault, Clause, Scopes};
-use query_tree::{Block, BoundFunction, Item, ValueExpr, ValueType};
+use query_tree::{Block, Aggregate, Item, ValueExpr, ValueType};
 use std::alloc::{AllocError, Global};
 
 /// The result columns of a block, and the type of the only one if it is alone.
@@ -30,7 +30,7 @@ pub(crate) struct ResultColumns {
 pub(crate) fn result_columns<'d, 'q: 'd>(
     clause: &Clause<'_, '_, 'd>,
     blocks: &mut Vec<Block>,
-    functions: &mut Vec<BoundFunction>,
+    functions: &mut Vec<Aggregate>,
     list: &'q SelectList,
 ) -> Result<ResultColumns, BindFault<'q>>
     requires sight { InSight clause.now.database.now clause.now.scopes.now }

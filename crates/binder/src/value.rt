@@ -5,7 +5,7 @@ ghost use Rattle.definitions.specs.Grammar.{operands};
 ghost use Rattle.definitions.specs.Limits.{most_blocks};
 ghost use Rattle.definitions.specs.Statement.{Function, Line};
 ghost use Rattle.definitions.specs.Binding.Faults.{is_logical};
-ghost use Rattle.definitions.specs.Queries.BoundBlock.{Blocks, SetValue};
+ghost use Rattle.definitions.specs.Queries.BoundBlock.{Blocks, AggregateValue};
 ghost use Rattle.definitions.specs.Refusal as refusal;
 ghost use Rattle.query_tree.specs.Bound.{bound_function_of, value_of, value_type_of};
 ghost use Rattle.parse_tree.specs.Trees.{expr_of, function_of, operand_of};
@@ -17,10 +17,10 @@ ghost use Rattle.query_rules.specs.Meaning.{place_of, query_refusal};
 use crate::condition::column_of_query;
 use parse_tree::{Expr, Operand, SetFunction};
 use query_rules::{
-    BindFault, Clause, Place, QueryFault, Typed, are_logical, column, function_type, joined_scale,
+    BindFault, Clause, ClauseKind, QueryFault, Typed, are_logical, column, function_type, joined_scale,
     number, number_scale, operator, string,
 };
-use query_tree::{Block, BoundFunction, Operand as BoundOperand, ValueExpr, ValueType};
+use query_tree::{Block, Aggregate, Operand as BoundOperand, ValueExpr, ValueType};
 use std::alloc::AllocError;
 
 /// A value (ISO/IEC 9075:1992, 6.11), its blocks and set functions behind those before.
@@ -28,7 +28,7 @@ use std::alloc::AllocError;
 pub(crate) fn value<'d, 'q: 'd>(
     clause: &Clause<'_, '_, 'd>,
     blocks: &mut Vec<Block>,
-    functions: &mut Vec<BoundFunction>,
+    functions: &mut Vec<Aggregate>,
     expr: &'q Expr,
 ) -> Result<Typed, BindFault<'q>>
     requires sight { InSight clause.now.database.now clause.now.scopes.now }
@@ -61,7 +61,7 @@ pub(crate) fn value<'d, 'q: 'd>(
         Expr::CountRows { .. } => {
             judge_function(clause.place, expr)?;
             let value_type = ValueType::Number { scale: 0 };
-            Ok(set_value(functions, BoundFunction::CountRows, value_type)?)
+            Ok(aggregate_value(functions, Aggregate::CountRows, value_type)?)
         }
         Expr::Function {
             function,
@@ -81,7 +81,7 @@ pub(crate) fn value<'d, 'q: 'd>(
 fn chain<'d, 'q: 'd>(
     clause: &Clause<'_, '_, 'd>,
     blocks: &mut Vec<Block>,
-    functions: &mut Vec<BoundFunction>,
+    functions: &mut Vec<Aggregate>,
     line: &'q Expr,
 ) -> Result<Typed, BindFault<'q>>
     requires sight { InSight clause.now.database.now clause.now.scopes.now }
@@ -118,7 +118,7 @@ fn chain<'d, 'q: 'd>(
 #[cycle(binding)]
 fn set_function<'d, 'q: 'd>(
     clause: &Clause<'_, '_, 'd>,
-    functions: &mut Vec<BoundFunction>,
+    functions: &mut Vec<Aggregate>,
     function: SetFunction,
     distinct: bool,
     argument: &'q Expr,
@@ -128,47 +128,47 @@ fn set_function<'d, 'q: 'd>(
     ensures { (bound : Blocks) → length bound ≤ most_blocks → ValueAnswer clause.now (record { blocks = bound; functions = map bound_function_of functions.old.items }) (record { blocks = bound; functions = map bound_function_of functions.new.items }) (Function (function_of function) distinct (expr_of argument.now)) result }
 {
     let inside = Clause {
-        place: Place::Argument,
+        place: ClauseKind::Argument,
         ..*clause
     };
     let mut no_blocks = Vec::new(clause.alloc);
     let mut no_functions = Vec::new(clause.alloc);
     let typed = value(&inside, &mut no_blocks, &mut no_functions, argument)?;
     let value_type = function_type(function, typed.value_type, argument)?;
-    let bound = BoundFunction::OfValues {
+    let bound = Aggregate::OfValues {
         function,
         distinct,
         argument: typed.value,
     };
-    Ok(set_value(functions, bound, value_type)?)
+    Ok(aggregate_value(functions, bound, value_type)?)
 }
 
 /// The value of one more set function.
-fn set_value(
-    functions: &mut Vec<BoundFunction>,
-    function: BoundFunction,
+fn aggregate_value(
+    functions: &mut Vec<Aggregate>,
+    function: Aggregate,
     value_type: ValueType,
 ) -> Result<Typed, AllocError>
-    ensures value { IfOk result (λ t. value_of t.value ≡ SetValue (length functions.old.items) (value_type_of value_type)) }
+    ensures value { IfOk result (λ t. value_of t.value ≡ AggregateValue (length functions.old.items) (value_type_of value_type)) }
     ensures typed { IfOk result (λ t. t.value_type ≡ value_type) }
     ensures functions { OnOk result (functions.new.items ≡ functions.old.items ++ function ∷ []) }
 {
     let number = functions.len();
     functions.push(function)?;
     Ok(Typed {
-        value: ValueExpr::SetValue { number, value_type },
+        value: ValueExpr::AggregateValue { number, value_type },
         value_type,
     })
 }
 
 /// That a set function may stand in a place.
-fn judge_function<'a>(place: Place, expr: &'a Expr) -> Result<(), QueryFault<'a>>
+fn judge_function<'a>(place: ClauseKind, expr: &'a Expr) -> Result<(), QueryFault<'a>>
     ensures ok { OnOk result (IsTrue (takes_functions (place_of place.entry))) }
     ensures misplaced { OnErr result (IsFalse (takes_functions (place_of place.entry))) }
     ensures refused { IfErr result (λ f. query_refusal f ≡ refusal.MisplacedFunction) }
 {
     match place {
-        Place::Shown | Place::Grouped(_) => Ok(()),
-        Place::Where | Place::Argument => Err(QueryFault::MisplacedFunction(expr)),
+        ClauseKind::Shown | ClauseKind::Grouped(_) => Ok(()),
+        ClauseKind::Where | ClauseKind::Argument => Err(QueryFault::MisplacedFunction(expr)),
     }
 }

@@ -4,7 +4,7 @@ use crate::cases::Case;
 use crate::spelling::push_plan;
 use crate::steps::{Kind, Steps};
 use catalog::Database;
-use plan_space::{Measured, Plan, Space, Version};
+use plan_space::{PlanSummary, Plan, Space, Version};
 use std::alloc::{AllocError, Global};
 use tests_support::{PathPart, Step, apply, block, built, space};
 
@@ -141,7 +141,7 @@ impl List<'_> {
     }
 
     /// Adds the cost of a plan, and whether it is in the space.
-    fn push_cost(&mut self, plan: &Plan, measured: Measured) -> Result<(), AllocError> {
+    fn push_cost(&mut self, plan: &Plan, measured: PlanSummary) -> Result<(), AllocError> {
         if !self.space.in_space(plan) {
             return writeln!(self.text, "{}", measured.cost);
         }

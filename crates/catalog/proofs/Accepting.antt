@@ -5,7 +5,7 @@ use Rattle.std.proofs.lemmas.List.{set-get_or, get_or-map, length-map}
 use Rattle.definitions.specs.Limits.{most_index_columns}
 use Rattle.definitions.specs.Value.{SqlType, Texts, Char, kind_of}
 use Rattle.definitions.specs.Refusal.{Refusal, NameTaken, NotFound, OverLimit, MixedKinds}
-use Rattle.definitions.specs.Statement.{Name, Range, Statement, CreateIndex, SetTable, SetIndex}
+use Rattle.definitions.specs.Statement.{Name, Range, Statement, CreateIndex, SetTableStatistics, SetIndexStatistics}
 use Rattle.definitions.specs.Statement.{IndexStatistics as Given}
 use Rattle.definitions.specs.Table.{Table, Database, table_named, column_numbers, index_on}
 use Rattle.definitions.specs.Key.{key_of, value_at, repeats, AreUnique}
@@ -63,7 +63,7 @@ if_index : (db : Database) (unique : Bool) (name : Name) (names : List Name) (o 
 if_index db unique name names None h = tt
 if_index db unique name names (Some r) h = faults.index unique name names r (index.list r h)
 
-if_statistics : (db : Database) (name : Name) (names : List Name) (given : Given) (o : Option Refusal) → IfSome o (ListFaulty db name names) → IfSome o (Faulty db (SetIndex name names given))
+if_statistics : (db : Database) (name : Name) (names : List Name) (given : Given) (o : Option Refusal) → IfSome o (ListFaulty db name names) → IfSome o (Faulty db (SetIndexStatistics name names given))
 if_statistics db name names given None h = tt
 if_statistics db name names given (Some r) h = faults.statistics name names given r (index.list r h)
 
@@ -112,11 +112,11 @@ index_refused db unique name t names i.Memory n h = tt
 
 -- ---- SET STATISTICS
 
-pub table_set_accepted : (db : Database) (name : Name) (rows pages : ℕ) (t : Table) → table_named db name ≡ Some t → IsCount rows → IsPageCount pages → IsAccepted db (SetTable name rows pages)
+pub table_set_accepted : (db : Database) (name : Name) (rows pages : ℕ) (t : Table) → table_named db name ≡ Some t → IsCount rows → IsPageCount pages → IsAccepted db (SetTableStatistics name rows pages)
 table_set_accepted db name rows pages t n r p refusal (faults.no_such_table table rows' pages' h) = let clash : Some t ≡ None = sym n ∙ h in cc
 table_set_accepted db name rows pages t n r p refusal (faults.out_of_range table rows' pages' h) = h (r, p)
 
-pub table_set_refused : (db : Database) (name : Name) (rows pages : ℕ) (fault : TableStatisticsFault) → RefusesTableStatistics rows pages fault → Faulty db (SetTable name rows pages) (table_statistics_refusal fault)
+pub table_set_refused : (db : Database) (name : Name) (rows pages : ℕ) (fault : TableStatisticsFault) → RefusesTableStatistics rows pages fault → Faulty db (SetTableStatistics name rows pages) (table_statistics_refusal fault)
 table_set_refused db name rows pages t.NoTable h = absurd h
 table_set_refused db name rows pages t.Rows h = faults.out_of_range name rows pages (λ k. h k.0)
 table_set_refused db name rows pages t.Pages h = faults.out_of_range name rows pages (λ k. h k.1)
@@ -140,7 +140,7 @@ no_bounds_fault type given kept r refusal k e (index.text texts) = let (low, hel
 one_type : (o : Option SqlType) (a b : SqlType) → o ≡ Some a → o ≡ Some b → a ≡ b
 one_type o a b h l = let same : Some a ≡ Some b = sym h ∙ l in cc
 
-pub index_set_accepted : (db : Database) (name : Name) (t new : Table) (names : List Name) (given : Given) → table_named db name ≡ Some t → SetsIndex t names given new → IsAccepted db (SetIndex name names given)
+pub index_set_accepted : (db : Database) (name : Name) (t new : Table) (names : List Name) (given : Given) → table_named db name ≡ Some t → SetsIndex t names given new → IsAccepted db (SetIndexStatistics name names given)
 index_set_accepted db name t new names given n s refusal (faults.statistics table columns g r (index.list r' h)) = no_list_fault db name t names s.numbers r' n s.found s.some s.short h
 index_set_accepted db name t new names given n s refusal (faults.statistics table columns g r (index.no_index u ms k e o)) =
     let same : t ≡ u = one_table db name t u n k in
@@ -154,7 +154,7 @@ index_set_accepted db name t new names given n s refusal (faults.statistics tabl
     no_bounds_fault s.type given s.kept range r' s.keeps held (rw types h)
 
 range_fault : (db : Database) (name : Name) (t : Table) (names : List Name) (given : Given) (type : SqlType) (r : Range) (fault : StatisticsFault) → table_named db name ≡ Some t → first_type t.columns names ≡ Some type → given.range ≡ Some r
-    → RefusesRange type r fault → IfSome (statistics_refusal fault) (Faulty db (SetIndex name names given))
+    → RefusesRange type r fault → IfSome (statistics_refusal fault) (Faulty db (SetIndexStatistics name names given))
 range_fault db name t names given type r f.Texts n e g h = faults.statistics name names given MixedKinds (index.bounds t type r MixedKinds n e g (index.text h))
 range_fault db name t names given type r (f.Unfit e.Low) n x g h = faults.statistics name names given OverLimit (index.bounds t type r OverLimit n x g (index.low_unfit h.0 h.1))
 range_fault db name t names given type r (f.Unfit e.High) n x g h = faults.statistics name names given OverLimit (index.bounds t type r OverLimit n x g (index.high_unfit h.0 h.1))
@@ -165,7 +165,7 @@ range_fault db name t names given type r f.NoIndex n e g h = absurd h
 range_fault db name t names given type r (f.List x) n e g h = absurd h
 
 given_fault : (db : Database) (name : Name) (t : Table) (names : List Name) (given : Given) (type : SqlType) (fault : StatisticsFault) → table_named db name ≡ Some t → first_type t.columns names ≡ Some type → RefusesGiven type given fault
-    → IfSome (statistics_refusal fault) (Faulty db (SetIndex name names given))
+    → IfSome (statistics_refusal fault) (Faulty db (SetIndexStatistics name names given))
 given_fault db name t names given type f.Keys n e h = faults.statistics name names given OverLimit (index.out_of_range (λ k. h k.0))
 given_fault db name t names given type f.Pages n e h = faults.statistics name names given OverLimit (index.out_of_range (λ k. h k.1))
 given_fault db name t names given type f.Texts n e h = let (r, g, k) = h in range_fault db name t names given type r f.Texts n e g k
@@ -174,7 +174,7 @@ given_fault db name t names given type f.Falls n e h = let (r, g, k) = h in rang
 given_fault db name t names given type f.NoIndex n e h = let (r, g, k) = h in absurd k
 given_fault db name t names given type (f.List x) n e h = let (r, g, k) = h in absurd k
 
-pub index_set_refused : (db : Database) (name : Name) (t : Table) (names : List Name) (given : Given) (fault : StatisticsFault) → table_named db name ≡ Some t → RefusesStatistics t names given fault → IfSome (statistics_refusal fault) (Faulty db (SetIndex name names given))
+pub index_set_refused : (db : Database) (name : Name) (t : Table) (names : List Name) (given : Given) (fault : StatisticsFault) → table_named db name ≡ Some t → RefusesStatistics t names given fault → IfSome (statistics_refusal fault) (Faulty db (SetIndexStatistics name names given))
 index_set_refused db name t names given (f.List fault) n h = if_statistics db name names given (list_refusal fault) (list_fault db name t names fault n h)
 index_set_refused db name t names given f.NoIndex n h = let (ns, found, on) = h in faults.statistics name names given NotFound (index.no_index t ns n found on)
 index_set_refused db name t names given f.Keys n h = let (type, e, k) = h in given_fault db name t names given type f.Keys n e k

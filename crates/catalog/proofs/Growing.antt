@@ -18,7 +18,7 @@ use Rattle.loading.specs.Meaning.{record_refusal}
 use Rattle.loading.specs.Stored.{StoredColumn, AreFilled, Extends, headers, rows_of}
 use Rattle.loading.specs.Pushes.{Pushes, StopsAt}
 use Rattle.loading.specs.declared.pushed.Pushed.{Pushed}
-use Rattle.loading.specs.declared.pushed.Stop.TheVariants as stop
+use Rattle.loading.specs.declared.pushed.StopReason.TheVariants as stop
 use Rattle.loading.specs.declared.fault.RefusedRecord.{RefusedRecord}
 use Rattle.loading.proofs.Rows.{length-rows_of}
 use Rattle.loading.proofs.Loading.{grows, extends_rows}

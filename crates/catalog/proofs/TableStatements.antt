@@ -3,7 +3,7 @@ use Rattle.std.proofs.Common.{◌≡◌, ◌∙◌, refl, sym, ap, ℕ, List, So
 use Rattle.std.specs.Prelude.{IfOk, IfErr, IfSome, OnOk, OnErr}
 use Rattle.std.proofs.lemmas.Result.{on_ok_weaker, IfOk-weaker, IfErr-weaker}
 use Rattle.std.proofs.lemmas.List.{set-get_or}
-use Rattle.definitions.specs.Statement.{Name, CreateIndex, SetTable, SetIndex}
+use Rattle.definitions.specs.Statement.{Name, CreateIndex, SetTableStatistics, SetIndexStatistics}
 use Rattle.definitions.specs.Statement.{IndexStatistics as Given}
 use Rattle.definitions.specs.Table.{Table, Database, table_named}
 use Rattle.definitions.specs.Change as made
@@ -44,17 +44,17 @@ left (Err x) P db name k t new a s f p e = rw (as_it_was db name k t new a e) s
 
 -- ---- SET STATISTICS of a table
 
-pub table_accepted : (r : Result (Unit {0}) TableStatisticsFault) (db : Database) (name : Name) (k rows pages : ℕ) (t : Table) → IsAt db name k t → OnOk r (IsCount rows × IsPageCount pages) → OnOk r (IsAccepted db (SetTable name rows pages))
+pub table_accepted : (r : Result (Unit {0}) TableStatisticsFault) (db : Database) (name : Name) (k rows pages : ℕ) (t : Table) → IsAt db name k t → OnOk r (IsCount rows × IsPageCount pages) → OnOk r (IsAccepted db (SetTableStatistics name rows pages))
 table_accepted r db name k rows pages t a h = on_ok_weaker r (λ p. table_set_accepted db name rows pages t (named db name k t a) p.0 p.1) h
 
-table_made_one : (db : Database) (name : Name) (k rows pages : ℕ) (t new : Table) → IsAt db name k t → new ≡ with_table_statistics t (record { rows = rows; pages = pages }) → Makes db (SetTable name rows pages) (set db k new)
+table_made_one : (db : Database) (name : Name) (k rows pages : ℕ) (t new : Table) → IsAt db name k t → new ≡ with_table_statistics t (record { rows = rows; pages = pages }) → Makes db (SetTableStatistics name rows pages) (set db k new)
 table_made_one db name k rows pages t new a e = made.table_set name rows pages refl (changed_at db name k t new (λ u. with_table_statistics u (record { rows = rows; pages = pages })) a e)
 
 pub table_made : (r : Result (Unit {0}) TableStatisticsFault) (db : Database) (name : Name) (k rows pages : ℕ) (t new : Table) → IsAt db name k t → OnOk r (new ≡ with_table_statistics t (record { rows = rows; pages = pages }))
-    → OnOk r (Makes db (SetTable name rows pages) (set db k new))
+    → OnOk r (Makes db (SetTableStatistics name rows pages) (set db k new))
 table_made r db name k rows pages t new a h = on_ok_weaker r (λ e. table_made_one db name k rows pages t new a e) h
 
-pub table_refused : (r : Result (Unit {0}) TableStatisticsFault) (db : Database) (name : Name) (rows pages : ℕ) → IfErr r (RefusesTableStatistics rows pages) → IfErr r (λ fault. Faulty db (SetTable name rows pages) (table_statistics_refusal fault))
+pub table_refused : (r : Result (Unit {0}) TableStatisticsFault) (db : Database) (name : Name) (rows pages : ℕ) → IfErr r (RefusesTableStatistics rows pages) → IfErr r (λ fault. Faulty db (SetTableStatistics name rows pages) (table_statistics_refusal fault))
 table_refused r db name rows pages h = IfErr-weaker r (RefusesTableStatistics rows pages) _ (λ fault k. table_set_refused db name rows pages fault k) h
 
 both_ok : {E : Type 0} (A B : Type 0) (r : Result (Unit {0}) E) → OnOk r A → OnOk r B → OnOk r (A × B)
@@ -65,7 +65,7 @@ pub table_left : (r : Result (Unit {0}) TableStatisticsFault) (db : Database) (n
     → OnOk r (new ≡ with_table_statistics t (record { rows = rows; pages = pages })) → OnErr r (new ≡ t) → IsDatabase (set db k new)
 table_left r db name k rows pages t new a s g h e =
     left r ((IsCount rows × IsPageCount pages) × (new ≡ with_table_statistics t (record { rows = rows; pages = pages }))) db name k t new a s
-    (λ p. made_database db (set db k new) (SetTable name rows pages) s (table_set_accepted db name rows pages t (named db name k t a) p.0.0 p.0.1) (table_made_one db name k rows pages t new a p.1))
+    (λ p. made_database db (set db k new) (SetTableStatistics name rows pages) s (table_set_accepted db name rows pages t (named db name k t a) p.0.0 p.0.1) (table_made_one db name k rows pages t new a p.1))
     (both_ok _ _ r g h) e
 
 -- ---- CREATE INDEX
@@ -90,23 +90,23 @@ index_left r db name k unique names t new a s h e =
 
 -- ---- SET STATISTICS of an index
 
-pub statistics_ok : (r : Result (Unit {0}) StatisticsFault) (db : Database) (name : Name) (k : ℕ) (names : List Name) (given : Given) (t new : Table) → IsAt db name k t → OnOk r (SetsIndex t names given new) → OnOk r (IsAccepted db (SetIndex name names given))
+pub statistics_ok : (r : Result (Unit {0}) StatisticsFault) (db : Database) (name : Name) (k : ℕ) (names : List Name) (given : Given) (t new : Table) → IsAt db name k t → OnOk r (SetsIndex t names given new) → OnOk r (IsAccepted db (SetIndexStatistics name names given))
 statistics_ok r db name k names given t new a h = on_ok_weaker r (λ (x : SetsIndex t names given new). index_set_accepted db name t new names given (named db name k t a) x) h
 
-statistics_made_one : (db : Database) (name : Name) (k : ℕ) (names : List Name) (given : Given) (t new : Table) → IsAt db name k t → SetsIndex t names given new → Makes db (SetIndex name names given) (set db k new)
+statistics_made_one : (db : Database) (name : Name) (k : ℕ) (names : List Name) (given : Given) (t new : Table) → IsAt db name k t → SetsIndex t names given new → Makes db (SetIndexStatistics name names given) (set db k new)
 statistics_made_one db name k names given t new a x =
     made.index_set name names given t x.numbers x.type x.kept refl (named db name k t a) x.found x.first x.keeps (changed_at db name k t new (λ u. with_index_statistics u x.numbers x.kept) a x.is)
 
-pub statistics_made : (r : Result (Unit {0}) StatisticsFault) (db : Database) (name : Name) (k : ℕ) (names : List Name) (given : Given) (t new : Table) → IsAt db name k t → OnOk r (SetsIndex t names given new) → OnOk r (Makes db (SetIndex name names given) (set db k new))
+pub statistics_made : (r : Result (Unit {0}) StatisticsFault) (db : Database) (name : Name) (k : ℕ) (names : List Name) (given : Given) (t new : Table) → IsAt db name k t → OnOk r (SetsIndex t names given new) → OnOk r (Makes db (SetIndexStatistics name names given) (set db k new))
 statistics_made r db name k names given t new a h = on_ok_weaker r (λ (x : SetsIndex t names given new). statistics_made_one db name k names given t new a x) h
 
-pub statistics_refused : (r : Result (Unit {0}) StatisticsFault) (db : Database) (name : Name) (k : ℕ) (names : List Name) (given : Given) (t : Table) → IsAt db name k t → IfErr r (RefusesStatistics t names given) → IfErr r (λ fault. IfSome (statistics_refusal fault) (Faulty db (SetIndex name names given)))
+pub statistics_refused : (r : Result (Unit {0}) StatisticsFault) (db : Database) (name : Name) (k : ℕ) (names : List Name) (given : Given) (t : Table) → IsAt db name k t → IfErr r (RefusesStatistics t names given) → IfErr r (λ fault. IfSome (statistics_refusal fault) (Faulty db (SetIndexStatistics name names given)))
 statistics_refused r db name k names given t a h = IfErr-weaker r (RefusesStatistics t names given) _ (λ fault x. index_set_refused db name t names given fault (named db name k t a) x) h
 
 pub statistics_left : (r : Result (Unit {0}) StatisticsFault) (db : Database) (name : Name) (k : ℕ) (names : List Name) (given : Given) (t new : Table) → IsAt db name k t → IsDatabase db → OnOk r (SetsIndex t names given new) → OnErr r (new ≡ t) → IsDatabase (set db k new)
 statistics_left r db name k names given t new a s h e =
     left r (SetsIndex t names given new) db name k t new a s
-    (λ (x : SetsIndex t names given new). made_database db (set db k new) (SetIndex name names given) s (index_set_accepted db name t new names given (named db name k t a) x) (statistics_made_one db name k names given t new a x)) h e
+    (λ (x : SetsIndex t names given new). made_database db (set db k new) (SetIndexStatistics name names given) s (index_set_accepted db name t new names given (named db name k t a) x) (statistics_made_one db name k names given t new a x)) h e
 
 -- ---- LOAD
 

@@ -3,7 +3,7 @@
 ghost use Rattle.std.specs.Prelude.{◌≡◌, ◌<◌, [], Some, IfSome, IfOk, IfErr, OnOk, OnErr, map, length, bytes_eq};
 ghost use Rattle.std.specs.Option.{option_copied};
 ghost use Rattle.std.specs.List.{position_from};
-ghost use Rattle.definitions.specs.Statement.{CreateTable, CreateIndex, SetTable, SetIndex};
+ghost use Rattle.definitions.specs.Statement.{CreateTable, CreateIndex, SetTableStatistics, SetIndexStatistics};
 ghost use Rattle.definitions.specs.Table.{table_named};
 ghost use Rattle.definitions.specs.Invariant as invariant;
 ghost use Rattle.definitions.specs.Change.{Makes};
@@ -118,15 +118,15 @@ impl Database {
 
     /// SET STATISTICS of a table (own), which holds until the next LOAD into it. An `Err` leaves the database as it
     /// was.
-    pub fn set_table(
+    pub fn set_table_statistics(
         &mut self,
         table: &str,
         rows: u128,
         pages: u128,
     ) -> Result<(), TableStatisticsFault>
-        ensures accepted { OnOk result (IsAccepted self.old (SetTable table.now rows pages)) }
-        ensures made { OnOk result (Makes self.old (SetTable table.now rows pages) self.new) }
-        ensures refused { IfErr result (λ fault. Faulty self.old (SetTable table.now rows pages) (table_statistics_refusal fault)) }
+        ensures accepted { OnOk result (IsAccepted self.old (SetTableStatistics table.now rows pages)) }
+        ensures made { OnOk result (Makes self.old (SetTableStatistics table.now rows pages) self.new) }
+        ensures refused { IfErr result (λ fault. Faulty self.old (SetTableStatistics table.now rows pages) (table_statistics_refusal fault)) }
         ensures err { OnErr result (self.new ≡ self.old) }
     {
         match self.place(table) {
@@ -137,15 +137,15 @@ impl Database {
 
     /// SET STATISTICS of the index on a list of columns (own), which holds until the next LOAD into its table. Of
     /// several faults any one may be told, and an `Err` leaves the database as it was.
-    pub fn set_index(
+    pub fn set_index_statistics(
         &mut self,
         table: &str,
         columns: &[Name],
         statistics: &parse_tree::IndexStatistics,
     ) -> Result<(), StatisticsFault>
-        ensures accepted { OnOk result (IsAccepted self.old (SetIndex table.now (map name_of columns.now) (statistics_of statistics.now))) }
-        ensures made { OnOk result (Makes self.old (SetIndex table.now (map name_of columns.now) (statistics_of statistics.now)) self.new) }
-        ensures refused { IfErr result (λ fault. IfSome (statistics_refusal fault) (Faulty self.old (SetIndex table.now (map name_of columns.now) (statistics_of statistics.now)))) }
+        ensures accepted { OnOk result (IsAccepted self.old (SetIndexStatistics table.now (map name_of columns.now) (statistics_of statistics.now))) }
+        ensures made { OnOk result (Makes self.old (SetIndexStatistics table.now (map name_of columns.now) (statistics_of statistics.now)) self.new) }
+        ensures refused { IfErr result (λ fault. IfSome (statistics_refusal fault) (Faulty self.old (SetIndexStatistics table.now (map name_of columns.now) (statistics_of statistics.now)))) }
         ensures err { OnErr result (self.new ≡ self.old) }
     {
         let alloc = self.alloc;

@@ -11,7 +11,7 @@ ghost use Rattle.catalog.specs.Loads.{RefusesTable};
 use crate::fault::{EarlierRow, LoadFault, RepeatedRecord};
 use crate::table::MAX_ROWS;
 use indexes::{ExtendFault, Index, RepeatedRow, extended};
-use loading::{Column, Pushed, RecordStart, Stop, push_records, record_start};
+use loading::{Column, Pushed, RecordStart, StopReason, push_records, record_start};
 use std::alloc::Global;
 
 /// What LOAD makes of a table: how many rows came, and its indexes with them.
@@ -54,8 +54,8 @@ pub(crate) fn grow(
             rows,
             indexes: made,
         }),
-        Some(Stop::Record(refused)) => Err(LoadFault::Record(refused)),
-        Some(Stop::Full) => Err(LoadFault::ManyRows),
+        Some(StopReason::Record(refused)) => Err(LoadFault::Record(refused)),
+        Some(StopReason::Full) => Err(LoadFault::ManyRows),
     }
 }
 

@@ -20,7 +20,7 @@ use crate::naming::{number_of, numbers, second_twin};
 use indexes::{Index, TableStatistics, UniqueFault, row_width};
 use loading::{Column, cut_columns};
 use parse_tree::{ColumnDefinition, Constraint, Name};
-use sqlvalue::{Op, SqlType, Value};
+use sqlvalue::{ComparisonOperator, SqlType, Value};
 use std::alloc::Global;
 use std::marker::Model;
 
@@ -176,7 +176,7 @@ impl Table {
     pub fn scan(
         &self,
         column: usize,
-        op: Op,
+        op: ComparisonOperator,
         value: &Value,
         first: usize,
         rows: usize,

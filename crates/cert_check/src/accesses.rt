@@ -10,12 +10,12 @@ ghost use Rattle.plan_tree.specs.Certificates.{certificate_of};
 ghost use Rattle.cert_check.specs.Checks.{AccessesHoldOf};
 ghost use Rattle.plan_space.specs.Planned.{space_in};
 
-use crate::verdict::Place;
+use crate::verdict::StateKey;
 use plan_space::Space;
 use plan_tree::{Certificate, TableSet};
 
 /// The first state at which an access costs less than its bound.
-pub(crate) fn access_failing(space: &Space<'_>, certificate: &Certificate) -> Option<Place>
+pub(crate) fn access_failing(space: &Space<'_>, certificate: &Certificate) -> Option<StateKey>
     requires { IsCertificate (space_in space.now) (certificate_of certificate.now) }
     ensures { MatchOption result (AccessesHold (space_in space.now) (certificate_of certificate.now))
         (λ p. AccessFails (space_in space.now) (certificate_of certificate.now) (set_of p.tables) p.order) }
@@ -29,7 +29,7 @@ pub(crate) fn access_failing(space: &Space<'_>, certificate: &Certificate) -> Op
 }
 
 /// The first state of one table at which an access costs less than its bound.
-fn access_failing_at(space: &Space<'_>, certificate: &Certificate, table: usize) -> Option<Place>
+fn access_failing_at(space: &Space<'_>, certificate: &Certificate, table: usize) -> Option<StateKey>
     requires form { IsCertificate (space_in space.now) (certificate_of certificate.now) }
     requires few { (space_in space.now).table_count ≤ most_from_tables }
     requires table { table < (space_in space.now).table_count }
@@ -40,7 +40,7 @@ fn access_failing_at(space: &Space<'_>, certificate: &Certificate, table: usize)
     'paths: for item in space.paths(TableSet::none(), table) {
         let order = space.fold(tables, item.order);
         if item.cost < certificate.bound(tables, order) {
-            return Some(Place { tables, order });
+            return Some(StateKey { tables, order });
         }
     }
     None

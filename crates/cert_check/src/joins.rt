@@ -12,13 +12,13 @@ ghost use Rattle.interesting_orders.specs.Merges.{GoesBy};
 ghost use Rattle.cert_check.specs.Checks.{JoinFails, JoinFailsBy, LoopLeadsBelow, MergeLeadsBelow};
 ghost use Rattle.plan_space.specs.Planned.{space_in};
 
-use crate::verdict::Place;
+use crate::verdict::StateKey;
 use estimate::saturated;
-use plan_space::{MergeItem, Space};
+use plan_space::{CostedMerge, Space};
 use plan_tree::{Certificate, State};
 
 /// The first listed state from which a join leads below the bound of the state that it reaches.
-pub(crate) fn join_failing(space: &Space<'_>, certificate: &Certificate) -> Option<Place>
+pub(crate) fn join_failing(space: &Space<'_>, certificate: &Certificate) -> Option<StateKey>
     requires { IsCertificate (space_in space.now) (certificate_of certificate.now) }
     ensures { MatchOption result (JoinsHold (space_in space.now) (certificate_of certificate.now))
         (λ p. IsListed (certificate_of certificate.now) (set_of p.tables) p.order
@@ -26,7 +26,7 @@ pub(crate) fn join_failing(space: &Space<'_>, certificate: &Certificate) -> Opti
 {
     'states: for state in &certificate.states {
         if join_fails_at(space, certificate, *state) {
-            return Some(Place {
+            return Some(StateKey {
                 tables: state.tables,
                 order: state.order,
             });
@@ -61,7 +61,7 @@ fn join_fails_by(space: &Space<'_>, certificate: &Certificate, state: State, tab
     requires small { state.cost ≤ limit }
     ensures { Decides result (JoinFailsBy (space_in space.now) (certificate_of certificate.now) (set_of state.tables) state.order table) }
 {
-    if !space.may_follow(state.tables, table) {
+    if !space.can_join_next(state.tables, table) {
         return false;
     }
     let next = state.tables.with(table);
@@ -107,7 +107,7 @@ fn merge_is_below(
     space: &Space<'_>,
     state: State,
     table: usize,
-    item: MergeItem<'_>,
+    item: CostedMerge<'_>,
     reach: u64,
 ) -> bool
     requires set { set_of state.tables < 2 ^ (space_in space.now).table_count }

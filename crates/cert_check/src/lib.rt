@@ -9,4 +9,4 @@ mod target;
 mod verdict;
 
 pub use rules::{check, check_outside};
-pub use verdict::{Place, Rule, Verdict};
+pub use verdict::{StateKey, Rule, Verdict};

@@ -15,7 +15,7 @@ use crate::accesses::access_failing;
 use crate::joins::join_failing;
 use crate::sorts::sort_failing;
 use crate::target::{final_order, is_met};
-use crate::verdict::{Place, Rule, Verdict};
+use crate::verdict::{StateKey, Rule, Verdict};
 use plan_space::Space;
 use plan_tree::{Certificate, Plan, TableSet};
 
@@ -62,14 +62,14 @@ fn check_rules(space: &Space<'_>, certificate: &Certificate, met: bool) -> Verdi
     }
     let tables = TableSet::first(space.table_count());
     if let Some(order) = final_order(space, certificate, tables) {
-        let place = Place { tables, order };
+        let place = StateKey { tables, order };
         return Verdict::Refused {
             rule: Rule::Target,
             place,
         };
     }
     if !met {
-        let place = Place { tables, order: 0 };
+        let place = StateKey { tables, order: 0 };
         return Verdict::Refused {
             rule: Rule::Target,
             place,

@@ -9,13 +9,13 @@ ghost use Rattle.plan_tree.specs.Sets.{set_of};
 ghost use Rattle.plan_tree.specs.Certificates.{certificate_of};
 ghost use Rattle.plan_space.specs.Planned.{space_in};
 
-use crate::verdict::Place;
+use crate::verdict::StateKey;
 use estimate::saturated;
 use plan_space::Space;
 use plan_tree::{Certificate, State};
 
 /// The first listed state from which a sort leads below the bound of the state that it reaches.
-pub(crate) fn sort_failing(space: &Space<'_>, certificate: &Certificate) -> Option<Place>
+pub(crate) fn sort_failing(space: &Space<'_>, certificate: &Certificate) -> Option<StateKey>
     requires { IsCertificate (space_in space.now) (certificate_of certificate.now) }
     ensures { MatchOption result (SortsHold (space_in space.now) (certificate_of certificate.now))
         (λ p. IsListed (certificate_of certificate.now) (set_of p.tables) p.order
@@ -23,7 +23,7 @@ pub(crate) fn sort_failing(space: &Space<'_>, certificate: &Certificate) -> Opti
 {
     'states: for state in &certificate.states {
         if sort_fails_at(space, certificate, *state) {
-            return Some(Place {
+            return Some(StateKey {
                 tables: state.tables,
                 order: state.order,
             });

@@ -17,7 +17,7 @@ pub enum Rule {
 
 /// A state at which a rule fails.
 #[derive(Clone, Copy, Debug, PartialEq, Eq)]
-pub struct Place {
+pub struct StateKey {
     pub tables: TableSet,
     pub order: usize,
 }
@@ -26,5 +26,5 @@ pub struct Place {
 #[derive(Clone, Copy, Debug, PartialEq, Eq)]
 pub enum Verdict {
     Pass,
-    Refused { rule: Rule, place: Place },
+    Refused { rule: Rule, place: StateKey },
 }

@@ -18,7 +18,7 @@ ghost use Rattle.plan_space.specs.Planned.{space_in};
 ghost use Rattle.certificate_files.specs.Telling.{StandsFor, IsToldBy, IsOfText, told_of};
 
 use catalog::Database;
-use cert_check::{Place, Rule, Verdict, check, check_outside};
+use cert_check::{StateKey, Rule, Verdict, check, check_outside};
 use certificate::{BlockSpace, Spelled, TextFault, read_text};
 use interesting_orders::Version;
 use plan_space::Space;
@@ -31,7 +31,7 @@ pub enum Told {
     /// It spells a plan and a certificate that shows that the plan is least.
     Passes,
     /// It spells them, and this rule is the first that fails, at this state.
-    Fails { rule: Rule, place: Place },
+    Fails { rule: Rule, place: StateKey },
     /// It spells none. The fault is never want of memory.
     Faulty(TextFault),
 }

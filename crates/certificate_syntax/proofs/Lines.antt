@@ -16,8 +16,8 @@ use Rattle.definitions.proofs.CertificateTheory.Reading.{and_left, and_right}
 use Rattle.certificate_syntax.specs.declared.fault.Expected.{Expected}
 use Rattle.certificate_syntax.specs.declared.fault.FormFault.{FormFault}
 use Rattle.certificate_syntax.specs.declared.fault.FormFault.TheVariants as fault
-use Rattle.certificate_syntax.specs.declared.stop.Stop.{Stop}
-use Rattle.certificate_syntax.specs.declared.stop.Stop.TheVariants as stop
+use Rattle.certificate_syntax.specs.declared.stop.TextStop.{TextStop}
+use Rattle.certificate_syntax.specs.declared.stop.TextStop.TheVariants as stop
 use Rattle.certificate_syntax.specs.declared.written.Written as w
 use Rattle.certificate_syntax.specs.Reading.{Refuses, Only, WordIn, NumberBefore, NumberBetween, Many, AllIn, PlanIn, StateIn, BlockIn, PlanLineIn, TextIn, SaysNothing, IsFaultOf, SaysAll}
 use Rattle.certificate_syntax.proofs.Sequences.{Then, Tells}
@@ -177,19 +177,19 @@ says_text : (version : Version) (bytes : List ℕ) (said : Written) → Says ver
 says_text version bytes said h = (h.0, h.1 ∙ sym (append-nil (text_of version said)))
 
 pub more_behind : (version : Version) (bytes : List ℕ) (own : Written) (rest : List ℕ) → Only (TextIn version bytes) own rest → (length rest == 0) ≡ false
-    → (e : Stop) (left : ℕ) (expected : Expected) → e ≡ stop.Form left expected → SaysAll version bytes (Err e)
-more_behind version bytes own rest only some e left expected is = subst (λ (f : Stop). SaysAll version bytes (Err f)) (sym is) none
+    → (e : TextStop) (left : ℕ) (expected : Expected) → e ≡ stop.Form left expected → SaysAll version bytes (Err e)
+more_behind version bytes own rest only some e left expected is = subst (λ (f : TextStop). SaysAll version bytes (Err f)) (sym is) none
   where
     none : (said : Written) → Says version bytes said → ⊥
     none said h = false≢true (sym some ∙ ap (λ (l : List ℕ). length l == 0) (sym (only.1 said [] (says_text version bytes said h)).1))
 
-pub none_said : (version : Version) (bytes : List ℕ) (r : Result w.Written Stop) (e : Stop) → IsErrAnd r (λ f. f ≡ e) → Refuses (TextIn version bytes) e → SaysAll version bytes r
+pub none_said : (version : Version) (bytes : List ℕ) (r : Result w.Written TextStop) (e : TextStop) → IsErrAnd r (λ f. f ≡ e) → Refuses (TextIn version bytes) e → SaysAll version bytes r
 none_said version bytes (Ok written) e is none = absurd is
 none_said version bytes (Err (stop.Form left expected)) (stop.Form l x) is none = λ said h. none said [] (says_text version bytes said h)
 none_said version bytes (Err (stop.Form left expected)) stop.Memory is none = absurd (cc is)
 none_said version bytes (Err stop.Memory) e is none = tt
 
-pub fault_says : (version : Version) (bytes : List ℕ) (f : FormFault) (e : Stop) → IsFaultOf f e → SaysAll version bytes (Err e) → SaysNothing version bytes f
+pub fault_says : (version : Version) (bytes : List ℕ) (f : FormFault) (e : TextStop) → IsFaultOf f e → SaysAll version bytes (Err e) → SaysNothing version bytes f
 fault_says version bytes (fault.Form at expected) (stop.Form left sought) of none = none
 fault_says version bytes fault.Memory stop.Memory of none = tt
 fault_says version bytes (fault.Form at expected) stop.Memory of none = absurd of

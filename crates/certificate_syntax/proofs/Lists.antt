@@ -1,7 +1,7 @@
 -- Things of one kind, one behind the other.
 use Rattle.std.proofs.Common.{◌≡◌, ◌≢◌, ◌∙◌, refl, sym, ap, subst, ℕ, List, [], ◌∷◌, ◌++◌, get_or, append-nil, append_assoc}
-use Rattle.certificate_syntax.specs.declared.stop.Stop.{Stop}
-use Rattle.certificate_syntax.specs.declared.stop.Stop.TheVariants as stop
+use Rattle.certificate_syntax.specs.declared.stop.TextStop.{TextStop}
+use Rattle.certificate_syntax.specs.declared.stop.TextStop.TheVariants as stop
 use Rattle.certificate_syntax.specs.Reading.{Refuses, Only, Many, AllIn}
 
 many_more : {X : Type 0} (One : List ℕ → X → List ℕ → Type 0) (text : List ℕ) (xs : List X) (rest : List ℕ) (x : X) (mid : List ℕ)
@@ -36,7 +36,7 @@ module _ {X : Type 0} (One : List ℕ → X → List ℕ → Type 0) (byte : ℕ
         of_cases ys other [] k e = (e ∙ append-nil xs, sym k.0)
         of_cases ys other (y ∷ more) k e = absurd (over (starts rest y k.0.0 k.0.1))
 
-  pub refused : (text : List ℕ) (xs : List X) (rest : List ℕ) → HasRead text xs rest → get_or rest 0 0 ≡ byte → (e : Stop) → Refuses (One rest) e → Refuses (AllIn One byte text) e
+  pub refused : (text : List ℕ) (xs : List X) (rest : List ℕ) → HasRead text xs rest → get_or rest 0 0 ≡ byte → (e : TextStop) → Refuses (One rest) e → Refuses (AllIn One byte text) e
   refused text xs rest read here (stop.Form left expected) none = λ ys other h. let k = read.1 ys other h in of_cases other k.0 k.1
     where
       of_cases : (other : List ℕ) (more : List X) → AllIn One byte rest more other → ⊥

@@ -9,8 +9,8 @@ use Rattle.definitions.specs.Estimates.Version.{Version, One, Two, Three}
 use Rattle.definitions.specs.Certificates.Text.{conjuncts_text, direction_text}
 use Rattle.definitions.specs.Certificates.Form.{is_number, is_direction, is_match}
 use Rattle.definitions.proofs.CertificateTheory.Reading.{and_left, and_right, match_numbers}
-use Rattle.certificate_syntax.specs.declared.stop.Stop.{Stop}
-use Rattle.certificate_syntax.specs.declared.stop.Stop.TheVariants as stop
+use Rattle.certificate_syntax.specs.declared.stop.TextStop.{TextStop}
+use Rattle.certificate_syntax.specs.declared.stop.TextStop.TheVariants as stop
 use Rattle.certificate_syntax.specs.Reading.{Refuses, Only, IsBehindDigits, WordIn, NumberIn, NumberBetween, DirectionIn, Many, AllIn, SlashedIn, MatchIn, PathIn}
 use Rattle.certificate_syntax.proofs.Sequences.{Then, Tells}
 
@@ -97,7 +97,7 @@ module _ (version : Version) (text : List ℕ) (behind : IsBehindDigits text) wh
       let e = only.1 ys other (slashed ys other h) in
       false≢true (sym is ∙ ap (is_match version) (sym e.0) ∙ h.0)
 
-  pub match_refused : (e : Stop) → Refuses (AllIn SlashedIn 47 text) e → Refuses (MatchIn version text) e
+  pub match_refused : (e : TextStop) → Refuses (AllIn SlashedIn 47 text) e → Refuses (MatchIn version text) e
   match_refused (stop.Form left expected) none = λ ys other h. none ys other (slashed ys other h)
   match_refused stop.Memory none = tt
 

@@ -17,13 +17,13 @@ use Rattle.certificate_syntax.specs.declared.plan.Around.{Around}
 use Rattle.certificate_syntax.specs.declared.plan.Around.TheVariants as around
 use Rattle.certificate_syntax.specs.declared.written.Written as w
 use Rattle.certificate_syntax.specs.Said.{said_of}
-use Rattle.certificate_syntax.specs.declared.stop.Stop.{Stop}
-use Rattle.certificate_syntax.specs.declared.stop.Stop.TheVariants as stop
+use Rattle.certificate_syntax.specs.declared.stop.TextStop.{TextStop}
+use Rattle.certificate_syntax.specs.declared.stop.TextStop.TheVariants as stop
 
 -- ---- what a step of reading gives
 
 -- nothing of it stands there, or there is no memory
-abbrev pub Refuses : {X : Type 0} → (X → List ℕ → Type 0) → Stop → Type 0
+abbrev pub Refuses : {X : Type 0} → (X → List ℕ → Type 0) → TextStop → Type 0
 Refuses {X} R (stop.Form left expected) = (x : X) (rest : List ℕ) → R x rest → ⊥
 Refuses R stop.Memory = Unit {0}
 
@@ -31,7 +31,7 @@ Refuses R stop.Memory = Unit {0}
 abbrev pub Only : {X : Type 0} → (X → List ℕ → Type 0) → X → List ℕ → Type 0
 Only {X} R x rest = R x rest × ((y : X) (other : List ℕ) → R y other → (y ≡ x) × (other ≡ rest))
 
-abbrev pub Reads : {X Y : Type 0} → (Y → X) → (X → List ℕ → Type 0) → Result (Y × Bor (List ℕ)) Stop → Type 0
+abbrev pub Reads : {X Y : Type 0} → (Y → X) → (X → List ℕ → Type 0) → Result (Y × Bor (List ℕ)) TextStop → Type 0
 Reads view R (Ok read) = Only R (view read.0) read.1.now
 Reads view R (Err stop) = Refuses R stop
 
@@ -40,7 +40,7 @@ Reads view R (Err stop) = Refuses R stop
 abbrev pub WordIn : List ℕ → List ℕ → Unit {0} → List ℕ → Type 0
 WordIn word text u rest = text ≡ word ++ rest
 
-abbrev pub ReadsWord : List ℕ → List ℕ → Result (Bor (List ℕ)) Stop → Type 0
+abbrev pub ReadsWord : List ℕ → List ℕ → Result (Bor (List ℕ)) TextStop → Type 0
 ReadsWord word text (Ok rest) = Only (WordIn word text) tt rest.now
 ReadsWord word text (Err stop) = Refuses (WordIn word text) stop
 
@@ -136,12 +136,12 @@ SaysNothing version bytes (fault.Form at expected) = (said : Written) → Says v
 SaysNothing version bytes fault.Memory = Unit {0}
 
 -- of a form where the stop is
-abbrev pub IsFaultOf : FormFault → Stop → Type 0
+abbrev pub IsFaultOf : FormFault → TextStop → Type 0
 IsFaultOf (fault.Form at expected) (stop.Form left sought) = Unit {0}
 IsFaultOf fault.Memory stop.Memory = Unit {0}
 IsFaultOf _ _ = ⊥
 
-abbrev pub SaysAll : Version → List ℕ → Result w.Written Stop → Type 0
+abbrev pub SaysAll : Version → List ℕ → Result w.Written TextStop → Type 0
 SaysAll version bytes (Ok written) = Says version bytes (said_of written)
 SaysAll version bytes (Err (stop.Form left expected)) = (said : Written) → Says version bytes said → ⊥
 SaysAll version bytes (Err stop.Memory) = Unit {0}

@@ -10,7 +10,7 @@ ghost use Rattle.certificate_syntax.specs.Words.{word_text};
 ghost use Rattle.certificate_syntax.specs.Reading.{Reads, IsSplit, NumberIn, NumberBefore, NumberBetween};
 
 use crate::fault::Expected;
-use crate::stop::{Stop, stop_before};
+use crate::stop::{TextStop, stop_before};
 use crate::words::{Word, pass};
 
 /// No number is above it.
@@ -72,7 +72,7 @@ fn has_leading_zero(digits: &[u8]) -> bool
 }
 
 /// A number, up to a byte that is no digit.
-pub(crate) fn number(text: &[u8]) -> Result<(u64, &[u8]), Stop>
+pub(crate) fn number(text: &[u8]) -> Result<(u64, &[u8]), TextStop>
     ensures { Reads (λ n. n) (NumberIn text.now) result }
 {
     let (digits, rest) = split_digits(text);
@@ -89,7 +89,7 @@ pub(crate) fn number(text: &[u8]) -> Result<(u64, &[u8]), Stop>
 }
 
 /// A number and a word behind it.
-pub(crate) fn number_before(text: &[u8], behind: Word) -> Result<(u64, &[u8]), Stop>
+pub(crate) fn number_before(text: &[u8], behind: Word) -> Result<(u64, &[u8]), TextStop>
     ensures { Reads (λ n. n) (NumberBefore (word_text behind) text.now) result }
 {
     let (value, text) = number(text)?;
@@ -98,7 +98,7 @@ pub(crate) fn number_before(text: &[u8], behind: Word) -> Result<(u64, &[u8]), S
 }
 
 /// A number between two words.
-pub(crate) fn number_between(text: &[u8], before: Word, behind: Word) -> Result<(u64, &[u8]), Stop>
+pub(crate) fn number_between(text: &[u8], before: Word, behind: Word) -> Result<(u64, &[u8]), TextStop>
     ensures { Reads (λ n. n) (NumberBetween (word_text before) (word_text behind) text.now) result }
 {
     let text = pass(text, before)?;

@@ -9,7 +9,7 @@ ghost use Rattle.certificate_syntax.specs.Reading.{Reads, IsBehindDigits, Direct
 
 use crate::fault::Expected;
 use crate::number::{first_byte, number, number_between};
-use crate::stop::{Stop, stop_before};
+use crate::stop::{TextStop, stop_before};
 use crate::words::{Word, pass};
 use crate::written::WrittenPath;
 use interesting_orders::Version;
@@ -19,7 +19,7 @@ pub(crate) fn path<'a>(
     alloc: Global,
     text: &'a [u8],
     version: Version,
-) -> Result<(WrittenPath, &'a [u8]), Stop>
+) -> Result<(WrittenPath, &'a [u8]), TextStop>
     ensures { Reads path_said (PathIn (version_of version) text.now) result }
 {
     match first_byte(text) {
@@ -30,7 +30,7 @@ pub(crate) fn path<'a>(
     }
 }
 
-fn segment(text: &[u8], version: Version) -> Result<(WrittenPath, &[u8]), Stop>
+fn segment(text: &[u8], version: Version) -> Result<(WrittenPath, &[u8]), TextStop>
     requires { slice_index text.now 0 ≡ 83 }
     ensures { Reads path_said (PathIn (version_of version) text.now) result }
 {
@@ -38,7 +38,7 @@ fn segment(text: &[u8], version: Version) -> Result<(WrittenPath, &[u8]), Stop>
     Ok((WrittenPath::Segment { table }, text))
 }
 
-fn index(text: &[u8], version: Version) -> Result<(WrittenPath, &[u8]), Stop>
+fn index(text: &[u8], version: Version) -> Result<(WrittenPath, &[u8]), TextStop>
     requires { slice_index text.now 0 ≡ 73 }
     ensures { Reads path_said (PathIn (version_of version) text.now) result }
 {
@@ -57,7 +57,7 @@ fn matched<'a>(
     alloc: Global,
     text: &'a [u8],
     version: Version,
-) -> Result<(WrittenPath, &'a [u8]), Stop>
+) -> Result<(WrittenPath, &'a [u8]), TextStop>
     requires { slice_index text.now 0 ≡ 77 }
     ensures { Reads path_said (PathIn (version_of version) text.now) result }
 {
@@ -75,7 +75,7 @@ fn matched<'a>(
 }
 
 /// Whether ` BACK` stands here, and the bracket behind it.
-fn direction(text: &[u8], version: Version) -> Result<(bool, &[u8]), Stop>
+fn direction(text: &[u8], version: Version) -> Result<(bool, &[u8]), TextStop>
     ensures { Reads (λ b. b) (DirectionIn (version_of version) text.now) result }
 {
     if first_byte(text) == b' ' {
@@ -86,7 +86,7 @@ fn direction(text: &[u8], version: Version) -> Result<(bool, &[u8]), Stop>
     }
 }
 
-fn backward(text: &[u8], version: Version) -> Result<(bool, &[u8]), Stop>
+fn backward(text: &[u8], version: Version) -> Result<(bool, &[u8]), TextStop>
     requires { slice_index text.now 0 ≡ 32 }
     ensures { Reads (λ b. b) (DirectionIn (version_of version) text.now) result }
 {
@@ -109,7 +109,7 @@ fn conjuncts<'a>(
     alloc: Global,
     text: &'a [u8],
     version: Version,
-) -> Result<(Vec<u64>, &'a [u8]), Stop>
+) -> Result<(Vec<u64>, &'a [u8]), TextStop>
     requires { IsBehindDigits text.now }
     ensures { Reads (λ numbers. numbers.items) (MatchIn (version_of version) text.now) result }
 {
@@ -139,7 +139,7 @@ fn match_fault(version: Version, count: usize) -> Option<Expected>
 }
 
 /// As many numbers as stand here, each behind a slash.
-fn slashed_numbers(alloc: Global, text: &[u8]) -> Result<(Vec<u64>, &[u8]), Stop>
+fn slashed_numbers(alloc: Global, text: &[u8]) -> Result<(Vec<u64>, &[u8]), TextStop>
     ensures { Reads (λ numbers. numbers.items) (AllIn SlashedIn 47 text.now) result }
 {
     let mut numbers = Vec::new(alloc);
@@ -152,7 +152,7 @@ fn slashed_numbers(alloc: Global, text: &[u8]) -> Result<(Vec<u64>, &[u8]), Stop
     Ok((numbers, rest))
 }
 
-fn slashed_number(text: &[u8]) -> Result<(u64, &[u8]), Stop>
+fn slashed_number(text: &[u8]) -> Result<(u64, &[u8]), TextStop>
     ensures { Reads (λ n. n) (SlashedIn text.now) result }
 {
     let text = pass(text, Word::Slash)?;

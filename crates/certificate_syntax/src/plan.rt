@@ -10,7 +10,7 @@ ghost use Rattle.certificate_syntax.specs.declared.plan.Around.TheVariants as wo
 use crate::fault::Expected;
 use crate::number::{first_byte, number_between};
 use crate::path::path;
-use crate::stop::{Stop, stop_before};
+use crate::stop::{TextStop, stop_before};
 use crate::words::{Word, pass};
 use crate::written::WrittenPlan;
 use interesting_orders::Version;
@@ -30,7 +30,7 @@ pub(crate) fn plan<'a>(
     text: &'a [u8],
     version: Version,
     words: u8,
-) -> Result<(WrittenPlan, &'a [u8]), Stop>
+) -> Result<(WrittenPlan, &'a [u8]), TextStop>
     ensures { Reads plan_said (PlanIn (version_of version) words text.now) result }
 {
     let Some(left) = words.checked_sub(1) else {
@@ -48,7 +48,7 @@ fn access<'a>(
     alloc: Global,
     text: &'a [u8],
     version: Version,
-) -> Result<(WrittenPlan, &'a [u8]), Stop>
+) -> Result<(WrittenPlan, &'a [u8]), TextStop>
     requires { slice_index text.now 0 ≡ 65 }
     ensures { (words : ℕ) → 0 < words → Reads plan_said (PlanIn (version_of version) words text.now) result }
 {
@@ -58,7 +58,7 @@ fn access<'a>(
 }
 
 /// The word of a plan that has another one below it.
-fn opening(text: &[u8]) -> Result<(Around, &[u8]), Stop>
+fn opening(text: &[u8]) -> Result<(Around, &[u8]), TextStop>
     ensures { Reads (λ a. a) (AroundIn text.now) result }
 {
     match first_byte(text) {
@@ -69,7 +69,7 @@ fn opening(text: &[u8]) -> Result<(Around, &[u8]), Stop>
     }
 }
 
-fn opened(text: &[u8], around: Around, word: Word) -> Result<(Around, &[u8]), Stop>
+fn opened(text: &[u8], around: Around, word: Word) -> Result<(Around, &[u8]), TextStop>
     requires spelled { word_text word ≡ around_text around }
     requires first { slice_index text.now 0 ≡ slice_index (around_text around) 0 }
     ensures { Reads (λ a. a) (AroundIn text.now) result }
@@ -85,7 +85,7 @@ fn wrapped<'a>(
     below: WrittenPlan,
     text: &'a [u8],
     version: Version,
-) -> Result<(WrittenPlan, &'a [u8]), Stop>
+) -> Result<(WrittenPlan, &'a [u8]), TextStop>
     ensures { Reads plan_said (WrappedIn (version_of version) around (plan_said below) text.now) result }
 {
     match around {
@@ -100,7 +100,7 @@ fn looped<'a>(
     outer: WrittenPlan,
     text: &'a [u8],
     version: Version,
-) -> Result<(WrittenPlan, &'a [u8]), Stop>
+) -> Result<(WrittenPlan, &'a [u8]), TextStop>
     ensures { Reads plan_said (WrappedIn (version_of version) words.Loop (plan_said outer) text.now) result }
 {
     let text = pass(text, Word::Comma)?;
@@ -114,7 +114,7 @@ fn merged<'a>(
     outer: WrittenPlan,
     text: &'a [u8],
     version: Version,
-) -> Result<(WrittenPlan, &'a [u8]), Stop>
+) -> Result<(WrittenPlan, &'a [u8]), TextStop>
     ensures { Reads plan_said (WrappedIn (version_of version) words.Merge (plan_said outer) text.now) result }
 {
     let (conjunct, text) = number_between(text, Word::Comma, Word::Comma)?;
@@ -131,7 +131,7 @@ fn merged<'a>(
 }
 
 /// Whether `SORTED ` stands here.
-fn is_sorted(text: &[u8]) -> Result<(bool, &[u8]), Stop>
+fn is_sorted(text: &[u8]) -> Result<(bool, &[u8]), TextStop>
     ensures { Reads (λ b. b) (SortedIn text.now) result }
 {
     if second_byte(text) == b'O' {
@@ -156,7 +156,7 @@ fn sorted<'a>(
     input: WrittenPlan,
     text: &'a [u8],
     version: Version,
-) -> Result<(WrittenPlan, &'a [u8]), Stop>
+) -> Result<(WrittenPlan, &'a [u8]), TextStop>
     ensures { Reads plan_said (WrappedIn (version_of version) words.Sort (plan_said input) text.now) result }
 {
     let (order, text) = number_between(text, Word::Comma, Word::Bracket)?;

@@ -9,7 +9,7 @@ ghost use Rattle.certificate_syntax.specs.Reading.{Reads, AllIn, StateIn, BlockI
 use crate::fault::{Expected, FormFault};
 use crate::number::{first_byte, number_before, number_between};
 use crate::plan::plan;
-use crate::stop::{Stop, stop_before};
+use crate::stop::{TextStop, stop_before};
 use crate::words::{Word, pass};
 use crate::written::{Written, WrittenPlan, WrittenState};
 use interesting_orders::Version;
@@ -29,20 +29,20 @@ pub fn written_in(alloc: Global, version: Version, bytes: &[u8]) -> Result<Writt
     }
 }
 
-fn fault_of(bytes: &[u8], stop: Stop) -> FormFault
+fn fault_of(bytes: &[u8], stop: TextStop) -> FormFault
     ensures { IsFaultOf result stop }
 {
     match stop {
-        Stop::Form { left, expected } => FormFault::Form {
+        TextStop::Form { left, expected } => FormFault::Form {
             at: bytes.len().saturating_sub(left),
             expected,
         },
-        Stop::Memory => FormFault::Memory,
+        TextStop::Memory => FormFault::Memory,
     }
 }
 
 /// All lines, and nothing behind them.
-fn whole(alloc: Global, bytes: &[u8], version: Version) -> Result<Written, Stop>
+fn whole(alloc: Global, bytes: &[u8], version: Version) -> Result<Written, TextStop>
     ensures { SaysAll (version_of version) bytes.now result }
 {
     let (written, rest) = lines(alloc, bytes, version)?;
@@ -53,7 +53,7 @@ fn whole(alloc: Global, bytes: &[u8], version: Version) -> Result<Written, Stop>
     }
 }
 
-fn lines<'a>(alloc: Global, text: &'a [u8], version: Version) -> Result<(Written, &'a [u8]), Stop>
+fn lines<'a>(alloc: Global, text: &'a [u8], version: Version) -> Result<(Written, &'a [u8]), TextStop>
     ensures { Reads said_of (TextIn (version_of version) text.now) result }
 {
     let (block, text) = block_lines(text, version)?;
@@ -71,7 +71,7 @@ fn lines<'a>(alloc: Global, text: &'a [u8], version: Version) -> Result<(Written
 }
 
 /// The first two lines, the second of which has the number of the block.
-fn block_lines(text: &[u8], version: Version) -> Result<(u64, &[u8]), Stop>
+fn block_lines(text: &[u8], version: Version) -> Result<(u64, &[u8]), TextStop>
     ensures { Reads (λ n. n) (BlockIn (version_of version) text.now) result }
 {
     let text = pass(text, Word::Certificate(version))?;
@@ -82,7 +82,7 @@ fn plan_line<'a>(
     alloc: Global,
     text: &'a [u8],
     version: Version,
-) -> Result<(WrittenPlan, &'a [u8]), Stop>
+) -> Result<(WrittenPlan, &'a [u8]), TextStop>
     ensures { Reads plan_said (PlanLineIn (version_of version) text.now) result }
 {
     let text = pass(text, Word::Plan)?;
@@ -92,7 +92,7 @@ fn plan_line<'a>(
 }
 
 /// As many states as stand here.
-fn states(alloc: Global, text: &[u8]) -> Result<(Vec<WrittenState>, &[u8]), Stop>
+fn states(alloc: Global, text: &[u8]) -> Result<(Vec<WrittenState>, &[u8]), TextStop>
     ensures { Reads (λ states. map state_said states.items) (AllIn StateIn 83 text.now) result }
 {
     let mut states = Vec::new(alloc);
@@ -105,7 +105,7 @@ fn states(alloc: Global, text: &[u8]) -> Result<(Vec<WrittenState>, &[u8]), Stop
     Ok((states, rest))
 }
 
-fn state(text: &[u8]) -> Result<(WrittenState, &[u8]), Stop>
+fn state(text: &[u8]) -> Result<(WrittenState, &[u8]), TextStop>
     ensures { Reads state_said (StateIn text.now) result }
 {
     let (tables, text) = number_between(text, Word::State, Word::Space)?;

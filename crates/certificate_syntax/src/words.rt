@@ -7,7 +7,7 @@ ghost use Rattle.certificate_syntax.specs.Words.{word_text};
 ghost use Rattle.certificate_syntax.specs.Reading.{ReadsWord};
 
 use crate::fault::Expected;
-use crate::stop::{Stop, stop_before};
+use crate::stop::{TextStop, stop_before};
 use interesting_orders::Version;
 
 /// A word or a mark that stands in texts, with the spaces and the bracket that belong to it, as `bytes` tells.
@@ -79,7 +79,7 @@ fn version_line(version: Version) -> &'static [u8]
 }
 
 /// What is left behind a word that has to stand here.
-pub(crate) fn pass<'a>(text: &'a [u8], word: Word) -> Result<&'a [u8], Stop>
+pub(crate) fn pass<'a>(text: &'a [u8], word: Word) -> Result<&'a [u8], TextStop>
     ensures { ReadsWord (word_text word) text.now result }
 {
     match text.strip_prefix(word.bytes()) {

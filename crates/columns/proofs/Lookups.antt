@@ -18,8 +18,8 @@ use Rattle.columns.specs.Numbers.{number_values, numbers_of}
 use Rattle.columns.specs.Texts.{text_values, texts_of}
 use Rattle.definitions.specs.IndexRun.{is_from, Inclusive, Exclusive}
 use Rattle.columns.specs.Starts.{value_in, starts, IsHeld}
-use Rattle.columns.specs.declared.start.Start.{Start}
-use Rattle.columns.specs.declared.start.Start.TheVariants as at
+use Rattle.columns.specs.declared.start.LowerBound.{LowerBound}
+use Rattle.columns.specs.declared.start.LowerBound.TheVariants as at
 use Rattle.columns.proofs.NumberLists.{number_value}
 use Rattle.columns.proofs.TextLists.{text_value}
 use Rattle.columns.proofs.Orders.{le_product, lt_product, gt_by_tests, ge_by_tests}
@@ -152,7 +152,7 @@ above_number type v most n s e h (Number u r) (kind, scale, fits) =
     rw (scale, ← e) (sym (gt_by_tests (u *ℤ pos (10 ^ n)) (v *ℤ pos (10 ^ s)) ∙ ap not (h u fits)))
 above_number type v most n s e h (Text t) held = refl
 
-pub never_null : (start : Start) → starts start Null ≡ false
+pub never_null : (start : LowerBound) → starts start Null ≡ false
 never_null at.Filled = refl
 never_null (at.Above units) = refl
 never_null (at.From text) = refl
@@ -174,13 +174,13 @@ no_text Null n type k (Text c) h = refl
 no_text (Number v r) n type k (Text c) h = refl
 no_text (Text t) n type k (Text c) h = absurd (n t refl)
 
-pub filled_starts : (scale : ℕ) (u : ℤ) (b : Bool) (start : Start) (v : Value) → start ≡ at.Filled → v ≡ number_value scale u (not b) → b ≡ true → true ≡ starts start v
+pub filled_starts : (scale : ℕ) (u : ℤ) (b : Bool) (start : LowerBound) (v : Value) → start ≡ at.Filled → v ≡ number_value scale u (not b) → b ≡ true → true ≡ starts start v
 filled_starts scale u b start v e i h = rw (e, i, h) refl
 
-pub above_starts : (scale : ℕ) (u limit : ℤ) (start : Start) (v : Value) → start ≡ at.Above limit → v ≡ Number u scale → int_lt limit u ≡ starts start v
+pub above_starts : (scale : ℕ) (u limit : ℤ) (start : LowerBound) (v : Value) → start ≡ at.Above limit → v ≡ Number u scale → int_lt limit u ≡ starts start v
 above_starts scale u limit start v e i = rw (e, i) (units_above u limit)
 
-pub texts_start : (scale : ℕ) (u : ℤ) (b : Bool) (start : Start) (v : Value) → ((x : Bor (List ℕ)) × (start ≡ at.From x)) ⊎ ((x : Bor (List ℕ)) × (start ≡ at.Behind x)) → v ≡ number_value scale u b → false ≡ starts start v
+pub texts_start : (scale : ℕ) (u : ℤ) (b : Bool) (start : LowerBound) (v : Value) → ((x : Bor (List ℕ)) × (start ≡ at.From x)) ⊎ ((x : Bor (List ℕ)) × (start ≡ at.Behind x)) → v ≡ number_value scale u b → false ≡ starts start v
 texts_start scale u true start v (inl (x, e)) i = rw (e, i) refl
 texts_start scale u false start v (inl (x, e)) i = rw (e, i) refl
 texts_start scale u true start v (inr (x, e)) i = rw (e, i) refl

@@ -7,7 +7,7 @@ use Rattle.std.proofs.lemmas.List.{length-map, length-take-le, length-drop, drop
 use Rattle.std.proofs.Math.Nat.{mul-le-mul_left}
 use Rattle.std.proofs.lemmas.List.Elements.{All-head, All-tail, All-take, All-drop}
 use Rattle.definitions.specs.Value.{Value, Null, Number, Text, SqlType, scale_of, number_cmp, text_cmp, compare}
-use Rattle.definitions.specs.Statement.{Op}
+use Rattle.definitions.specs.Statement.{ComparisonOperator}
 use Rattle.definitions.specs.Truth.{agrees, truth_of}
 use Rattle.definitions.specs.Scanning.{word_of, part_of, true_word, unknown_word}
 use Rattle.sqlvalue.specs.Meaning.{value_of}
@@ -149,7 +149,7 @@ number_rows type us nulls c first rows l e h =
 parts_paired : (us : List ℤ) (nulls : List Bool) (first rows : ℕ) → length us ≡ length nulls → first + rows ≤ length nulls → length (take rows (drop first us)) ≡ length (take rows (drop first nulls))
 parts_paired us nulls first rows l h = part_length first rows us (omega (arith, l, h)) ∙ sym (part_length first rows nulls h)
 
-pub scanned_numbers : (type : SqlType) (us : List ℤ) (nulls : List Bool) (c : CellList) (first rows : ℕ) (op : Op) (w : ℤ) (n : ℕ) (p : ℤ → Bool) (units : List ℤ) (met flags all : ℕ)
+pub scanned_numbers : (type : SqlType) (us : List ℤ) (nulls : List Bool) (c : CellList) (first rows : ℕ) (op : ComparisonOperator) (w : ℤ) (n : ℕ) (p : ℤ → Bool) (units : List ℤ) (met flags all : ℕ)
     → length us ≡ length nulls → numbers_of type us nulls ≡ c → All (FitsSigned w64) us → first + rows ≤ length c.values
     → ((u : ℤ) → FitsSigned w64 u → agrees op (number_cmp u (scale_of type) w n) ≡ p u) → units ≡ take rows (drop first us) → met ≡ word_of (map p units)
     → flags ≡ word_of (take rows (drop first nulls)) → all ≡ 2 ^ rows - 1
@@ -169,7 +169,7 @@ scanned_numbers type us nulls c first rows op w n p units met flags all l e a h 
     )
 
 -- a value of another kind
-pub unlike_numbers : (type : SqlType) (us : List ℤ) (nulls : List Bool) (c : CellList) (first rows : ℕ) (op : Op) (v : Value) (all : ℕ)
+pub unlike_numbers : (type : SqlType) (us : List ℤ) (nulls : List Bool) (c : CellList) (first rows : ℕ) (op : ComparisonOperator) (v : Value) (all : ℕ)
     → length us ≡ length nulls → numbers_of type us nulls ≡ c → first + rows ≤ length c.values → ((u : ℤ) → compare (Number u (scale_of type)) v ≡ None) → all ≡ 2 ^ rows - 1
     → (0 ≡ true_word op v (part_of first rows c.values)) × (all ≡ unknown_word op v (part_of first rows c.values))
 unlike_numbers type us nulls c first rows op v all l e h none g =
@@ -220,7 +220,7 @@ characters_behind bytes codes first m n e f =
     let here : length (drop (first * m) bytes) ≤ length bytes - first * m = omega (arith, length-drop (first * m) bytes) in
     take_all (length bytes - first * m) (drop (first * m) bytes) here ∙ ap₂ (λ k xs. drop (first * k) xs) f e
 
-pub scanned_texts : (n : ℕ) (codes : List ℕ) (nulls : List Bool) (c : CellList) (first rows : ℕ) (op : Op) (value : List ℕ) (m : ℕ) (characters : List ℕ) (met flags all : ℕ)
+pub scanned_texts : (n : ℕ) (codes : List ℕ) (nulls : List Bool) (c : CellList) (first rows : ℕ) (op : ComparisonOperator) (value : List ℕ) (m : ℕ) (characters : List ℕ) (met flags all : ℕ)
     → texts_of n codes nulls ≡ c → first + rows ≤ length nulls → m ≡ n → characters ≡ drop (first * n) codes
     → met ≡ word_of (map (λ text. agrees op (text_cmp text value)) (texts_in m rows characters)) → flags ≡ word_of (take rows (drop first nulls)) → all ≡ 2 ^ rows - 1
     → (bit_and met (all - flags) ≡ true_word op (Text value) (part_of first rows c.values)) × (flags ≡ unknown_word op (Text value) (part_of first rows c.values))
@@ -237,7 +237,7 @@ scanned_texts n codes nulls c first rows op value m characters met flags all e h
       f ∙ null_texts (λ cell. is_none (truth_of op cell (Text value))) n behind gone refl (λ t. refl) ∙ ap (unknown_word op (Text value)) (sym part),
     )
 
-pub unlike_texts : (n : ℕ) (codes : List ℕ) (nulls : List Bool) (c : CellList) (first rows : ℕ) (op : Op) (v : Value) (all : ℕ)
+pub unlike_texts : (n : ℕ) (codes : List ℕ) (nulls : List Bool) (c : CellList) (first rows : ℕ) (op : ComparisonOperator) (v : Value) (all : ℕ)
     → texts_of n codes nulls ≡ c → first + rows ≤ length nulls → ((t : List ℕ) → compare (Text t) v ≡ None) → all ≡ 2 ^ rows - 1
     → (0 ≡ true_word op v (part_of first rows c.values)) × (all ≡ unknown_word op v (part_of first rows c.values))
 unlike_texts n codes nulls c first rows op v all e h none g =

@@ -10,8 +10,8 @@ use Rattle.definitions.specs.IndexRun.{Limit, Unlimited, Inclusive, Exclusive}
 use Rattle.sqlvalue.specs.Meaning.{value_of}
 use Rattle.sqlvalue.specs.declared.value.Value as code
 use Rattle.columns.specs.Cells.{CellList}
-use Rattle.columns.specs.declared.start.Start.{Start}
-use Rattle.columns.specs.declared.start.Start.TheVariants as s
+use Rattle.columns.specs.declared.start.LowerBound.{LowerBound}
+use Rattle.columns.specs.declared.start.LowerBound.TheVariants as s
 
 -- the value in a row; null past the end
 abbrev pub value_in : CellList → ℕ → Value
@@ -29,7 +29,7 @@ limit_of (Included value) = Inclusive (value_of value)
 limit_of (Excluded value) = Exclusive (value_of value)
 
 -- whether a value is one of those that begin there
-abbrev pub starts : Start → Value → Bool
+abbrev pub starts : LowerBound → Value → Bool
 starts s.Filled Null = false
 starts s.Filled (Number units scale) = true
 starts s.Filled (Text codes) = true

@@ -10,9 +10,9 @@ ghost use Rattle.columns.specs.Columns.{cells_of};
 ghost use Rattle.columns.specs.Starts.{limit_of, starts, IsHeld, AreApart, AreMet, value_in, Splits, AreOrdered};
 
 use crate::number::NumberColumn;
-use crate::start::Start;
+use crate::start::LowerBound;
 use crate::text::TextColumn;
-use sqlvalue::{Op, SqlType, Value};
+use sqlvalue::{ComparisonOperator, SqlType, Value};
 use std::alloc::{AllocError, Global};
 use std::cmp::Ordering;
 use std::ops::Bound;
@@ -74,7 +74,7 @@ impl Column {
     /// Of so many rows from `first` on, those in which a comparison of the column's value with another is true, and
     /// those in which it is unknown (ISO/IEC 9075:1992, 8.2): bit i of a word is set exactly where it is so in row
     /// `first + i`.
-    pub fn scan(&self, op: Op, value: &Value, first: usize, rows: usize) -> (u64, u64)
+    pub fn scan(&self, op: ComparisonOperator, value: &Value, first: usize, rows: usize) -> (u64, u64)
         requires few { rows ≤ 64 }
         requires within { first + rows ≤ length (cells_of self.now).values }
         ensures met { result.0 ≡ true_word (op_of op) (value_of value.now) (part_of first rows (cells_of self.now).values) }
@@ -134,7 +134,7 @@ impl Column {
     /// The values from a limit on, nulls being none of them, made ready for look-ups in columns of this type; `None`
     /// where no value of the column compares with the limit's, which is null or of the other kind
     /// (ISO/IEC 9075:1992, 8.2).
-    pub fn start<'a>(&self, limit: Bound<Value<'a>>) -> Option<Start<'a>>
+    pub fn start<'a>(&self, limit: Bound<Value<'a>>) -> Option<LowerBound<'a>>
         ensures some { IfSome result (λ start. (cell : spec.Value) → IsHeld (cells_of self.now).type cell → starts start cell ≡ (not (is_null_value cell) && is_from (limit_of limit.entry) cell)) }
         ensures meets { IfSome result (λ start. AreMet (cells_of self.now).type (limit_of limit.entry)) }
         ensures none { IsNone result → AreApart (cells_of self.now).type (limit_of limit.entry) }
@@ -146,7 +146,7 @@ impl Column {
     }
 
     /// Whether the value in a row is one of those from a limit on (own).
-    pub fn starts(&self, start: &Start, row: usize) -> bool
+    pub fn starts(&self, start: &LowerBound, row: usize) -> bool
         ensures { result ≡ starts start.now (value_in (cells_of self.now) row) }
     {
         match self {
@@ -157,7 +157,7 @@ impl Column {
 
     /// Of the rows from `first` up to `end`, of which those from a limit on stand last, the first such one; `end` where
     /// there is none (own).
-    pub fn first_from(&self, start: &Start, first: usize, end: usize) -> usize
+    pub fn first_from(&self, start: &LowerBound, first: usize, end: usize) -> usize
         requires forward { first ≤ end }
         requires ordered { AreOrdered (λ row. starts start.now (value_in (cells_of self.now) row)) first end }
         ensures { Splits (λ row. starts start.now (value_in (cells_of self.now) row)) first end result }

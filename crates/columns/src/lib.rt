@@ -13,6 +13,6 @@ mod words;
 
 pub use column::Column;
 pub use number::NumberColumn;
-pub use start::Start;
+pub use start::LowerBound;
 pub use text::TextColumn;
 pub use words::all_rows;

@@ -13,10 +13,10 @@ ghost use Rattle.columns.specs.Starts.{limit_of, starts, IsHeld, AreApart, AreMe
 
 use crate::null_bits::NullBits;
 use crate::range::{UnitRange, nearest, range_of};
-use crate::start::Start;
+use crate::start::LowerBound;
 use crate::units::units_within;
 use crate::words::all_rows;
-use sqlvalue::{Num, Op, SqlType, Value};
+use sqlvalue::{Num, ComparisonOperator, SqlType, Value};
 use std::alloc::{AllocError, Global};
 use std::cmp::Ordering;
 use std::marker::Model;
@@ -93,7 +93,7 @@ impl NumberColumn {
     /// Of so many rows from `first` on, those in which a comparison of the column's value with another is true, and
     /// those in which it is unknown (ISO/IEC 9075:1992, 8.2): bit i of a word is set exactly where it is so in row
     /// `first + i`.
-    pub fn scan(&self, op: Op, value: &Value, first: usize, rows: usize) -> (u64, u64)
+    pub fn scan(&self, op: ComparisonOperator, value: &Value, first: usize, rows: usize) -> (u64, u64)
         requires few { rows ≤ 64 }
         requires within { first + rows ≤ length self.now.values }
         ensures met { result.0 ≡ true_word (op_of op) (value_of value.now) (part_of first rows self.now.values) }
@@ -157,18 +157,18 @@ impl NumberColumn {
 
     /// The values from a limit on, nulls being none of them, made ready for look-ups in columns of this type; `None`
     /// where the limit's value is no number (ISO/IEC 9075:1992, 8.2).
-    pub fn start<'a>(&self, limit: Bound<Value<'a>>) -> Option<Start<'a>>
+    pub fn start<'a>(&self, limit: Bound<Value<'a>>) -> Option<LowerBound<'a>>
         ensures some { IfSome result (λ start. (cell : spec.Value) → IsHeld self.now.type cell → starts start cell ≡ (not (is_null_value cell) && is_from (limit_of limit.entry) cell)) }
         ensures meets { IfSome result (λ start. AreMet self.now.type (limit_of limit.entry)) }
         ensures none { IsNone result → AreApart self.now.type (limit_of limit.entry) }
     {
         match limit {
-            Bound::Unbounded => Some(Start::Filled),
+            Bound::Unbounded => Some(LowerBound::Filled),
             Bound::Included(Value::Num(number)) => {
-                Some(Start::Above(nearest(number, self.sql_type.scale()).below))
+                Some(LowerBound::Above(nearest(number, self.sql_type.scale()).below))
             }
             Bound::Excluded(Value::Num(number)) => {
-                Some(Start::Above(nearest(number, self.sql_type.scale()).at_most))
+                Some(LowerBound::Above(nearest(number, self.sql_type.scale()).at_most))
             }
             Bound::Included(Value::Null | Value::Text(_))
             | Bound::Excluded(Value::Null | Value::Text(_)) => None,
@@ -176,16 +176,16 @@ impl NumberColumn {
     }
 
     /// Whether the number in a row is one of those from a limit on; a null is not (own).
-    pub fn starts(&self, start: &Start, row: usize) -> bool
+    pub fn starts(&self, start: &LowerBound, row: usize) -> bool
         ensures { result ≡ starts start.now (value_in self.now row) }
     {
         if !self.nulls.is_filled(row) {
             return false;
         }
         match start {
-            Start::Filled => true,
-            Start::Above(units) => i128::from(self.units[row]) > *units,
-            Start::From(_) | Start::Behind(_) => false,
+            LowerBound::Filled => true,
+            LowerBound::Above(units) => i128::from(self.units[row]) > *units,
+            LowerBound::From(_) | LowerBound::Behind(_) => false,
         }
     }
 

@@ -8,7 +8,7 @@ ghost use Rattle.definitions.specs.Limits.{greatest_precision, greatest_scale};
 ghost use Rattle.sqlvalue.specs.Meaning.{op_of};
 ghost use Rattle.columns.specs.Ranges.{is_in};
 
-use sqlvalue::{Num, Op};
+use sqlvalue::{Num, ComparisonOperator};
 
 /// The units for which a comparison is true: those of a range, or those outside it (own).
 #[derive(Clone, Copy)]
@@ -27,22 +27,22 @@ pub(crate) struct Neighbours {
 
 /// The units at a scale for which a comparison with a number is true (ISO/IEC 9075:1992, 8.2,
 /// general rule 2).
-pub(crate) fn range_of(op: Op, value: Num, scale: u8) -> UnitRange
+pub(crate) fn range_of(op: ComparisonOperator, value: Num, scale: u8) -> UnitRange
     requires { scale ≤ greatest_precision }
     ensures { (u : ℤ) → FitsSigned w64 u → agrees (op_of op) (number_cmp u scale value.units value.scale) ≡ is_in result u }
 {
     let (least, greatest) = (i128::from(i64::MIN), i128::from(i64::MAX));
     let Neighbours { below, at_most } = nearest(value, scale);
     match op {
-        Op::Equals => between(below.saturating_add(1), at_most),
-        Op::NotEquals => UnitRange {
+        ComparisonOperator::Equals => between(below.saturating_add(1), at_most),
+        ComparisonOperator::NotEquals => UnitRange {
             outside: true,
             ..between(below.saturating_add(1), at_most)
         },
-        Op::LessThan => between(least, below),
-        Op::LessOrEquals => between(least, at_most),
-        Op::GreaterThan => between(at_most.saturating_add(1), greatest),
-        Op::GreaterOrEquals => between(below.saturating_add(1), greatest),
+        ComparisonOperator::LessThan => between(least, below),
+        ComparisonOperator::LessOrEquals => between(least, at_most),
+        ComparisonOperator::GreaterThan => between(at_most.saturating_add(1), greatest),
+        ComparisonOperator::GreaterOrEquals => between(below.saturating_add(1), greatest),
     }
 }
 

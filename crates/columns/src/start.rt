@@ -2,7 +2,7 @@
 
 /// The values of a column from a limit on, or all of them; nulls are never among them.
 #[derive(Clone, Copy, Debug)]
-pub enum Start<'a> {
+pub enum LowerBound<'a> {
     /// All values.
     Filled,
     /// Numbers of more units than these, at the column's scale.

@@ -13,10 +13,10 @@ ghost use Rattle.definitions.specs.IndexRun.{is_from as is_from_limit};
 ghost use Rattle.columns.specs.Starts.{limit_of, option_text, starts, IsHeld, AreApart, AreMet, value_in};
 
 use crate::null_bits::NullBits;
-use crate::start::Start;
+use crate::start::LowerBound;
 use crate::text_word::{order_of_texts, texts_word};
 use crate::words::all_rows;
-use sqlvalue::{Op, Value};
+use sqlvalue::{ComparisonOperator, Value};
 use std::alloc::{AllocError, Global};
 use std::cmp::Ordering;
 use std::marker::Model;
@@ -100,7 +100,7 @@ impl TextColumn {
     /// Of so many rows from `first` on, those in which a comparison of the column's value with another is true, and
     /// those in which it is unknown (ISO/IEC 9075:1992, 8.2): bit i of a word is set exactly where it is so in row
     /// `first + i`.
-    pub fn scan(&self, op: Op, value: &Value, first: usize, rows: usize) -> (u64, u64)
+    pub fn scan(&self, op: ComparisonOperator, value: &Value, first: usize, rows: usize) -> (u64, u64)
         requires few { rows ≤ 64 }
         requires within { first + rows ≤ list_length self.now.values }
         ensures met { result.0 ≡ true_word (op_of op) (value_of value.now) (part_of first rows self.now.values) }
@@ -169,7 +169,7 @@ impl TextColumn {
 
     /// The values from a limit on, nulls being none of them, made ready for look-ups in columns of this type; `None`
     /// where the limit's value is no text (ISO/IEC 9075:1992, 8.2).
-    pub fn start<'a>(&self, limit: Bound<Value<'a>>) -> Option<Start<'a>>
+    pub fn start<'a>(&self, limit: Bound<Value<'a>>) -> Option<LowerBound<'a>>
         ensures some { IfSome result (λ start. (cell : spec.Value) → IsHeld self.now.type cell → starts start cell ≡ (not (is_null_value cell) && is_from_limit (limit_of limit.entry) cell)) }
         ensures meets { IfSome result (λ start. AreMet self.now.type (limit_of limit.entry)) }
         ensures none { IsNone result → AreApart self.now.type (limit_of limit.entry) }
@@ -177,26 +177,26 @@ impl TextColumn {
         // The proof knows of a column what its code reads: here, that it holds texts.
         let _length = self.length;
         match limit {
-            Bound::Unbounded => Some(Start::Filled),
-            Bound::Included(Value::Text(text)) => Some(Start::From(text)),
-            Bound::Excluded(Value::Text(text)) => Some(Start::Behind(text)),
+            Bound::Unbounded => Some(LowerBound::Filled),
+            Bound::Included(Value::Text(text)) => Some(LowerBound::From(text)),
+            Bound::Excluded(Value::Text(text)) => Some(LowerBound::Behind(text)),
             Bound::Included(Value::Null | Value::Num(_))
             | Bound::Excluded(Value::Null | Value::Num(_)) => None,
         }
     }
 
     /// Whether the text in a row is one of those from a limit on; a null is not (own).
-    pub fn starts(&self, start: &Start, row: usize) -> bool
+    pub fn starts(&self, start: &LowerBound, row: usize) -> bool
         ensures { result ≡ starts start.now (value_in self.now row) }
     {
         let Some(own) = self.text_in(row) else {
             return false;
         };
         match start {
-            Start::Filled => true,
-            Start::Above(_) => false,
-            Start::From(text) => order_of_texts(own.as_bytes(), text.as_bytes()).is_ge(),
-            Start::Behind(text) => order_of_texts(own.as_bytes(), text.as_bytes()).is_gt(),
+            LowerBound::Filled => true,
+            LowerBound::Above(_) => false,
+            LowerBound::From(text) => order_of_texts(own.as_bytes(), text.as_bytes()).is_ge(),
+            LowerBound::Behind(text) => order_of_texts(own.as_bytes(), text.as_bytes()).is_gt(),
         }
     }
 

@@ -8,7 +8,7 @@ ghost use Rattle.definitions.specs.Scanning.{word_of};
 ghost use Rattle.sqlvalue.specs.Meaning.{op_of};
 ghost use Rattle.columns.specs.TextRows.{is_wanted, texts_in};
 
-use sqlvalue::Op;
+use sqlvalue::ComparisonOperator;
 use std::cmp::Ordering;
 
 /// The orders that an operator asks, so that no row asks for the operator again.
@@ -20,7 +20,7 @@ struct Wanted {
 }
 
 impl Wanted {
-    fn of(op: Op) -> Wanted
+    fn of(op: ComparisonOperator) -> Wanted
         ensures { (order : Order) → is_wanted result order ≡ agrees (op_of op) order }
     {
         Wanted {
@@ -44,7 +44,7 @@ impl Wanted {
 /// Which texts of a column agree with a comparison with a value: bit i is set exactly where the
 /// i-th does (ISO/IEC 9075:1992, 8.2, general rule 3). The texts stand in a row, each `length`
 /// characters long.
-pub(crate) fn texts_word(characters: &[u8], length: usize, rows: usize, op: Op, value: &[u8]) -> u64
+pub(crate) fn texts_word(characters: &[u8], length: usize, rows: usize, op: ComparisonOperator, value: &[u8]) -> u64
     requires few { rows ≤ 64 }
     requires within { rows * length ≤ list_length characters.now }
     ensures { result ≡ word_of (map (λ text. agrees (op_of op) (text_cmp text value.now)) (texts_in length rows characters.now)) }

@@ -9,7 +9,7 @@ use Rattle.definitions.specs.Value.{SqlType}
 use Rattle.definitions.specs.Table.{Database}
 use Rattle.definitions.specs.Plans.Order.{BlockColumn}
 use Rattle.definitions.specs.Plans.TableSet.{only}
-use Rattle.definitions.specs.Queries.BoundBlock.{ValueExpr, Column, Parameter, Numeral, String, Signed, Chain, SetValue, Subquery, Operands, NoOperand, Operand, Condition, Conditions, NoPart, Part, And, Block, Blocks}
+use Rattle.definitions.specs.Queries.BoundBlock.{ValueExpr, Column, Parameter, Numeral, String, Signed, Chain, AggregateValue, Subquery, Operands, NoOperand, Operand, Condition, Conditions, NoPart, Part, And, Block, Blocks}
 use Rattle.definitions.specs.Queries.Conjuncts.{conjuncts, conjuncts_of, conjuncts_of_option, conjuncts_of_parts, operands_tables, tables_in, tables_named, values_of, values_of_parts}
 use Rattle.definitions.specs.Binding.Formed.{HasColumn, IsFormedValue, AreFormedOperands, IsTypedValue, IfCondition, IsFormedBlock}
 use Rattle.conjuncts.specs.Naming.{AreFew, NamesFew}
@@ -29,7 +29,7 @@ module _ (db : Database) (blocks around : Blocks) (n : ℕ) (b : Block) (count :
     value_few (String codes) h = omega arith
     value_few (Signed minus operand) h = value_few operand h
     value_few (Chain first others) h = or_lt 14 (tables_named first) (operands_tables others) (value_few first h.0) (line_few others h.1)
-    value_few (SetValue number type) h = omega arith
+    value_few (AggregateValue number type) h = omega arith
     value_few (Subquery block type) h = omega arith
 
     line_few : (others : Operands) → AreFormedOperands db blocks around n b others → AreFew (operands_tables others)

@@ -14,7 +14,7 @@ use Rattle.std.proofs.lemmas.Slice.Eq.{bytes_eq-Decides}
 use Rattle.definitions.specs.Limits.{most_tables, most_columns, most_indexes, most_index_columns, greatest_precision, greatest_length, greatest_statistic}
 use Rattle.definitions.specs.Refusal.{NameTaken, NotFound, OverLimit}
 use Rattle.definitions.specs.Value.{Value, Number, SqlType, Smallint, Integer, Numeric, Char, IsType, scale_of, rank}
-use Rattle.definitions.specs.Statement.{Name, ColumnDefinition, Range, Statement, CreateTable, CreateIndex, SetTable, SetIndex}
+use Rattle.definitions.specs.Statement.{Name, ColumnDefinition, Range, Statement, CreateTable, CreateIndex, SetTableStatistics, SetIndexStatistics}
 use Rattle.definitions.specs.Statement.{IndexStatistics as Given}
 use Rattle.definitions.specs.Table.{Column, KeyRange, IndexStatistics, Index, Table, Database, table_named, type_named, column_number, column_numbers, is_key, is_primary, is_on, index_on, AreDistinct}
 use Rattle.definitions.specs.Key.{key_of, AreUnique}
@@ -310,7 +310,7 @@ some_named : (o : Option Table) → (o ≡ None → ⊥) → (t : Table) × (o �
 some_named None h = absurd (h refl)
 some_named (Some t) h = (t, refl)
 
-pub table_set_database : (db : Database) (name : Name) (rows pages : ℕ) → IsDatabase db → IsAccepted db (SetTable name rows pages)
+pub table_set_database : (db : Database) (name : Name) (rows pages : ℕ) → IsDatabase db → IsAccepted db (SetTableStatistics name rows pages)
     → IsDatabase (changed (λ u. with_table_statistics u (record { rows = rows; pages = pages })) db name)
 table_set_database db name rows pages s a =
     let (t, n) = some_named (table_named db name) (λ e. a NotFound (faults.no_such_table name rows pages e)) in
@@ -388,7 +388,7 @@ index_set_is_table t ns kept s k p r = record {
   page_count = s.page_count;
 }
 
-pub index_set_database : (db : Database) (name : Name) (columns : List Name) (given : Given) (t : Table) (ns : List ℕ) (type : SqlType) (kept : IndexStatistics) → IsDatabase db → IsAccepted db (SetIndex name columns given)
+pub index_set_database : (db : Database) (name : Name) (columns : List Name) (given : Given) (t : Table) (ns : List ℕ) (type : SqlType) (kept : IndexStatistics) → IsDatabase db → IsAccepted db (SetIndexStatistics name columns given)
     → table_named db name ≡ Some t → column_numbers t.columns columns ≡ Some ns → first_type t.columns columns ≡ Some type → StatisticsKept type given kept → IsDatabase (changed (λ u. with_index_statistics u ns kept) db name)
 index_set_database db name columns given t ns type kept s a n e f g =
     let (range, held, is) = g in

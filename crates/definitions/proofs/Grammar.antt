@@ -4,7 +4,7 @@ use Rattle.std.specs.Prelude.{slice_get}
 use Rattle.definitions.specs.Limits.{most_levels}
 use Rattle.definitions.specs.Word.{Word}
 use Rattle.definitions.specs.Token.{TokenKind}
-use Rattle.definitions.specs.Statement.{Statement, Expr, SetFunction, Op}
+use Rattle.definitions.specs.Statement.{Statement, Expr, SetFunction, ComparisonOperator}
 use Rattle.definitions.specs.Statement as s
 use Rattle.definitions.specs.Rule.{Rule, At, Gives, Then}
 use Rattle.definitions.specs.Rule as g
@@ -129,7 +129,7 @@ module _ {i j : Inner} (h : InnerAlike i j) where
   unfolding SumOf
   sum_alike = line_alike r.Sum product_alike
 
-  pub compared_alike : (o : Op) (v : Expr) → Alike (ComparedOf i o v) (ComparedOf j o v)
+  pub compared_alike : (o : ComparisonOperator) (v : Expr) → Alike (ComparedOf i o v) (ComparedOf j o v)
   unfolding ComparedOf
   compared_alike o v = reads_alike r.quantifier_in (λ q. past_alike _ (then_alike h.subquery (λ b. gives_alike _))) (then_alike sum_alike (λ e. gives_alike _))
 

@@ -2,7 +2,7 @@
 use Rattle.std.specs.Prelude.{ℕ, ℤ, pos, neg_ℤ, ◌+◌, ◌≡◌, Bool, true, List, [], ◌∷◌, ◌++◌, Option, Some, None, if◌then◌else◌, map, bytes_eq}
 use Rattle.std.specs.declared.cmp.Ordering.TheVariants.{Equal}
 use Rattle.definitions.specs.Value.{Value, Number, SqlType, HasType, scale_of, compare}
-use Rattle.definitions.specs.Statement.{Name, ColumnDefinition, Bound, Range, Statement, CreateTable, CreateIndex, SetTable, SetIndex}
+use Rattle.definitions.specs.Statement.{Name, ColumnDefinition, Bound, Range, Statement, CreateTable, CreateIndex, SetTableStatistics, SetIndexStatistics}
 use Rattle.definitions.specs.Statement.{IndexStatistics as Given}
 use Rattle.definitions.specs.Table.{Column, Row, TableStatistics, KeyRange, IndexStatistics, Index, Table, Database, table_named, type_named, column_numbers, is_key, is_on}
 use Rattle.definitions.specs.Key.{key_of, AreUnique}
@@ -86,9 +86,9 @@ pub data Makes (db : Database) (s : Statement) (new : Database) : Type 0 where
   indexed : (unique : Bool) (name : Name) (columns : List Name) (t : Table) (numbers : List ℕ) → s ≡ CreateIndex unique name columns
       → table_named db name ≡ Some t → column_numbers t.columns columns ≡ Some numbers → (unique ≡ true → AreUnique (map (key_of numbers) t.rows))
       → new ≡ changed (λ u. with_index u unique numbers) db name → Makes db s new
-  table_set : (name : Name) (rows pages : ℕ) → s ≡ SetTable name rows pages
+  table_set : (name : Name) (rows pages : ℕ) → s ≡ SetTableStatistics name rows pages
       → new ≡ changed (λ u. with_table_statistics u (record { rows = rows; pages = pages })) db name → Makes db s new
-  index_set : (name : Name) (columns : List Name) (given : Given) (t : Table) (numbers : List ℕ) (type : SqlType) (kept : IndexStatistics) → s ≡ SetIndex name columns given
+  index_set : (name : Name) (columns : List Name) (given : Given) (t : Table) (numbers : List ℕ) (type : SqlType) (kept : IndexStatistics) → s ≡ SetIndexStatistics name columns given
       → table_named db name ≡ Some t → column_numbers t.columns columns ≡ Some numbers → first_type t.columns columns ≡ Some type → StatisticsKept type given kept
       → new ≡ changed (λ u. with_index_statistics u numbers kept) db name → Makes db s new
 

@@ -4,7 +4,7 @@ use Rattle.definitions.specs.Lists.{AnyOf}
 use Rattle.definitions.specs.Limits.{most_tables, most_columns, most_indexes}
 use Rattle.definitions.specs.Refusal.{Refusal, NameTaken, NotFound, OverLimit, OverQueryLimit}
 use Rattle.definitions.specs.Value.{IsType}
-use Rattle.definitions.specs.Statement.{Name, Select, Constraint, ColumnDefinition, IndexStatistics, Statement, CreateTable, CreateIndex, Load, SetTable, SetIndex, Query, Explain}
+use Rattle.definitions.specs.Statement.{Name, Select, Constraint, ColumnDefinition, IndexStatistics, Statement, CreateTable, CreateIndex, Load, SetTableStatistics, SetIndexStatistics, Query, Explain}
 use Rattle.definitions.specs.Table.{Table, Database, table_named, is_key, is_primary, AreDistinct}
 use Rattle.definitions.specs.Invariant.{IsCount, IsPageCount}
 use Rattle.definitions.specs.IndexFaults.{IndexFaulty, StatisticsFaulty}
@@ -29,9 +29,9 @@ pub data Faulty (db : Database) : Statement → Refusal → Type 0 where
   many_keys : (name : Name) (columns : List ColumnDefinition) → most_indexes < count_of is_key columns → Faulty db (CreateTable name columns) OverLimit
   two_primary : (name : Name) (columns : List ColumnDefinition) → 1 < count_of is_primary columns → Faulty db (CreateTable name columns) OverLimit
   index : (unique : Bool) (table : Name) (columns : List Name) (r : Refusal) → IndexFaulty db table columns r → Faulty db (CreateIndex unique table columns) r
-  no_such_table : (table : Name) (rows pages : ℕ) → table_named db table ≡ None → Faulty db (SetTable table rows pages) NotFound
-  out_of_range : (table : Name) (rows pages : ℕ) → ¬ (IsCount rows × IsPageCount pages) → Faulty db (SetTable table rows pages) OverLimit
-  statistics : (table : Name) (columns : List Name) (given : IndexStatistics) (r : Refusal) → StatisticsFaulty db table columns given r → Faulty db (SetIndex table columns given) r
+  no_such_table : (table : Name) (rows pages : ℕ) → table_named db table ≡ None → Faulty db (SetTableStatistics table rows pages) NotFound
+  out_of_range : (table : Name) (rows pages : ℕ) → ¬ (IsCount rows × IsPageCount pages) → Faulty db (SetTableStatistics table rows pages) OverLimit
+  statistics : (table : Name) (columns : List Name) (given : IndexStatistics) (r : Refusal) → StatisticsFaulty db table columns given r → Faulty db (SetIndexStatistics table columns given) r
   no_table : (name : Name) (file : List ℕ) → table_named db name ≡ None → Faulty db (Load name file) NotFound
   query : (q : Select) (r : Refusal) → binding.Faulty db q r → Faulty db (Query q) r
   not_yet : (q : Select) → binding.IsAccepted db q → ¬ (CanAnswer (bound_form db q)) → Faulty db (Query q) OverQueryLimit

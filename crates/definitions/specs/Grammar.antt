@@ -9,7 +9,7 @@ use Rattle.definitions.specs.Word.{Word}
 use Rattle.definitions.specs.Word as w
 use Rattle.definitions.specs.Token.{Symbol, OpenParen, CloseParen, Comma, Semicolon, Point, Asterisk, Solidus, Plus, Minus, TokenKind, Reserved, Mark, Token}
 use Rattle.definitions.specs.Token as t
-use Rattle.definitions.specs.Statement.{Name, Op, LineOperator, Quantifier, SetFunction, ColumnReference, Source, Expr, Operands, Members, Items, SelectList, Item, Condition, Block, KeyName, Key, Select, Constraint, ColumnDefinition, Bound, Range, IndexStatistics, Statement}
+use Rattle.definitions.specs.Statement.{Name, ComparisonOperator, LineOperator, Quantifier, SetFunction, ColumnReference, Source, Expr, Operands, Members, Items, SelectList, Item, Condition, Block, KeyName, Key, Select, Constraint, ColumnDefinition, Bound, Range, IndexStatistics, Statement}
 use Rattle.definitions.specs.Statement as s
 use Rattle.definitions.specs.Rule.{Rule, At, Never, Gives, Past, Sees, If, Reads, Then, Repeats}
 
@@ -128,7 +128,7 @@ unfoldable pub ReferenceAt : Rule ColumnReference
 ReferenceAt = Then NameAt (λ n. If (Mark Point) (Then NameAt (λ m. Gives (record { qualifier = Some n; name = m }))) (Gives (record { qualifier = None; name = n })))
 
 -- the comparison that a token stands for (8.2)
-abbrev pub op_in : Option TokenKind → Option Op
+abbrev pub op_in : Option TokenKind → Option ComparisonOperator
 op_in (Some (Mark t.Equals)) = Some s.Equals
 op_in (Some (Mark t.NotEquals)) = Some s.NotEquals
 op_in (Some (Mark t.LessThan)) = Some s.LessThan
@@ -225,7 +225,7 @@ unfoldable pub SumOf : Inner → Rule Expr
 SumOf inner = LineOf Sum (ProductOf inner)
 
 -- behind a comparison operator: (ALL | ANY | SOME) "(" subquery (8.7) | sum (8.2)
-unfoldable pub ComparedOf : Inner → Op → Expr → Rule Expr
+unfoldable pub ComparedOf : Inner → ComparisonOperator → Expr → Rule Expr
 ComparedOf inner op value =
     Reads quantifier_in (λ quantifier. Past (Mark OpenParen) (Then inner.subquery (λ q. Gives (s.CompareAll op quantifier value q))))
     (Then (SumOf inner) (λ e. Gives (s.Compare op value e)))
@@ -425,8 +425,8 @@ StatisticsAt =
 unfoldable pub SetAt : Rule Statement
 SetAt =
     Past (Reserved w.Statistics) (Then NameAt (λ n.
-    If (Reserved w.Rows) (Then CountAt (λ rows. Past (Reserved w.Pages) (Then CountAt (λ pages. Gives (s.SetTable n rows pages)))))
-    (Then NamesAt (λ columns. Then StatisticsAt (λ statistics. Gives (s.SetIndex n columns statistics))))))
+    If (Reserved w.Rows) (Then CountAt (λ rows. Past (Reserved w.Pages) (Then CountAt (λ pages. Gives (s.SetTableStatistics n rows pages)))))
+    (Then NamesAt (λ columns. Then StatisticsAt (λ statistics. Gives (s.SetIndexStatistics n columns statistics))))))
 
 -- CREATE .. | LOAD .. | SET .. | EXPLAIN query (own) | query (13.1)
 unfoldable pub StatementOf : Inner → Rule Statement

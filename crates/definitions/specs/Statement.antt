@@ -7,13 +7,13 @@ abbrev pub Name : Type 0
 Name = List ℕ
 
 -- the comparison operators (ISO/IEC 9075:1992, 8.2)
-pub data Op : Type 0 where
-  Equals : Op
-  NotEquals : Op
-  LessThan : Op
-  GreaterThan : Op
-  LessOrEquals : Op
-  GreaterOrEquals : Op
+pub data ComparisonOperator : Type 0 where
+  Equals : ComparisonOperator
+  NotEquals : ComparisonOperator
+  LessThan : ComparisonOperator
+  GreaterThan : ComparisonOperator
+  LessOrEquals : ComparisonOperator
+  GreaterOrEquals : ComparisonOperator
 
 -- the operators that join the operands of a line (8.12, 6.12)
 pub data LineOperator : Type 0 where
@@ -56,8 +56,8 @@ mutual
     Signed : (minus : Bool) (operand : Expr) → Expr
     Line : (first : Expr) (others : Operands) → Expr
     Not : (operand : Expr) → Expr
-    Compare : (op : Op) (left right : Expr) → Expr
-    CompareAll : (op : Op) (quantifier : Quantifier) (left : Expr) (query : Block) → Expr
+    Compare : (op : ComparisonOperator) (left right : Expr) → Expr
+    CompareAll : (op : ComparisonOperator) (quantifier : Quantifier) (left : Expr) (query : Block) → Expr
     IsNull : (negated : Bool) (value : Expr) → Expr
     Between : (negated : Bool) (value low high : Expr) → Expr
     Like : (negated : Bool) (value : Expr) (pattern : List ℕ) → Expr
@@ -173,7 +173,7 @@ pub data Statement : Type 0 where
   CreateTable : (name : Name) (columns : List ColumnDefinition) → Statement
   CreateIndex : (unique : Bool) (table : Name) (columns : List Name) → Statement
   Load : (table : Name) (file : List ℕ) → Statement
-  SetTable : (table : Name) (rows pages : ℕ) → Statement
-  SetIndex : (table : Name) (columns : List Name) (statistics : IndexStatistics) → Statement
+  SetTableStatistics : (table : Name) (rows pages : ℕ) → Statement
+  SetIndexStatistics : (table : Name) (columns : List Name) (statistics : IndexStatistics) → Statement
   Query : (select : Select) → Statement
   Explain : (select : Select) → Statement

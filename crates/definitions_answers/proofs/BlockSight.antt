@@ -12,7 +12,7 @@ use Rattle.definitions.specs.Arithmetic.{Raise, Meaning, Is}
 use Rattle.definitions.specs.Truth.{Truth}
 use Rattle.definitions.specs.Plans.Plan.{Plan}
 use Rattle.definitions.specs.Plans.Cost.{saturated}
-use Rattle.definitions.specs.Queries.BoundBlock.{ValueExpr, Condition, BoundFunction, CountRows, OfValues, Item, Block}
+use Rattle.definitions.specs.Queries.BoundBlock.{ValueExpr, Condition, Aggregate, CountRows, OfValues, Item, Block}
 use Rattle.definitions.specs.Queries.Conjuncts.{conjuncts, conjuncts_of, conjuncts_of_option, is_late, early_conjuncts, late_conjuncts, tested_blocks, values_of, blocks_in, blocks_of}
 use Rattle.definitions.specs.Queries.Evaluation.{Combination, Environment, and_then, on_one, value, truth}
 use Rattle.definitions.specs.Queries.Combinations.{Context, at, at_group, is_surely_true, all_hold, all_combinations, passing, raises_of, raises_of_late, raises_of_where, kept}
@@ -93,7 +93,7 @@ module _ (db : Database) (outer outer' : List Combination) (inner inner' : ℕ �
     having_same None h k functions c = refl
     having_same (Some d) h k functions c = same_truth d h k functions c
 
-    functions_same : (fs : List BoundFunction) → AllByRecursion SameValue (arguments_of fs) → (group : List Combination) → map (function_value here group) fs ≡ map (function_value there group) fs
+    functions_same : (fs : List Aggregate) → AllByRecursion SameValue (arguments_of fs) → (group : List Combination) → map (function_value here group) fs ≡ map (function_value there group) fs
     functions_same [] h group = refl
     functions_same (CountRows ∷ fs) h group = ap (λ ms. function_value here group CountRows ∷ ms) (functions_same fs h group)
     functions_same (OfValues kind distinct argument ∷ fs) h group =

@@ -10,7 +10,7 @@ use Rattle.definitions.specs.Table.{Row}
 use Rattle.definitions.specs.Arithmetic.{Raise, Meaning, Is, Raises}
 use Rattle.definitions.specs.Truth.{Truth, is_true}
 use Rattle.definitions.specs.Plans.Order.{BlockColumn}
-use Rattle.definitions.specs.Queries.BoundBlock.{BoundFunction, CountRows, OfValues, Key, Block}
+use Rattle.definitions.specs.Queries.BoundBlock.{Aggregate, CountRows, OfValues, Key, Block}
 use Rattle.definitions.specs.Queries.Evaluation.{Combination, Environment, and_then, on_one, value}
 use Rattle.definitions.specs.Queries.Combinations.{Context, at, at_group, is_surely_true, raises_of, raises_of_where, kept}
 use Rattle.definitions.specs.Queries.Grouping.{aggregate, counted, taken, function_value, groups_of, results, unless_raised, all_results}
@@ -99,7 +99,7 @@ module _ (context : Context) (b : Block) where
       step (Is v) k r = (k, r)
       step (Raises q qs) k r = r
 
-  value_alike : (f : BoundFunction) → HasArgumentShape context b f → (g h : List Combination) → AllByRecursion Typed g → IsPermutation g h → AreAlike (function_value context g f) (function_value context h f)
+  value_alike : (f : Aggregate) → HasArgumentShape context b f → (g h : List Combination) → AllByRecursion Typed g → IsPermutation g h → AreAlike (function_value context g f) (function_value context h f)
   value_alike CountRows has g h typed p = alike_if (Is (counted g)) (Is (counted h)) (ap (λ n. Is (Number (pos n) 0)) (sym (length_permutation g h p)))
   value_alike (OfValues kind distinct argument) (shape, sums, has) g h typed p =
       let f : Combination → Meaning Value = λ c. value (at context c) argument in
@@ -111,7 +111,7 @@ module _ (context : Context) (b : Block) where
       alike_after (λ vs. aggregate kind (taken distinct vs)) (flat_map raises_of (map f g)) (flat_map raises_of (map f h)) (results (map f g)) (results (map f h)) raises
       (λ e. sym (aggregate_takes_any_order kind shape (taken distinct (results (map f g))) (taken distinct (results (map f h))) sums (taken_there distinct shape (results (map f g)) shaped) (taken_in_any_order distinct shape (results (map f g)) (results (map f h)) shaped values)))
 
-  values_alike : (fs : List BoundFunction) → AllByRecursion (HasArgumentShape context b) fs → (g h : List Combination) → AllByRecursion Typed g → IsPermutation g h
+  values_alike : (fs : List Aggregate) → AllByRecursion (HasArgumentShape context b) fs → (g h : List Combination) → AllByRecursion Typed g → IsPermutation g h
       → IsPermutation (flat_map raises_of (map (function_value context g) fs)) (flat_map raises_of (map (function_value context h) fs))
       × (flat_map raises_of (map (function_value context g) fs) ≡ [] → map (function_value context g) fs ≡ map (function_value context h) fs)
   values_alike [] has g h typed p = (IsPermutation-refl [], λ e. refl)

@@ -10,7 +10,7 @@ use Rattle.definitions.specs.ValueType.{ValueType, NumberType, TextType}
 use Rattle.definitions.specs.Invariant.{IsDatabase}
 use Rattle.definitions.specs.Arithmetic.{Raise, Meaning, Is, Raises}
 use Rattle.definitions.specs.Statement.{SetFunction, Count, Sum, Avg, Min, Max}
-use Rattle.definitions.specs.Queries.BoundBlock.{SetValue, BoundFunction, CountRows, OfValues, Item, Block, Blocks}
+use Rattle.definitions.specs.Queries.BoundBlock.{AggregateValue, Aggregate, CountRows, OfValues, Item, Block, Blocks}
 use Rattle.definitions.specs.Queries.BoundTypes.{value_type}
 use Rattle.definitions.specs.Queries.Evaluation.{Combination, and_then, on_one, value}
 use Rattle.definitions.specs.Queries.Combinations.{Context, at, at_group, raises_of}
@@ -68,7 +68,7 @@ module _ (context : Context) (blocks around : Blocks) (n : ℕ) (b : Block) (val
   first_typed ([], h) = λ column type has. tt
   first_typed (c ∷ cs, h) = h.0
 
-  text_function : (f : BoundFunction) → IsFormedFunction context.database blocks around n b f → IsRightFunction f → set_function_type f ≡ Some TextType → (shape : Shape) × ((g : Group) → MeansShape shape (function_value context g.0 f))
+  text_function : (f : Aggregate) → IsFormedFunction context.database blocks around n b f → IsRightFunction f → set_function_type f ≡ Some TextType → (shape : Shape) × ((g : Group) → MeansShape shape (function_value context g.0 f))
   text_function CountRows formed right e = absurd cc
   text_function (OfValues kind distinct argument) formed right e =
       let (own, is) = some_type (value_type argument) formed.1 in
@@ -79,12 +79,12 @@ module _ (context : Context) (blocks around : Blocks) (n : ℕ) (b : Block) (val
             (aggregate_shaped kind distinct own shape (results (map f g.0)) (subst (λ o. kind_type kind o ≡ Some TextType) is e) (shapes_of_results context b shape f has g.0 g.1)),
       )
 
-  typed_at : (number : ℕ) (type : ValueType) → IsFormedValue context.database blocks around n b (SetValue number type) → (g : Group) → MeansOne type (get_or (functions_over g) number (Is Null))
+  typed_at : (number : ℕ) (type : ValueType) → IsFormedValue context.database blocks around n b (AggregateValue number type) → (g : Group) → MeansOne type (get_or (functions_over g) number (Is Null))
   typed_at number type (f, there, is) g =
       subst (MeansOne type) (sym (made_at (function_value context g.0) b.functions number f (Is Null) there))
       (function_values_have_their_types context blocks around n b f type g.0 (valid, typed_around) (all_at _ b.functions number f formed there) (all_at IsRightFunction b.functions number f right there) g.1 is)
 
-  shaped_at : (number : ℕ) → IsFormedValue context.database blocks around n b (SetValue number TextType) → (shape : Shape) × ((g : Group) → MeansShape shape (get_or (functions_over g) number (Is Null)))
+  shaped_at : (number : ℕ) → IsFormedValue context.database blocks around n b (AggregateValue number TextType) → (shape : Shape) × ((g : Group) → MeansShape shape (get_or (functions_over g) number (Is Null)))
   shaped_at number (f, there, is) =
       let (shape, has) = text_function f (all_at _ b.functions number f formed there) (all_at IsRightFunction b.functions number f right there) is in
       (shape, λ g. subst (MeansShape shape) (sym (made_at (function_value context g.0) b.functions number f (Is Null) there)) (has g))

@@ -68,7 +68,7 @@ module _ (context : Context) (functions : List (Meaning Value)) (columns : List 
     value_same (b.String codes) l = refl
     value_same (b.Signed minus e) l = ap (on_one (signed minus)) (value_same e l)
     value_same (b.Chain first others) l = chain_same (value here first) (value there first) others l.1 (value_same first l.0)
-    value_same (b.SetValue n type) l = refl
+    value_same (b.AggregateValue n type) l = refl
     value_same (b.Subquery n type) l = absurd l
 
     chain_same : (left right : Meaning Value) (others : Operands) → AllLookAt columns others → left ≡ right → chained here left others ≡ chained there right others

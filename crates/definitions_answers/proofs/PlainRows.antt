@@ -12,7 +12,7 @@ use Rattle.definitions.specs.Arithmetic.{Raise, Meaning, Is, Raises}
 use Rattle.definitions.specs.Estimates.Orders.{required_of, sort_key, column_of_item}
 use Rattle.definitions.specs.Estimates.Sides.{column_of}
 use Rattle.definitions.specs.Plans.Order.{ascending, BlockColumn, SortKey}
-use Rattle.definitions.specs.Queries.BoundBlock.{ValueExpr, Column, Parameter, Numeral, String, Signed, Chain, SetValue, Subquery, Item, Key, Block}
+use Rattle.definitions.specs.Queries.BoundBlock.{ValueExpr, Column, Parameter, Numeral, String, Signed, Chain, AggregateValue, Subquery, Item, Key, Block}
 use Rattle.definitions.specs.Queries.Evaluation.{Combination, cell, on_one, value}
 use Rattle.definitions.specs.Queries.Combinations.{Context, at, raises_of, raises_of_where, kept}
 use Rattle.definitions.specs.Queries.Grouping.{results, unless_raised, all_results, groups_of}
@@ -120,7 +120,7 @@ module _ (context : Context) (b : Block) where
   column_value (String codes) c column h = absurd (true≢false (sym (ap is_some h)))
   column_value (Signed minus operand) c column h = absurd (true≢false (sym (ap is_some h)))
   column_value (Chain first others) c column h = absurd (true≢false (sym (ap is_some h)))
-  column_value (SetValue number type) c column h = absurd (true≢false (sym (ap is_some h)))
+  column_value (AggregateValue number type) c column h = absurd (true≢false (sym (ap is_some h)))
   column_value (Subquery block type) c column h = absurd (true≢false (sym (ap is_some h)))
 
   item_value : (k : ℕ) (c : Combination) (column : BlockColumn) → raised c ≡ [] → column_of_item b.items k ≡ Some column → get_or (plain_row context b c) k Null ≡ cell c column

@@ -7,7 +7,7 @@ use Rattle.definitions.specs.Statement.{Equals, GreaterOrEquals, LessOrEquals}
 use Rattle.definitions.specs.Arithmetic.{Meaning, Is}
 use Rattle.definitions.specs.Truth.{and, known, unless, opposite, all_true, any_true, compared, compared_with_any, has_row, is_null}
 use Rattle.definitions.specs.Pattern.{like}
-use Rattle.definitions.specs.Queries.BoundBlock.{ValueExpr, Column, Parameter, Numeral, String, Signed, Chain, SetValue, Subquery, Operands, NoOperand, Operand, Condition, Conditions, NoPart, Part, Compare, Quantified, IsNull, Between, Like, InList, InQuery, Exists, Not, And, Or}
+use Rattle.definitions.specs.Queries.BoundBlock.{ValueExpr, Column, Parameter, Numeral, String, Signed, Chain, AggregateValue, Subquery, Operands, NoOperand, Operand, Condition, Conditions, NoPart, Part, Compare, Quantified, IsNull, Between, Like, InList, InQuery, Exists, Not, And, Or}
 use Rattle.definitions.specs.Queries.Conjuncts.{member_values, values_of, values_of_parts, tested_blocks, tested_blocks_of_parts, blocks_in, operand_blocks, conjuncts_of, conjuncts_of_parts}
 use Rattle.definitions.specs.Queries.Evaluation.{Combination, Environment, and_then, and_then_two, on_one, on_two, in_order, only_value, column_values, operation, quantified, signed, value, chained, member, truth, truths}
 use Rattle.definitions_answers.specs.Parameters.{OuterColumn, outer_value, parameters_in, operand_parameters}
@@ -41,7 +41,7 @@ module _ (combination : Combination) (functions : List (Meaning Value)) (outer o
         let w = all_first (SameColumn outer outer') (parameters_in first) (operand_parameters others) h in
         let v = all_first SameBlock (blocks_in first) (operand_blocks others) k in
         chain_seen (value here first) (value there first) others w.1 v.1 (value_seen first w.0 v.0)
-    value_seen (SetValue number type) h k = refl
+    value_seen (AggregateValue number type) h k = refl
     value_seen (Subquery block type) h k = ap (and_then only_value) k.0
 
     chain_seen : (m n : Meaning Value) (others : Operands) → AllByRecursion (SameColumn outer outer') (operand_parameters others) → AllByRecursion SameBlock (operand_blocks others) → m ≡ n → chained here m others ≡ chained there n others

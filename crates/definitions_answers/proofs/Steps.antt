@@ -7,7 +7,7 @@ use Rattle.definitions.specs.Table.{Database, Row}
 use Rattle.definitions.specs.Arithmetic.{Meaning, Is}
 use Rattle.definitions.specs.Plans.Cost.{saturated}
 use Rattle.definitions.specs.Plans.Plan.{Plan}
-use Rattle.definitions.specs.Queries.BoundBlock.{ValueExpr, Column, Parameter, Numeral, String, Signed, Chain, SetValue, Subquery, Operands, NoOperand, Operand, Condition, BoundFunction, CountRows, OfValues, Item, Block, Blocks}
+use Rattle.definitions.specs.Queries.BoundBlock.{ValueExpr, Column, Parameter, Numeral, String, Signed, Chain, AggregateValue, Subquery, Operands, NoOperand, Operand, Condition, Aggregate, CountRows, OfValues, Item, Block, Blocks}
 use Rattle.definitions.specs.Queries.Conjuncts.{conjuncts, early_conjuncts, tested_blocks, values_of, blocks_in, operand_blocks, blocks_of, is_late}
 use Rattle.definitions.specs.Queries.Evaluation.{Combination}
 use Rattle.definitions.specs.Queries.Combinations.{Context, passing}
@@ -40,7 +40,7 @@ module _ (db : Database) (blocks around : Blocks) (n : ℕ) (b : Block) where
     asked_in (String codes) h = tt
     asked_in (Signed minus operand) h = asked_in operand h
     asked_in (Chain first others) h = all_joined Behind (blocks_in first) (operand_blocks others) (asked_in first h.0) (asked_in_operands others h.1)
-    asked_in (SetValue number type) h = tt
+    asked_in (AggregateValue number type) h = tt
     asked_in (Subquery block type) h = (h.0, tt)
 
     asked_in_operands : (others : Operands) → AreFormedOperands db blocks around n b others → AllByRecursion Behind (operand_blocks others)
@@ -65,7 +65,7 @@ module _ (db : Database) (blocks around : Blocks) (n : ℕ) (b : Block) where
   option_tested None h = tt
   option_tested (Some c) h = (all_first Behind (tested_blocks c) _ h.2).0
 
-  arguments_behind : (fs : List BoundFunction) → AllByRecursion (IsFormedFunction db blocks around n b) fs → AllByRecursion AreBehind (arguments_of fs)
+  arguments_behind : (fs : List Aggregate) → AllByRecursion (IsFormedFunction db blocks around n b) fs → AllByRecursion AreBehind (arguments_of fs)
   arguments_behind [] h = tt
   arguments_behind (CountRows ∷ fs) h = arguments_behind fs h.1
   arguments_behind (OfValues kind distinct argument ∷ fs) h = (asked_in argument h.0.0, arguments_behind fs h.1)

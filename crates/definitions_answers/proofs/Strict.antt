@@ -6,7 +6,7 @@ use Rattle.definitions.specs.Statement.{Equals, GreaterOrEquals, LessOrEquals}
 use Rattle.definitions.specs.Arithmetic.{Meaning, Is, Raises}
 use Rattle.definitions.specs.Truth.{and, opposite, all_true, any_true, compared, compared_with_any, unless, known, is_null, has_row}
 use Rattle.definitions.specs.Pattern.{like}
-use Rattle.definitions.specs.Queries.BoundBlock.{ValueExpr, Column, Parameter, Numeral, String, Signed, Chain, SetValue, Subquery, Operands, NoOperand, Operand, Condition, Conditions, NoPart, Part, Compare, Quantified, IsNull, Between, Like, InList, InQuery, Exists, Not, And, Or}
+use Rattle.definitions.specs.Queries.BoundBlock.{ValueExpr, Column, Parameter, Numeral, String, Signed, Chain, AggregateValue, Subquery, Operands, NoOperand, Operand, Condition, Conditions, NoPart, Part, Compare, Quantified, IsNull, Between, Like, InList, InQuery, Exists, Not, And, Or}
 use Rattle.definitions.specs.Queries.Conjuncts.{member_values, values_of, values_of_parts, tested_blocks, tested_blocks_of_parts, blocks_in, operand_blocks, blocks_of}
 use Rattle.definitions.specs.Queries.Evaluation.{Environment, value, chained, truth, truths, member, in_order, only_value, column_values, quantified, operation, signed, and_then, and_then_two, on_one, on_two}
 use Rattle.definitions_answers.specs.Strict.{is_raise, ConditionsAreStrict}
@@ -63,7 +63,7 @@ module _ (env : Environment) where
     value_raises (Signed minus e) h = then_raises (λ v. Is (signed minus v)) (value env e) (value_raises e h)
     value_raises (Chain first others) h =
         pick (any_first Raising (blocks_in first) (operand_blocks others) h) (λ i. left_raises (value env first) others (value_raises first i)) (λ i. chain_raises (value env first) others i)
-    value_raises (SetValue n type) h = absurd h
+    value_raises (AggregateValue n type) h = absurd h
     value_raises (Subquery n type) (inl h) = then_raises only_value (env.inner n) h
     value_raises (Subquery n type) (inr h) = absurd h
 

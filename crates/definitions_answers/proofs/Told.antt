@@ -6,7 +6,7 @@ use Rattle.std.proofs.lemmas.List.Elements.{All-contains_itself, All-cons, All-n
 use Rattle.std.proofs.lemmas.List.Sorted.{All-permutation, length_permutation, IsPermutation-map}
 use Rattle.definitions.specs.Value.{Value, Null}
 use Rattle.definitions.specs.Table.{Row}
-use Rattle.definitions.specs.Statement.{Op, Equals, GreaterOrEquals, LessOrEquals, Quantifier}
+use Rattle.definitions.specs.Statement.{ComparisonOperator, Equals, GreaterOrEquals, LessOrEquals, Quantifier}
 use Rattle.definitions.specs.Statement as s
 use Rattle.definitions.specs.Arithmetic.{Raise, Cardinality, Meaning, Is, Raises, raised}
 use Rattle.definitions.specs.Truth.{Truth, and, opposite, all_true, any_true, compared, compared_with_any, unless, known, is_null, has_row}
@@ -97,7 +97,7 @@ rows_stand (x ∷ xs) (y ∷ ys) h = refl
 rows_stand [] (y ∷ ys) h = let e = length_permutation [] (column_values (y ∷ ys)) h in absurd (omega (arith, e))
 rows_stand (x ∷ xs) [] h = let e = length_permutation (column_values (x ∷ xs)) [] h in absurd (omega (arith, e))
 
-quantified_stands : (q : Quantifier) (op : Op) (v : Value) (vs vs' : List Value) → IsPermutation vs vs' → quantified q op v vs ≡ quantified q op v vs'
+quantified_stands : (q : Quantifier) (op : ComparisonOperator) (v : Value) (vs vs' : List Value) → IsPermutation vs vs' → quantified q op v vs ≡ quantified q op v vs'
 quantified_stands s.All op v vs vs' h = (order_says_nothing _ _ (IsPermutation-map (compared op v) vs vs' h)).0
 quantified_stands s.Any op v vs vs' h = (order_says_nothing _ _ (IsPermutation-map (compared op v) vs vs' h)).1
 
@@ -123,7 +123,7 @@ module _ (env : Environment) (inner : ℕ → Meaning (List Row)) where
     value_stands (b.Chain first others) h =
         let w = all_first Stands (blocks_in first) (operand_blocks others) h in
         chain_stands (value env first) (value other first) others w.1 (value_stands first w.0)
-    value_stands (b.SetValue n type) h = itself (get_or env.functions n (Is Null))
+    value_stands (b.AggregateValue n type) h = itself (get_or env.functions n (Is Null))
     value_stands (b.Subquery n type) h = then_stands SameFirst Same only_value only_value only_stands (env.inner n) (inner n) h.0
 
     chain_stands : (left left' : Meaning Value) (others : Operands) → AllByRecursion Stands (operand_blocks others) → StandsFor Same left left' → StandsFor Same (chained env left others) (chained other left' others)
@@ -139,7 +139,7 @@ module _ (env : Environment) (inner : ℕ → Meaning (List Row)) where
   members_stand (Some e ∷ members) h = two_same ◌∷◌ (value env e) (value other e) (in_order (map (member env) members)) (in_order (map (member other) members)) h.0 (members_stand members h.1)
 
   -- a value against the rows of a subquery
-  against_rows : (q : Quantifier) (op : Op) (e : ValueExpr) (n : ℕ) → ValueStands e → Stands n → StandsFor Same (on_two (quantified q op) (value env e) (on_one column_values (env.inner n))) (on_two (quantified q op) (value other e) (on_one column_values (inner n)))
+  against_rows : (q : Quantifier) (op : ComparisonOperator) (e : ValueExpr) (n : ℕ) → ValueStands e → Stands n → StandsFor Same (on_two (quantified q op) (value env e) (on_one column_values (env.inner n))) (on_two (quantified q op) (value other e) (on_one column_values (inner n)))
   against_rows q op e n h k =
       two_stand Same IsPermutation Same (λ v vs. Is (quantified q op v vs)) (λ v vs. Is (quantified q op v vs)) (λ v v' vs vs' d p. ap (λ w. quantified q op w vs) d ∙ quantified_stands q op v' vs vs' p)
       (value env e) (value other e) (on_one column_values (env.inner n)) (on_one column_values (inner n)) h

@@ -11,7 +11,7 @@ use Rattle.definitions.specs.Invariant.{IsDatabase}
 use Rattle.definitions.specs.Arithmetic.{DivisionByZero, OutOfRange, Raise, Meaning, Is, Raises, is_in_bounds, judged, over, quotient, quotient_scale, raised}
 use Rattle.definitions.specs.Statement.{SetFunction, Count, Sum, Avg, Min, Max}
 use Rattle.definitions.specs.Plans.Order.{BlockColumn}
-use Rattle.definitions.specs.Queries.BoundBlock.{Operator, Plus, Minus, Times, Over, ValueExpr, Column, Parameter, Numeral, String, Signed, Chain, SetValue, Subquery, Operands, NoOperand, Operand, BoundFunction, CountRows, OfValues, Item, Block, Blocks}
+use Rattle.definitions.specs.Queries.BoundBlock.{Operator, Plus, Minus, Times, Over, ValueExpr, Column, Parameter, Numeral, String, Signed, Chain, AggregateValue, Subquery, Operands, NoOperand, Operand, Aggregate, CountRows, OfValues, Item, Block, Blocks}
 use Rattle.definitions.specs.Queries.BoundTypes.{value_type, operands_type, type_of_two, arithmetic_type, signed_type}
 use Rattle.definitions.specs.Queries.Conjuncts.{blocks_in, operand_blocks}
 use Rattle.definitions.specs.Queries.Evaluation.{Combination, Environment, and_then, cell, value}
@@ -102,8 +102,8 @@ module _ (context : Context) (blocks around : Blocks) (n : ℕ) (b : Block) (val
   -- ---- on combinations, each with values of the set functions that are of their types; texts among these have one shape
 
   module _ (Place : Type 0) (functions : Place → List (Meaning Value)) (combination : Place → Combination) (typed : (p : Place) → Typed (combination p))
-      (typed_functions : (number : ℕ) (type : ValueType) → Formed (SetValue number type) → (p : Place) → MeansOne type (get_or (functions p) number (Is Null)))
-      (shaped_functions : (number : ℕ) → Formed (SetValue number TextType) → (shape : Shape) × ((p : Place) → MeansShape shape (get_or (functions p) number (Is Null)))) where
+      (typed_functions : (number : ℕ) (type : ValueType) → Formed (AggregateValue number type) → (p : Place) → MeansOne type (get_or (functions p) number (Is Null)))
+      (shaped_functions : (number : ℕ) → Formed (AggregateValue number TextType) → (shape : Shape) × ((p : Place) → MeansShape shape (get_or (functions p) number (Is Null)))) where
     abbrev there : Place → Environment
     there p = at_group context (functions p) (combination p)
 
@@ -115,7 +115,7 @@ module _ (context : Context) (blocks around : Blocks) (n : ℕ) (b : Block) (val
       fitting p (String codes) f k = tt
       fitting p (Signed minus operand) f k = fitting p operand f k
       fitting p (Chain first others) f k = (fitting p first f.0 (none_first (blocks_in first) (operand_blocks others) k), all_fitting p others f.1 (none_second (blocks_in first) (operand_blocks others) k))
-      fitting p (SetValue number type) f k = typed_functions number type f p
+      fitting p (AggregateValue number type) f k = typed_functions number type f p
       fitting p (Subquery number type) f k = absurd cc
 
       all_fitting : (p : Place) (others : Operands) → AreFormedOperands context.database blocks around n b others → operand_blocks others ≡ [] → AllFitTypes (there p) others
@@ -137,7 +137,7 @@ module _ (context : Context) (blocks around : Blocks) (n : ℕ) (b : Block) (val
     text_shape (Signed minus operand) f k e = absurd (signed_is_number (value_type operand) e)
     text_shape (Chain first NoOperand) f k e = text_shape first f.0 (none_first (blocks_in first) [] k) e
     text_shape (Chain first (Operand operator operand others)) f k e = absurd (no_text_from (type_of_two operator (value_type first) (value_type operand)) others (joined_is_number operator (value_type first) (value_type operand)) e)
-    text_shape (SetValue number type) f k e = shaped_functions number (subst (λ t. Formed (SetValue number t)) (ap (λ o. unwrap_or o TextType) e) f)
+    text_shape (AggregateValue number type) f k e = shaped_functions number (subst (λ t. Formed (AggregateValue number t)) (ap (λ o. unwrap_or o TextType) e) f)
     text_shape (Subquery number type) f k e = absurd cc
 
     pub one_shape : (e : ValueExpr) → Formed e → blocks_in e ≡ [] → (type : ValueType) → value_type e ≡ Some type → HasOneShape e
@@ -171,7 +171,7 @@ module _ (context : Context) (blocks around : Blocks) (n : ℕ) (b : Block) (val
       let (shape, has) = one_shape Alone (λ p. []) (λ p. p.0) (λ p. p.1) (λ number type g p. tt) (λ number g. (Texts 0, λ p. tt)) e f k type is in
       (shape, λ c t. has (c, t))
 
-  argument_shape : (function : BoundFunction) → IsFormedFunction context.database blocks around n b function → IsRightFunction function → HasArgumentShape context b function
+  argument_shape : (function : Aggregate) → IsFormedFunction context.database blocks around n b function → IsRightFunction function → HasArgumentShape context b function
   argument_shape CountRows f r = tt
   argument_shape (OfValues kind distinct argument) f (sound, alone) =
       let (type, is) = some_type (value_type argument) f.1 in
@@ -199,7 +199,7 @@ module _ (context : Context) (blocks around : Blocks) (n : ℕ) (b : Block) (val
           of_text Min h = tt
           of_text Max h = tt
 
-  arguments_shapes : (functions : List BoundFunction) → AllByRecursion (IsFormedFunction context.database blocks around n b) functions → AllByRecursion IsRightFunction functions → AllByRecursion (HasArgumentShape context b) functions
+  arguments_shapes : (functions : List Aggregate) → AllByRecursion (IsFormedFunction context.database blocks around n b) functions → AllByRecursion IsRightFunction functions → AllByRecursion (HasArgumentShape context b) functions
   arguments_shapes [] f r = tt
   arguments_shapes (function ∷ functions) f r = (argument_shape function f.0 r.0, arguments_shapes functions f.1 r.1)
 

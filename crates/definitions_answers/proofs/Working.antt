@@ -14,7 +14,7 @@ use Rattle.definitions.specs.Plans.Plan.{Inner, Plan, Access, Loop, Merge, Sort}
 use Rattle.definitions.specs.Plans.PlanSpace.{tables_of, IsPath, IsPlan, access, loop, merge, sort}
 use Rattle.definitions.specs.Plans.Space.{Space}
 use Rattle.definitions.specs.Plans.Cost.{saturated}
-use Rattle.definitions.specs.Queries.BoundBlock.{ValueExpr, Column, Parameter, Numeral, String, Signed, Chain, SetValue, Subquery, Operands, NoOperand, Operand, Condition, Block}
+use Rattle.definitions.specs.Queries.BoundBlock.{ValueExpr, Column, Parameter, Numeral, String, Signed, Chain, AggregateValue, Subquery, Operands, NoOperand, Operand, Condition, Block}
 use Rattle.definitions.specs.Queries.CanRaise.{Size, size, joined_size, is_division, can_raise, chain_can_raise}
 use Rattle.definitions.specs.Queries.Conjuncts.{conjuncts, is_empty, is_late, early_conjuncts, tested_blocks, values_of, blocks_in, operand_blocks, condition_tables, condition_can_raise}
 use Rattle.definitions.specs.Plans.TableSet as t
@@ -50,7 +50,7 @@ module _ (P : ℕ → Type 0) where
     none_in (Chain first others) h =
         let w = neither (can_raise first) (chain_can_raise (size first) others) h in
         all_joined P (blocks_in first) (operand_blocks others) (none_in first w.0) (none_in_operands (size first) others w.1)
-    none_in (SetValue number type) h = absurd (true≢false h)
+    none_in (AggregateValue number type) h = absurd (true≢false h)
     none_in (Subquery block type) h = absurd (true≢false h)
 
     none_in_operands : (left : Size) (others : Operands) → chain_can_raise left others ≡ false → AllByRecursion P (operand_blocks others)

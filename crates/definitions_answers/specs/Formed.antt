@@ -4,7 +4,7 @@ use Rattle.std.specs.List.{AllByRecursion}
 use Rattle.definitions.specs.Invariant.{IsDatabase}
 use Rattle.definitions.specs.Binding.Formed.{set_function_type, IsFormedBlock, IsFormedFunction}
 use Rattle.definitions.specs.Binding.Answerable.{IsRightFunction, ItemsAskNoBlock, IsAnswerable}
-use Rattle.definitions.specs.Queries.BoundBlock.{BoundFunction, Block, Blocks}
+use Rattle.definitions.specs.Queries.BoundBlock.{Aggregate, Block, Blocks}
 use Rattle.definitions.specs.ValueType.{ValueType}
 use Rattle.definitions.specs.Queries.Evaluation.{Combination}
 use Rattle.definitions.specs.Queries.Answer.{is_grouped}
@@ -40,5 +40,5 @@ KeptAreTyped = (context : Context) (b : Block) → IsDatabase context.database �
 
 -- the value of a set function over a group is of the type that is told of it
 abbrev pub FunctionValuesHaveTheirTypes : Type 0
-FunctionValuesHaveTheirTypes = (context : Context) (blocks around : Blocks) (n : ℕ) (b : Block) (f : BoundFunction) (type : ValueType) (group : List Combination) → IsInPlace context blocks around b
+FunctionValuesHaveTheirTypes = (context : Context) (blocks around : Blocks) (n : ℕ) (b : Block) (f : Aggregate) (type : ValueType) (group : List Combination) → IsInPlace context blocks around b
     → IsFormedFunction context.database blocks around n b f → IsRightFunction f → AllByRecursion (IsTypedCombination context.database b) group → set_function_type f ≡ Some type → MeansOne type (function_value context group f)

@@ -6,7 +6,7 @@ use Rattle.definitions.specs.Table.{Row}
 use Rattle.definitions.specs.Arithmetic.{Raise, Meaning, Is, Raises}
 use Rattle.definitions.specs.Truth.{is_true}
 use Rattle.definitions.specs.Plans.Order.{BlockColumn}
-use Rattle.definitions.specs.Queries.BoundBlock.{BoundFunction, CountRows, OfValues, Key, Block}
+use Rattle.definitions.specs.Queries.BoundBlock.{Aggregate, CountRows, OfValues, Key, Block}
 use Rattle.definitions.specs.Queries.Evaluation.{Combination, and_then, on_one, value}
 use Rattle.definitions.specs.Queries.Combinations.{Context, at, at_group, raises_of, raises_of_where, kept}
 use Rattle.definitions.specs.Queries.Grouping.{function_value, all_results}
@@ -48,7 +48,7 @@ abbrev pub MeansShape : Shape → Meaning Value → Type 0
 MeansShape shape (Is v) = HasShape shape v
 MeansShape shape (Raises r rs) = ⊤
 
-abbrev pub HasArgumentShape : Context → Block → BoundFunction → Type 0
+abbrev pub HasArgumentShape : Context → Block → Aggregate → Type 0
 HasArgumentShape context b CountRows = ⊤
 HasArgumentShape context b (OfValues kind distinct argument) =
     (shape : Shape) × Sums kind shape × ((c : Combination) → IsTypedCombination context.database b c → MeansShape shape (value (at context c) argument))

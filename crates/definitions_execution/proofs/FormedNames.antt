@@ -7,7 +7,7 @@ use Rattle.std.proofs.lemmas.Nat.Bits.{bit_at-zero}
 use Rattle.std.proofs.lemmas.Option.{slice_get_within}
 use Rattle.definitions.specs.Table.{Database}
 use Rattle.definitions.specs.Plans.TableSet.{TableSet, Has}
-use Rattle.definitions.specs.Queries.BoundBlock.{ValueExpr, Column, Parameter, Numeral, String, Signed, Chain, SetValue, Subquery, Operands, NoOperand, Operand, Condition, Conditions, NoPart, Part, And, Block, Blocks}
+use Rattle.definitions.specs.Queries.BoundBlock.{ValueExpr, Column, Parameter, Numeral, String, Signed, Chain, AggregateValue, Subquery, Operands, NoOperand, Operand, Condition, Conditions, NoPart, Part, And, Block, Blocks}
 use Rattle.definitions.specs.Queries.Conjuncts.{conjuncts, conjuncts_of, conjuncts_of_option, conjuncts_of_parts, operands_tables, tables_in, tables_named, values_of, values_of_parts}
 use Rattle.definitions.specs.Binding.Formed.{IsFormedValue, AreFormedOperands, IsTypedValue, IfCondition, IsFormedBlock}
 use Rattle.definitions_execution.specs.OfBlock.{NamesOwnTables}
@@ -71,7 +71,7 @@ module _ (db : Database) (blocks around : Blocks) (n : ℕ) (block : Block) wher
     value_own (String codes) h = none_own
     value_own (Signed minus operand) h = value_own operand h
     value_own (Chain first others) h = both_own (tables_named first) (operands_tables others) (value_own first h.0) (operands_own others h.1)
-    value_own (SetValue number type) h = none_own
+    value_own (AggregateValue number type) h = none_own
     value_own (Subquery number type) h = none_own
 
     operands_own : (others : Operands) → AreFormedOperands db blocks around n block others → IsOwn (operands_tables others)

@@ -6,7 +6,7 @@ use Rattle.std.specs.Ordering.{ordering_reverse, is_eq, is_lt, is_gt, is_le, is_
 use Rattle.std.specs.declared.cmp.Ordering.{Ordering}
 use Rattle.std.specs.declared.cmp.Ordering.TheVariants.{Less, Equal, Greater}
 use Rattle.definitions.specs.Value.{Value, Null, Number, Text, compare}
-use Rattle.definitions.specs.Statement.{Op, Equals, NotEquals, LessThan, GreaterThan, LessOrEquals, GreaterOrEquals}
+use Rattle.definitions.specs.Statement.{ComparisonOperator, Equals, NotEquals, LessThan, GreaterThan, LessOrEquals, GreaterOrEquals}
 use Rattle.definitions.specs.Table.{Row}
 use Rattle.definitions.specs.Key.{Key, is_null}
 use Rattle.definitions.specs.IndexRun.{Entry, Limit, is_true_of, begins_with, lies_in, rows_of}
@@ -23,14 +23,14 @@ use Rattle.std.specs.List.{list_all}
 use Rattle.definitions_execution.specs.OfBlock.{rows_in, index_run, stored_of}
 use Rattle.definitions_execution.specs.IndexRows.{run_of, keys_in}
 use Rattle.definitions.specs.Estimates.BlockTables.{index_columns}
-use Rattle.definitions_execution.specs.Asking.{Asked, EqualTo, InRange, meets, asked_by, from_other_side, ComparisonAsks, TurnedComparisonAsks, BetweenAsks}
+use Rattle.definitions_execution.specs.Asking.{ScanKey, EqualTo, InRange, meets, asked_by, from_other_side, ComparisonAsks, TurnedComparisonAsks, BetweenAsks}
 use Rattle.definitions_execution.specs.Matching.{AskInTurn, MatchIsEqualPart, MatchIsRangePart}
 use Rattle.definitions_execution.proofs.KeyOrder.{key_at, entry_at, rows_by_key, run_is, run_rows}
 use Rattle.definitions.proofs.Ranking.{rank_total}
 
 -- ---- one conjunct
 
-told : (op : Op) (o : Option Ordering) → is_true (known_or_unknown (option_map (agrees op) o)) ≡ is_true_of (agrees op) o
+told : (op : ComparisonOperator) (o : Option Ordering) → is_true (known_or_unknown (option_map (agrees op) o)) ≡ is_true_of (agrees op) o
 told op None = refl
 told op (Some o) = of_bool (agrees op o)
   where
@@ -48,7 +48,7 @@ and_true : (a : Bool) → (a && true) ≡ a
 and_true true = refl
 and_true false = refl
 
-op_asks : (op : Op) (k v : Value) (asked : Asked) → asked_by op v ≡ Some asked → is_true (compared op k v) ≡ meets asked k
+op_asks : (op : ComparisonOperator) (k v : Value) (asked : ScanKey) → asked_by op v ≡ Some asked → is_true (compared op k v) ≡ meets asked k
 op_asks Equals k v asked e = told Equals (compare k v) ∙ ap (λ a. meets (unwrap_or a asked) k) e
 op_asks NotEquals k v asked e = absurd (true≢false (sym (ap is_some e)))
 op_asks LessThan k v asked e = told LessThan (compare k v) ∙ sym (no_null is_lt k v) ∙ ap (λ b. b && is_true_of is_lt (compare k v)) (sym (and_true (not (is_null k)))) ∙ ap (λ a. meets (unwrap_or a asked) k) e
@@ -67,7 +67,7 @@ compare_turned (Text t) Null = refl
 compare_turned (Text t) (Number u s) = refl
 compare_turned (Text t) (Text t') = ap Some (rank_total.antisymm (Text t) (Text t'))
 
-agrees_turned : (op : Op) (o : Ordering) → agrees op (ordering_reverse o) ≡ agrees (from_other_side op) o
+agrees_turned : (op : ComparisonOperator) (o : Ordering) → agrees op (ordering_reverse o) ≡ agrees (from_other_side op) o
 agrees_turned Equals Less = refl
 agrees_turned Equals Equal = refl
 agrees_turned Equals Greater = refl
@@ -87,7 +87,7 @@ agrees_turned GreaterOrEquals Less = refl
 agrees_turned GreaterOrEquals Equal = refl
 agrees_turned GreaterOrEquals Greater = refl
 
-compared_turned : (op : Op) (a b : Value) → compared op a b ≡ compared (from_other_side op) b a
+compared_turned : (op : ComparisonOperator) (a b : Value) → compared op a b ≡ compared (from_other_side op) b a
 compared_turned op a b = ap (λ o. known_or_unknown (option_map (agrees op) o)) (compare_turned a b) ∙ of_option (compare b a)
   where
     of_option : (o : Option Ordering) → known_or_unknown (option_map (agrees op) (option_map ordering_reverse o)) ≡ known_or_unknown (option_map (agrees (from_other_side op)) o)
@@ -116,7 +116,7 @@ between context c column type e f v w h l =
 
 -- ---- a list of them
 
-abbrev keys_meet : List Asked → Key → Bool
+abbrev keys_meet : List ScanKey → Key → Bool
 keys_meet [] key = true
 keys_meet (asked ∷ others) [] = false
 keys_meet (asked ∷ others) (k ∷ ks) = meets asked k && keys_meet others ks
@@ -176,7 +176,7 @@ run_passes columns rows test =
     ∙ sym (ap (λ es. rows_of (filter (λ (e : Entry). test e.key) es)) (run_is columns rows))
 
 module _ (context : Context) (block : Block) (composite : Composite) (table : ℕ) where
-  asked_of_key : (columns numbers : List ℕ) (asked : List Asked) → AskInTurn (stored_of context block) composite table columns numbers asked → (row : ℕ) → list_all (λ number. (stored_of context block).holds number (set composite table row)) numbers ≡ keys_meet asked (key_at columns (rows_in context.database block table) row)
+  asked_of_key : (columns numbers : List ℕ) (asked : List ScanKey) → AskInTurn (stored_of context block) composite table columns numbers asked → (row : ℕ) → list_all (λ number. (stored_of context block).holds number (set composite table row)) numbers ≡ keys_meet asked (key_at columns (rows_in context.database block table) row)
   asked_of_key [] [] [] h row = refl
   asked_of_key (c ∷ cs) [] [] h row = refl
   asked_of_key [] [] (a ∷ as') h row = absurd h
@@ -186,7 +186,7 @@ module _ (context : Context) (block : Block) (composite : Composite) (table : �
   asked_of_key [] (g ∷ gs) (a ∷ as') h row = absurd h
   asked_of_key (c ∷ cs) (g ∷ gs) (a ∷ as') h row = ap₂ (λ x y. x && y) (h.0 row) (asked_of_key cs gs as' h.1 row)
 
-  part : (index : ℕ) (numbers : List ℕ) (backward : Bool) (asked : List Asked) (test : Key → Bool) → AskInTurn (stored_of context block) composite table (index_columns context.database block table index) numbers asked → ((key : Key) → keys_meet asked key ≡ test key)
+  part : (index : ℕ) (numbers : List ℕ) (backward : Bool) (asked : List ScanKey) (test : Key → Bool) → AskInTurn (stored_of context block) composite table (index_columns context.database block table index) numbers asked → ((key : Key) → keys_meet asked key ≡ test key)
       → run (stored_of context block) (MatchingScan table index numbers backward) composite ≡ in_direction backward (rows_of (filter (λ (e : Entry). test e.key) (index_run context.database block table index)))
   part index numbers backward asked test h is =
       let columns : List ℕ = index_columns context.database block table index in

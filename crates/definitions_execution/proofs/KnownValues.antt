@@ -10,7 +10,7 @@ use Rattle.definitions.specs.Queries.Conjuncts.{tables_named}
 use Rattle.definitions.specs.Queries.Combinations.{Context, at}
 use Rattle.definitions_execution.specs.Stored.{Composite}
 use Rattle.definitions_execution.specs.OfBlock.{rows_in, combination_of, is_true_at, stored_of}
-use Rattle.definitions_execution.specs.Asking.{Asked, InRange, meets, key_column, IsKnownValue, Asks, AsksOf, ConjunctsAsk}
+use Rattle.definitions_execution.specs.Asking.{ScanKey, InRange, meets, key_column, IsKnownValue, Asks, AsksOf, ConjunctsAsk}
 use Rattle.definitions_execution.proofs.Locality.{value_steady}
 use Rattle.definitions_execution.proofs.BlockFits.{row_of}
 use Rattle.definitions_execution.proofs.KeyParts.{comparison, turned_comparison, between}
@@ -30,7 +30,7 @@ module _ (context : Context) (block : Block) (composite : Composite) (table colu
   key_is : (row : ℕ) → cell (taken row) (key_column context block composite table column) ≡ (stored_of context block).value_in (key_column context block composite table column) row
   key_is row = ap (λ values. get_or values column Rattle.definitions.specs.Value.Null) (row_of context.database block (set composite table row) table ∙ ap (λ r. get_or (rows_in context.database block table) r []) (get_or-set_same composite table row 0 lt))
 
-  asks : (condition : Condition) (asked : Asked) → ((row : ℕ) → AsksOf context (taken row) (key_column context block composite table column) condition asked) → Asks context block composite table column condition asked
+  asks : (condition : Condition) (asked : ScanKey) → ((row : ℕ) → AsksOf context (taken row) (key_column context block composite table column) condition asked) → Asks context block composite table column condition asked
   asks condition asked each number is row = ap (λ o. is_true_at context o (taken row)) is ∙ each row ∙ ap (meets asked) (key_is row)
 
 pub conjuncts_ask : ConjunctsAsk

@@ -6,7 +6,7 @@ use Rattle.std.specs.List.{AllByRecursion, list_any}
 use Rattle.std.proofs.lemmas.Nat.Bits.{bit_at-pow_same}
 use Rattle.definitions.specs.Value.{Value, SqlType}
 use Rattle.definitions.specs.IndexRun.{Inclusive}
-use Rattle.definitions.specs.Statement.{Op, Equals, LessThan, GreaterThan, LessOrEquals, GreaterOrEquals}
+use Rattle.definitions.specs.Statement.{ComparisonOperator, Equals, LessThan, GreaterThan, LessOrEquals, GreaterOrEquals}
 use Rattle.definitions.specs.Arithmetic.{Meaning, Is, Raises}
 use Rattle.definitions.specs.Plans.TableSet.{TableSet, Lacks, only}
 use Rattle.definitions.specs.Plans.Order.{BlockColumn}
@@ -19,10 +19,10 @@ use Rattle.definitions.specs.Estimates.BlockTables.{has, is_within, index_column
 use Rattle.definitions.specs.Estimates.Paths.{is_same_column, is_column, is_known, bounds_column, equals_column, limits_column, is_early_and, equals_at, matches_at}
 use Rattle.definitions_execution.specs.Stored.{Composite}
 use Rattle.definitions_execution.specs.OfBlock.{combination_of, stored_of}
-use Rattle.definitions_execution.specs.Asking.{Asked, EqualTo, InRange, meets, asked_by, from_other_side, Asks}
+use Rattle.definitions_execution.specs.Asking.{ScanKey, EqualTo, InRange, meets, asked_by, from_other_side, Asks}
 use Rattle.definitions_execution.specs.Matching.{AskInTurn}
 use Rattle.definitions_execution.specs.TypedCombinations.{HasValue, EarlyValuesExist}
-use Rattle.definitions_execution.specs.PathAsks.{if_there, asked_of, asked_at, AreAsked, IsKeyPart, PathsAsk, PathsAskKeyParts}
+use Rattle.definitions_execution.specs.PathAsks.{if_there, scan_key_of, asked_at, AreAsked, IsKeyPart, PathsAsk, PathsAskKeyParts}
 use Rattle.definitions.proofs.PlanTheory.TableSets.{has_or_lacks}
 use Rattle.definitions.proofs.EstimateTheory.Tests.{has_is}
 use Rattle.definitions_execution.proofs.Locality.{neither}
@@ -78,7 +78,7 @@ sides s column a b h = pick (either (is_column column a && is_known s column.tab
     pick (inr k) = let w = both (is_column column b) (is_known s column.table a) k in turned (is_column column a) refl w.0 w.1
 
 -- what is asked of a value that is there
-there_is : (f : Value → Option Asked) (m : Meaning Value) (asked : Asked) → if_there f m ≡ Some asked → (v : Value) × (m ≡ Is v) × (f v ≡ Some asked)
+there_is : (f : Value → Option ScanKey) (m : Meaning Value) (asked : ScanKey) → if_there f m ≡ Some asked → (v : Value) × (m ≡ Is v) × (f v ≡ Some asked)
 there_is f (Is v) asked h = (v, refl, h)
 there_is f (Raises r rs) asked h = absurd (true≢false (sym (ap is_some h)))
 
@@ -102,18 +102,18 @@ module _ (context : Context) (block : Block) (composite : Composite) (s : TableS
   abbrev env : Environment
   env = at context (combination_of context.database block composite)
 
-  abbrev AsksIt : Condition → Asked → Type 0
+  abbrev AsksIt : Condition → ScanKey → Type 0
   AsksIt = Asks context block composite t c
 
   -- by the first side or the second
-  first_side : (op : Op) (a b : ValueExpr) → is_column column a ≡ true → asked_of env column (Compare op a b) ≡ if_there (asked_by op) (value env b)
+  first_side : (op : ComparisonOperator) (a b : ValueExpr) → is_column column a ≡ true → scan_key_of env column (Compare op a b) ≡ if_there (asked_by op) (value env b)
   first_side op a b h = ap (λ x. cond x (if_there (asked_by op) (value env b)) (cond (is_column column b) (if_there (asked_by (from_other_side op)) (value env a)) None)) h
 
-  second_side : (op : Op) (a b : ValueExpr) → is_column column a ≡ false → is_column column b ≡ true → asked_of env column (Compare op a b) ≡ if_there (asked_by (from_other_side op)) (value env a)
+  second_side : (op : ComparisonOperator) (a b : ValueExpr) → is_column column a ≡ false → is_column column b ≡ true → scan_key_of env column (Compare op a b) ≡ if_there (asked_by (from_other_side op)) (value env a)
   second_side op a b h k = ap₂ (λ x y. cond x (if_there (asked_by op) (value env b)) (cond y (if_there (asked_by (from_other_side op)) (value env a)) None)) h k
 
   module _ (lt : t < length composite) where
-    compare_asks : (op : Op) (a b : ValueExpr) (asked : Asked) → bounds_column s column a b ≡ true → list_any can_raise (a ∷ b ∷ []) ≡ false → asked_of env column (Compare op a b) ≡ Some asked → AsksIt (Compare op a b) asked
+    compare_asks : (op : ComparisonOperator) (a b : ValueExpr) (asked : ScanKey) → bounds_column s column a b ≡ true → list_any can_raise (a ∷ b ∷ []) ≡ false → scan_key_of env column (Compare op a b) ≡ Some asked → AsksIt (Compare op a b) asked
     compare_asks op a b asked h calm e = pick (sides s column a b h)
       where
         calm_a : can_raise a ≡ false
@@ -134,8 +134,8 @@ module _ (context : Context) (block : Block) (composite : Composite) (s : TableS
             let (one, two, three) = conjuncts_ask context block composite t c lt in
             subst (λ x. AsksIt (Compare op a x) asked) (sym is) (two type op a v asked (calm_a, lacks, m) f)
 
-    between_asks : (x low high : ValueExpr) (asked : Asked) → (is_column column x && is_known s t low && is_known s t high) ≡ true → list_any can_raise (x ∷ low ∷ high ∷ []) ≡ false
-        → asked_of env column (Between false x low high) ≡ Some asked → AsksIt (Between false x low high) asked
+    between_asks : (x low high : ValueExpr) (asked : ScanKey) → (is_column column x && is_known s t low && is_known s t high) ≡ true → list_any can_raise (x ∷ low ∷ high ∷ []) ≡ false
+        → scan_key_of env column (Between false x low high) ≡ Some asked → AsksIt (Between false x low high) asked
     between_asks x low high asked h calm e =
         let w = both (is_column column x && is_known s t low) (is_known s t high) h in
         let w' = both (is_column column x) (is_known s t low) w.0 in
@@ -143,8 +143,8 @@ module _ (context : Context) (block : Block) (composite : Composite) (s : TableS
         let n' = neither (can_raise low) (list_any can_raise (high ∷ [])) n.1 in
         let n'' = neither (can_raise high) false n'.1 in
         let (type, is) = column_is column x w'.0 in
-        let range : Value → Value → Option Asked = λ v w. Some (InRange (Inclusive v) (Inclusive w)) in
-        let from_column : asked_of env column (Between false x low high) ≡ if_there (λ v. if_there (range v) (value env high)) (value env low) = ap (λ b. cond b (if_there (λ v. if_there (range v) (value env high)) (value env low)) None) w'.0 in
+        let range : Value → Value → Option ScanKey = λ v w. Some (InRange (Inclusive v) (Inclusive w)) in
+        let from_column : scan_key_of env column (Between false x low high) ≡ if_there (λ v. if_there (range v) (value env high)) (value env low) = ap (λ b. cond b (if_there (λ v. if_there (range v) (value env high)) (value env low)) None) w'.0 in
         let (v, m, f) = there_is (λ v. if_there (range v) (value env high)) (value env low) asked (sym from_column ∙ e) in
         let (u, m', f') = there_is (range v) (value env high) asked f in
         let (one, two, three) = conjuncts_ask context block composite t c lt in
@@ -152,11 +152,11 @@ module _ (context : Context) (block : Block) (composite : Composite) (s : TableS
         subst (λ y. AsksIt (Between false y low high) asked) (sym is)
         (subst (AsksIt (Between false (Column column type) low high)) same (three type low high v u (n'.0, known_lacks s t low w'.1, m) (n''.0, known_lacks s t high w.1, m')))
 
-    equals_asks : (k : Condition) (asked : Asked) → equals_column s column k ≡ true → list_any can_raise (values_of k) ≡ false → asked_of env column k ≡ Some asked → AsksIt k asked
+    equals_asks : (k : Condition) (asked : ScanKey) → equals_column s column k ≡ true → list_any can_raise (values_of k) ≡ false → scan_key_of env column k ≡ Some asked → AsksIt k asked
     equals_asks (Compare Equals a b) asked h calm e = compare_asks Equals a b asked h calm e
     equals_asks _ asked h calm e = absurd (true≢false (sym h))
 
-    limits_asks : (k : Condition) (asked : Asked) → limits_column s column k ≡ true → list_any can_raise (values_of k) ≡ false → asked_of env column k ≡ Some asked → AsksIt k asked
+    limits_asks : (k : Condition) (asked : ScanKey) → limits_column s column k ≡ true → list_any can_raise (values_of k) ≡ false → scan_key_of env column k ≡ Some asked → AsksIt k asked
     limits_asks (Compare LessThan a b) asked h calm e = compare_asks LessThan a b asked h calm e
     limits_asks (Compare GreaterThan a b) asked h calm e = compare_asks GreaterThan a b asked h calm e
     limits_asks (Compare LessOrEquals a b) asked h calm e = compare_asks LessOrEquals a b asked h calm e
@@ -164,14 +164,14 @@ module _ (context : Context) (block : Block) (composite : Composite) (s : TableS
     limits_asks (Between false x low high) asked h calm e = between_asks x low high asked h calm e
     limits_asks _ asked h calm e = absurd (true≢false (sym h))
 
-    pub number_asks : (g : ℕ) (asked : Asked) → matches_at block s column g ≡ true → asked_at context block composite t c g ≡ Some asked
+    pub number_asks : (g : ℕ) (asked : ScanKey) → matches_at block s column g ≡ true → asked_at context block composite t c g ≡ Some asked
         → (row : ℕ) → (stored_of context block).holds g (set composite t row) ≡ meets asked ((stored_of context block).value_in column row)
     number_asks g asked h e =
         let (k, is, early, m) = early_is block (λ k. equals_column s column k || limits_column s column k) g h in
-        let own : asked_of env column k ≡ Some asked = sym (ap (option_and_then (asked_of env column)) is) ∙ e in
+        let own : scan_key_of env column k ≡ Some asked = sym (ap (option_and_then (scan_key_of env column)) is) ∙ e in
         pick k is (calm_values k early) own (either (equals_column s column k) (limits_column s column k) m)
       where
-        pick : (k : Condition) → slice_get (conjuncts block) g ≡ Some k → list_any can_raise (values_of k) ≡ false → asked_of env column k ≡ Some asked → (equals_column s column k ≡ true) ⊎ (limits_column s column k ≡ true)
+        pick : (k : Condition) → slice_get (conjuncts block) g ≡ Some k → list_any can_raise (values_of k) ≡ false → scan_key_of env column k ≡ Some asked → (equals_column s column k ≡ true) ⊎ (limits_column s column k ≡ true)
             → (row : ℕ) → (stored_of context block).holds g (set composite t row) ≡ meets asked ((stored_of context block).value_in column row)
         pick k is calm own (inl i) = equals_asks k asked i calm own g is
         pick k is calm own (inr i) = limits_asks k asked i calm own g is
@@ -179,21 +179,21 @@ module _ (context : Context) (block : Block) (composite : Composite) (s : TableS
   -- ---- something is asked
 
   -- what a comparison asks, by the value of its other side
-  compared : (op : Op) (a b : ValueExpr) → bounds_column s column a b ≡ true → HasValue env a → HasValue env b
-      → (v : Value) × ((asked_of env column (Compare op a b) ≡ asked_by op v) ⊎ (asked_of env column (Compare op a b) ≡ asked_by (from_other_side op) v))
+  compared : (op : ComparisonOperator) (a b : ValueExpr) → bounds_column s column a b ≡ true → HasValue env a → HasValue env b
+      → (v : Value) × ((scan_key_of env column (Compare op a b) ≡ asked_by op v) ⊎ (scan_key_of env column (Compare op a b) ≡ asked_by (from_other_side op) v))
   compared op a b h (v, va) (w, vb) = pick (sides s column a b h)
     where
-      pick : AreSides column a b → (v : Value) × ((asked_of env column (Compare op a b) ≡ asked_by op v) ⊎ (asked_of env column (Compare op a b) ≡ asked_by (from_other_side op) v))
+      pick : AreSides column a b → (v : Value) × ((scan_key_of env column (Compare op a b) ≡ asked_by op v) ⊎ (scan_key_of env column (Compare op a b) ≡ asked_by (from_other_side op) v))
       pick (inl (i, lacks)) = (w, inl (first_side op a b i ∙ ap (if_there (asked_by op)) vb))
       pick (inr (n, i, lacks)) = (v, inr (second_side op a b n i ∙ ap (if_there (asked_by (from_other_side op))) va))
 
   abbrev SomeAsked : Condition → Type 0
-  SomeAsked k = (asked : Asked) × (asked_of env column k ≡ Some asked)
+  SomeAsked k = (asked : ScanKey) × (scan_key_of env column k ≡ Some asked)
 
-  some_equal : (k : Condition) → equals_column s column k ≡ true → AllByRecursion (HasValue env) (values_of k) → (v : Value) × (asked_of env column k ≡ Some (EqualTo v))
+  some_equal : (k : Condition) → equals_column s column k ≡ true → AllByRecursion (HasValue env) (values_of k) → (v : Value) × (scan_key_of env column k ≡ Some (EqualTo v))
   some_equal (Compare Equals a b) h there = pick (compared Equals a b h there.0 there.1.0)
     where
-      pick : (v : Value) × ((asked_of env column (Compare Equals a b) ≡ Some (EqualTo v)) ⊎ (asked_of env column (Compare Equals a b) ≡ Some (EqualTo v))) → (v : Value) × (asked_of env column (Compare Equals a b) ≡ Some (EqualTo v))
+      pick : (v : Value) × ((scan_key_of env column (Compare Equals a b) ≡ Some (EqualTo v)) ⊎ (scan_key_of env column (Compare Equals a b) ≡ Some (EqualTo v))) → (v : Value) × (scan_key_of env column (Compare Equals a b) ≡ Some (EqualTo v))
       pick (v, inl e) = (v, e)
       pick (v, inr e) = (v, e)
   some_equal _ h there = absurd (true≢false (sym h))
@@ -201,22 +201,22 @@ module _ (context : Context) (block : Block) (composite : Composite) (s : TableS
   some_limit : (k : Condition) → limits_column s column k ≡ true → AllByRecursion (HasValue env) (values_of k) → SomeAsked k
   some_limit (Compare LessThan a b) h there = pick (compared LessThan a b h there.0 there.1.0)
     where
-      pick : (v : Value) × ((asked_of env column (Compare LessThan a b) ≡ asked_by LessThan v) ⊎ (asked_of env column (Compare LessThan a b) ≡ asked_by GreaterThan v)) → SomeAsked (Compare LessThan a b)
+      pick : (v : Value) × ((scan_key_of env column (Compare LessThan a b) ≡ asked_by LessThan v) ⊎ (scan_key_of env column (Compare LessThan a b) ≡ asked_by GreaterThan v)) → SomeAsked (Compare LessThan a b)
       pick (v, inl e) = (_, e)
       pick (v, inr e) = (_, e)
   some_limit (Compare GreaterThan a b) h there = pick (compared GreaterThan a b h there.0 there.1.0)
     where
-      pick : (v : Value) × ((asked_of env column (Compare GreaterThan a b) ≡ asked_by GreaterThan v) ⊎ (asked_of env column (Compare GreaterThan a b) ≡ asked_by LessThan v)) → SomeAsked (Compare GreaterThan a b)
+      pick : (v : Value) × ((scan_key_of env column (Compare GreaterThan a b) ≡ asked_by GreaterThan v) ⊎ (scan_key_of env column (Compare GreaterThan a b) ≡ asked_by LessThan v)) → SomeAsked (Compare GreaterThan a b)
       pick (v, inl e) = (_, e)
       pick (v, inr e) = (_, e)
   some_limit (Compare LessOrEquals a b) h there = pick (compared LessOrEquals a b h there.0 there.1.0)
     where
-      pick : (v : Value) × ((asked_of env column (Compare LessOrEquals a b) ≡ asked_by LessOrEquals v) ⊎ (asked_of env column (Compare LessOrEquals a b) ≡ asked_by GreaterOrEquals v)) → SomeAsked (Compare LessOrEquals a b)
+      pick : (v : Value) × ((scan_key_of env column (Compare LessOrEquals a b) ≡ asked_by LessOrEquals v) ⊎ (scan_key_of env column (Compare LessOrEquals a b) ≡ asked_by GreaterOrEquals v)) → SomeAsked (Compare LessOrEquals a b)
       pick (v, inl e) = (_, e)
       pick (v, inr e) = (_, e)
   some_limit (Compare GreaterOrEquals a b) h there = pick (compared GreaterOrEquals a b h there.0 there.1.0)
     where
-      pick : (v : Value) × ((asked_of env column (Compare GreaterOrEquals a b) ≡ asked_by GreaterOrEquals v) ⊎ (asked_of env column (Compare GreaterOrEquals a b) ≡ asked_by LessOrEquals v)) → SomeAsked (Compare GreaterOrEquals a b)
+      pick : (v : Value) × ((scan_key_of env column (Compare GreaterOrEquals a b) ≡ asked_by GreaterOrEquals v) ⊎ (scan_key_of env column (Compare GreaterOrEquals a b) ≡ asked_by LessOrEquals v)) → SomeAsked (Compare GreaterOrEquals a b)
       pick (v, inl e) = (_, e)
       pick (v, inr e) = (_, e)
   some_limit (Between false x low high) h there =
@@ -224,7 +224,7 @@ module _ (context : Context) (block : Block) (composite : Composite) (s : TableS
       let (w, vh) = there.1.1.0 in
       let one = both (is_column column x && is_known s t low) (is_known s t high) h in
       let two = both (is_column column x) (is_known s t low) one.0 in
-      let range : Value → Value → Option Asked = λ v w. Some (InRange (Inclusive v) (Inclusive w)) in (
+      let range : Value → Value → Option ScanKey = λ v w. Some (InRange (Inclusive v) (Inclusive w)) in (
         InRange (Inclusive v) (Inclusive w),
         ap (λ b. cond b (if_there (λ v. if_there (range v) (value env high)) (value env low)) None) two.0 ∙ ap₂ (λ m n. if_there (λ v. if_there (range v) n) m) vl vh,
       )
@@ -242,23 +242,23 @@ module _ (context : Context) (block : Block) (composite : Composite) (s : TableS
     equal_at g h =
         let (k, is, early, m) = early_is block (equals_column s column) g h in
         let (v, e) = some_equal k m (exist g k is early) in
-        (v, ap (option_and_then (asked_of env column)) is ∙ e)
+        (v, ap (option_and_then (scan_key_of env column)) is ∙ e)
 
-    any_at : (g : ℕ) → matches_at block s column g ≡ true → (asked : Asked) × (asked_at context block composite t c g ≡ Some asked)
+    any_at : (g : ℕ) → matches_at block s column g ≡ true → (asked : ScanKey) × (asked_at context block composite t c g ≡ Some asked)
     any_at g h =
         let (k, is, early, m) = early_is block (λ k. equals_column s column k || limits_column s column k) g h in
         let (asked, e) = some_asked k m (exist g k is early) in
-        (asked, ap (option_and_then (asked_of env column)) is ∙ e)
+        (asked, ap (option_and_then (scan_key_of env column)) is ∙ e)
 
 -- ---- in turn
 
 module _ (context : Context) (block : Block) (composite : Composite) (s : TableSet) (t : ℕ) where
-  nothing_left : (columns : List ℕ) (asked : List Asked) → asked ≡ [] → AskInTurn (stored_of context block) composite t columns [] asked
+  nothing_left : (columns : List ℕ) (asked : List ScanKey) → asked ≡ [] → AskInTurn (stored_of context block) composite t columns [] asked
   nothing_left [] [] e = tt
   nothing_left (c ∷ cs) [] e = tt
   nothing_left columns (a ∷ as') e = let l = ap length e in absurd (omega (arith, l))
 
-  walk : t < length composite → (columns : List ℕ) (gs : List ℕ) (asked : List Asked) → InTurn context.database block s t columns gs → AreAsked context block composite t columns gs asked
+  walk : t < length composite → (columns : List ℕ) (gs : List ℕ) (asked : List ScanKey) → InTurn context.database block s t columns gs → AreAsked context block composite t columns gs asked
       → AskInTurn (stored_of context block) composite t columns gs asked
   walk lt [] gs asked h e = absurd h
   walk lt (c ∷ cs) gs [] (inl (g, is, m)) e = absurd (subst (λ ns. AreAsked context block composite t (c ∷ cs) ns []) is e)
@@ -270,15 +270,15 @@ module _ (context : Context) (block : Block) (composite : Composite) (s : TableS
       let w = subst (λ ns. AreAsked context block composite t (c ∷ cs) ns (a ∷ as')) is e in
       subst (λ ns. AskInTurn (stored_of context block) composite t (c ∷ cs) ns (a ∷ as')) (sym is) (number_asks context block composite s t c lt g a m w.0, walk lt cs others as' rest w.1)
 
-  alone : (asked : Asked) → IsKeyPart (asked ∷ [])
+  alone : (asked : ScanKey) → IsKeyPart (asked ∷ [])
   alone (EqualTo v) = inl (v ∷ [], refl)
   alone (InRange low high) = inr ([], low, high, refl)
 
-  one_more : (v : Value) (asked : List Asked) → IsKeyPart asked → IsKeyPart (EqualTo v ∷ asked)
+  one_more : (v : Value) (asked : List ScanKey) → IsKeyPart asked → IsKeyPart (EqualTo v ∷ asked)
   one_more v asked (inl (values, e)) = inl (v ∷ values, ap (λ as'. EqualTo v ∷ as') e)
   one_more v asked (inr (values, low, high, e)) = inr (v ∷ values, low, high, ap (λ as'. EqualTo v ∷ as') e)
 
-  find : EarlyValuesExist context block composite → (columns : List ℕ) (gs : List ℕ) → InTurn context.database block s t columns gs → (asked : List Asked) × AreAsked context block composite t columns gs asked × IsKeyPart asked
+  find : EarlyValuesExist context block composite → (columns : List ℕ) (gs : List ℕ) → InTurn context.database block s t columns gs → (asked : List ScanKey) × AreAsked context block composite t columns gs asked × IsKeyPart asked
   find exist [] gs h = absurd h
   find exist (c ∷ cs) gs (inl (g, is, m)) =
       let (a, e) = any_at context block composite s t c exist g m in

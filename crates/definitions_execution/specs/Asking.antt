@@ -3,7 +3,7 @@
 use Rattle.std.specs.Prelude.{ℕ, ◌<◌, length, slice_get, ◌≡◌, set, Bool, false, not, ◌&&◌, Option, Some, None}
 use Rattle.std.specs.Ordering.{is_eq}
 use Rattle.definitions.specs.Value.{Value, SqlType, compare}
-use Rattle.definitions.specs.Statement.{Op, Equals, NotEquals, LessThan, GreaterThan, LessOrEquals, GreaterOrEquals}
+use Rattle.definitions.specs.Statement.{ComparisonOperator, Equals, NotEquals, LessThan, GreaterThan, LessOrEquals, GreaterOrEquals}
 use Rattle.definitions.specs.Key.{is_null}
 use Rattle.definitions.specs.IndexRun.{Limit, Unlimited, Inclusive, Exclusive, is_true_of, is_from, is_up_to}
 use Rattle.definitions.specs.Arithmetic.{Is}
@@ -18,16 +18,16 @@ use Rattle.definitions_execution.specs.Stored.{Composite}
 use Rattle.definitions_execution.specs.OfBlock.{combination_of, stored_of}
 
 -- a column is to equal a value, or it is not to be null and to lie in a range
-pub data Asked : Type 0 where
-  EqualTo : (value : Value) → Asked
-  InRange : (low high : Limit) → Asked
+pub data ScanKey : Type 0 where
+  EqualTo : (value : Value) → ScanKey
+  InRange : (low high : Limit) → ScanKey
 
-abbrev pub meets : Asked → Value → Bool
+abbrev pub meets : ScanKey → Value → Bool
 meets (EqualTo v) k = is_true_of is_eq (compare k v)
 meets (InRange low high) k = not (is_null k) && is_from low k && is_up_to high k
 
 -- by column op value; nothing is asked by `<>`
-abbrev pub asked_by : Op → Value → Option Asked
+abbrev pub asked_by : ComparisonOperator → Value → Option ScanKey
 asked_by Equals v = Some (EqualTo v)
 asked_by NotEquals v = None
 asked_by LessThan v = Some (InRange Unlimited (Exclusive v))
@@ -36,7 +36,7 @@ asked_by LessOrEquals v = Some (InRange Unlimited (Inclusive v))
 asked_by GreaterOrEquals v = Some (InRange (Inclusive v) Unlimited)
 
 -- value op column is column op' value
-abbrev pub from_other_side : Op → Op
+abbrev pub from_other_side : ComparisonOperator → ComparisonOperator
 from_other_side Equals = Equals
 from_other_side NotEquals = NotEquals
 from_other_side LessThan = GreaterThan
@@ -45,15 +45,15 @@ from_other_side LessOrEquals = GreaterOrEquals
 from_other_side GreaterOrEquals = LessOrEquals
 
 -- a condition is true exactly where a column has what is asked of it
-abbrev pub AsksOf : Context → Combination → BlockColumn → Condition → Asked → Type 0
+abbrev pub AsksOf : Context → Combination → BlockColumn → Condition → ScanKey → Type 0
 AsksOf context combination column condition asked = is_surely_true (truth (at context combination) condition) ≡ meets asked (cell combination column)
 
 abbrev pub ComparisonAsks : Type 0
-ComparisonAsks = (context : Context) (combination : Combination) (column : BlockColumn) (type : SqlType) (op : Op) (e : ValueExpr) (v : Value) (asked : Asked)
+ComparisonAsks = (context : Context) (combination : Combination) (column : BlockColumn) (type : SqlType) (op : ComparisonOperator) (e : ValueExpr) (v : Value) (asked : ScanKey)
     → value (at context combination) e ≡ Is v → asked_by op v ≡ Some asked → AsksOf context combination column (Compare op (Column column type) e) asked
 
 abbrev pub TurnedComparisonAsks : Type 0
-TurnedComparisonAsks = (context : Context) (combination : Combination) (column : BlockColumn) (type : SqlType) (op : Op) (e : ValueExpr) (v : Value) (asked : Asked)
+TurnedComparisonAsks = (context : Context) (combination : Combination) (column : BlockColumn) (type : SqlType) (op : ComparisonOperator) (e : ValueExpr) (v : Value) (asked : ScanKey)
     → value (at context combination) e ≡ Is v → asked_by (from_other_side op) v ≡ Some asked → AsksOf context combination column (Compare op e (Column column type)) asked
 
 abbrev pub BetweenAsks : Type 0
@@ -70,14 +70,14 @@ module _ (context : Context) (block : Block) (composite : Composite) (table colu
   abbrev pub IsKnownValue : ValueExpr → Value → Type 0
   IsKnownValue e v = (can_raise e ≡ false) × Lacks (tables_named e) table × (value (at context (combination_of context.database block composite)) e ≡ Is v)
 
-  abbrev pub Asks : Condition → Asked → Type 0
+  abbrev pub Asks : Condition → ScanKey → Type 0
   Asks condition asked = (number : ℕ) → slice_get (conjuncts block) number ≡ Some condition
       → (row : ℕ) → (stored_of context block).holds number (set composite table row) ≡ meets asked ((stored_of context block).value_in key_column row)
 
   abbrev pub KnownValuesAsk : Type 0
   KnownValuesAsk = table < length composite
-      → ((type : SqlType) (op : Op) (e : ValueExpr) (v : Value) (asked : Asked) → IsKnownValue e v → asked_by op v ≡ Some asked → Asks (Compare op (Column key_column type) e) asked)
-      × ((type : SqlType) (op : Op) (e : ValueExpr) (v : Value) (asked : Asked) → IsKnownValue e v → asked_by (from_other_side op) v ≡ Some asked → Asks (Compare op e (Column key_column type)) asked)
+      → ((type : SqlType) (op : ComparisonOperator) (e : ValueExpr) (v : Value) (asked : ScanKey) → IsKnownValue e v → asked_by op v ≡ Some asked → Asks (Compare op (Column key_column type) e) asked)
+      × ((type : SqlType) (op : ComparisonOperator) (e : ValueExpr) (v : Value) (asked : ScanKey) → IsKnownValue e v → asked_by (from_other_side op) v ≡ Some asked → Asks (Compare op e (Column key_column type)) asked)
       × ((type : SqlType) (e f : ValueExpr) (v w : Value) → IsKnownValue e v → IsKnownValue f w → Asks (Between false (Column key_column type) e f) (InRange (Inclusive v) (Inclusive w)))
 
 abbrev pub ConjunctsAsk : Type 0

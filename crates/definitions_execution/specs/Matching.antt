@@ -10,10 +10,10 @@ use Rattle.definitions.specs.Estimates.BlockTables.{index_columns}
 use Rattle.definitions_execution.specs.Stored.{Composite, Stored, in_direction}
 use Rattle.definitions_execution.specs.Running.{run}
 use Rattle.definitions_execution.specs.OfBlock.{index_run, stored_of}
-use Rattle.definitions_execution.specs.Asking.{Asked, EqualTo, InRange, meets}
+use Rattle.definitions_execution.specs.Asking.{ScanKey, EqualTo, InRange, meets}
 
 -- conjuncts ask something of the first columns of an index, in turn, whatever row of the table is taken
-abbrev pub AskInTurn : Stored → Composite → ℕ → List ℕ → List ℕ → List Asked → Type 0
+abbrev pub AskInTurn : Stored → Composite → ℕ → List ℕ → List ℕ → List ScanKey → Type 0
 AskInTurn stored composite table columns [] [] = ⊤
 AskInTurn stored composite table (column ∷ columns) (number ∷ numbers) (asked ∷ others) =
     ((row : ℕ) → stored.holds number (set composite table row) ≡ meets asked (stored.value_in (record { table = table; number = column }) row))

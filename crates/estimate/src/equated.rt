@@ -7,7 +7,7 @@ ghost use Rattle.query_tree.specs.Bound as bound;
 ghost use Rattle.estimate.specs.Columns.{pair_of};
 
 use query_tree::{BlockColumn, Condition, ValueExpr};
-use sqlvalue::Op;
+use sqlvalue::ComparisonOperator;
 
 /// The columns of `column = column`.
 pub(crate) fn equated_columns(condition: &Condition) -> Option<(BlockColumn, BlockColumn)>
@@ -15,7 +15,7 @@ pub(crate) fn equated_columns(condition: &Condition) -> Option<(BlockColumn, Blo
 {
     match condition {
         Condition::Compare {
-            op: Op::Equals,
+            op: ComparisonOperator::Equals,
             left,
             right,
         } => match (column_of(left), column_of(right)) {

@@ -14,7 +14,7 @@ use Rattle.sqlvalue.specs.Raises.{raise_of}
 use Rattle.definitions_execution.specs.Stored.{Composite}
 use Rattle.scans.specs.Composites.{numbers_in}
 use Rattle.scans.specs.declared.composite.Composite as code
-use Rattle.scans.specs.Sources.{Source, block_in}
+use Rattle.scans.specs.Sources.{BlockSource, block_in}
 use Rattle.executor.specs.Faults.{IfRaised}
 use Rattle.executor.specs.Telling.{column_raises, late_raises, late_raises_on, names_of, rows_of, ArrangePassing, HaveTaken, IsRaiseOf, IsTextOf, MayTell}
 use Rattle.executor.specs.declared.fault.AnswerFault.{AnswerFault}
@@ -32,7 +32,7 @@ split_later all done rest left c split is = split ∙ ap (λ l. done ++ l) is �
 pub all_done : (all done left : List Composite) → all ≡ done ++ left → left ≡ [] → done ≡ all
 all_done all done left split none = sym (split ∙ ap (λ l. done ++ l) none ∙ append-nil done)
 
-module _ (source : Source) (outer : List Combination) (all : List Composite) (plain : IsPlain (block_in source)) (arranged : ArrangePassing source outer all) where
+module _ (source : BlockSource) (outer : List Combination) (all : List Composite) (plain : IsPlain (block_in source)) (arranged : ArrangePassing source outer all) where
   abbrev raised_at : Composite → List arithmetic.Raise
   raised_at = late_raises_on source outer
 

@@ -7,7 +7,7 @@ use Rattle.definitions.specs.ValueType.{ValueType}
 use Rattle.definitions.specs.Table.{Database}
 use Rattle.definitions.specs.Invariant.{IsDatabase}
 use Rattle.definitions.specs.Plans.Order.{BlockColumn}
-use Rattle.definitions.specs.Queries.BoundBlock.{ValueExpr, Column, Parameter, Numeral, String, Signed, Chain, SetValue, Subquery, Operands, NoOperand, Operand, Condition, Item, Block, Blocks}
+use Rattle.definitions.specs.Queries.BoundBlock.{ValueExpr, Column, Parameter, Numeral, String, Signed, Chain, AggregateValue, Subquery, Operands, NoOperand, Operand, Condition, Item, Block, Blocks}
 use Rattle.definitions.specs.Queries.BoundTypes.{value_type}
 use Rattle.definitions.specs.Queries.Conjuncts.{conjuncts, is_late, late_conjuncts, values_of}
 use Rattle.definitions.specs.Queries.Evaluation.{Combination}
@@ -19,7 +19,7 @@ use Rattle.definitions_execution.specs.TypedCombinations.{AreTypedAround}
 use Rattle.definitions_execution.proofs.FormedNames.{OfValues, typed_conjuncts}
 use Rattle.definitions_execution.proofs.TypedRows.{rows_typed, column_type, composites_typed}
 use Rattle.scans.specs.Asks.{CanEvaluate}
-use Rattle.scans.specs.Sources.{Source, block_in, environment_at, IsSurrounded}
+use Rattle.scans.specs.Sources.{BlockSource, block_in, environment_at, IsSurrounded}
 use Rattle.executor.specs.OneComposite.{CanGive}
 
 own_type : (db : Database) (block : Block) (column : BlockColumn) (type : SqlType) → IsDatabase db → HasColumn db block column type → IsType type
@@ -41,7 +41,7 @@ weaker : {X : Type 0} (P Q : X → Type 0) → ((x : X) → P x → Q x) → (xs
 weaker P Q f [] h = tt
 weaker P Q f (x ∷ xs) h = (f x h.0, weaker P Q f xs h.1)
 
-module _ (source : Source) (outer : List Combination) (composite : Composite) (valid : IsDatabase source.database) (blocks around : Blocks) (n : ℕ) (typed : AreTypedAround source.database around outer) where
+module _ (source : BlockSource) (outer : List Combination) (composite : Composite) (valid : IsDatabase source.database) (blocks around : Blocks) (n : ℕ) (typed : AreTypedAround source.database around outer) where
   abbrev Formed : ValueExpr → Type 0
   Formed = IsFormedValue source.database blocks around n (block_in source)
 
@@ -57,7 +57,7 @@ module _ (source : Source) (outer : List Combination) (composite : Composite) (v
     fitting (String codes) f = tt
     fitting (Signed minus operand) f = fitting operand f
     fitting (Chain first others) f = (fitting first f.0, all_fitting others f.1)
-    fitting (SetValue number type) f = tt
+    fitting (AggregateValue number type) f = tt
     fitting (Subquery number type) f = tt
 
     all_fitting : (others : Operands) → AreFormedOperands source.database blocks around n (block_in source) others → AllFitTypes (environment_at source outer composite) others
@@ -76,7 +76,7 @@ module _ (source : Source) (outer : List Combination) (composite : Composite) (v
   can_give : (item : Item) → TypedIn item.value → CanGive (environment_at source outer composite) item
   can_give item h = record { fits = fitting item.value h.0; typed = some_type (value_type item.value) h.1 }
 
-module _ (source : Source) (outer : List Combination) (composite : Composite) (valid : IsDatabase source.database) (surrounded : IsSurrounded source outer) where
+module _ (source : BlockSource) (outer : List Combination) (composite : Composite) (valid : IsDatabase source.database) (surrounded : IsSurrounded source outer) where
   pub late_can : AllByRecursion (CanEvaluate (environment_at source outer composite)) (late_conjuncts (block_in source))
   late_can =
       let (blocks, around, n, formed, typed) = surrounded in

@@ -16,7 +16,7 @@ use Rattle.definitions.specs.Queries.Answer.{answer_after_where, block_answer, i
 use Rattle.definitions.specs.Queries.Outcomes.{Allowed, Exception, Rows, row_order}
 use Rattle.definitions_execution.specs.Stored.{Composite}
 use Rattle.definitions_execution.specs.OfBlock.{combination_of}
-use Rattle.scans.specs.Sources.{Source, block_in, context_in}
+use Rattle.scans.specs.Sources.{BlockSource, block_in, context_in}
 use Rattle.executor.specs.OneComposite.{row_in, row_raises_in}
 use Rattle.executor.specs.Telling.{column_raises, kept, late_raises, rows_of, ArrangePassing, MayTell}
 use Rattle.executor.proofs.AnswerArranged.{filter_arranged, flat_map_arranged, nothing_arranged}
@@ -67,7 +67,7 @@ columns_told : {X : Type 0} (g : X → List Row) (rs : List Raise) (x : X) (r : 
 columns_told g [] x r h = absurd (omega (arith, h.1))
 columns_told g (q ∷ qs) x r h = h
 
-module _ (source : Source) (outer : List Combination) (all : List Composite) (plain : IsPlain (block_in source)) (arranged : ArrangePassing source outer all) where
+module _ (source : BlockSource) (outer : List Combination) (all : List Composite) (plain : IsPlain (block_in source)) (arranged : ArrangePassing source outer all) where
   abbrev context : Context
   context = context_in source outer
 

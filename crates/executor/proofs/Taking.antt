@@ -10,14 +10,14 @@ use Rattle.definitions.specs.Queries.BoundBlock.{Condition, Item}
 use Rattle.definitions.specs.Queries.Conjuncts.{late_conjuncts}
 use Rattle.definitions.specs.Queries.Evaluation.{Combination, Environment}
 use Rattle.definitions_execution.specs.Stored.{Composite}
-use Rattle.scans.specs.Sources.{Source, block_in, environment_at}
+use Rattle.scans.specs.Sources.{BlockSource, block_in, environment_at}
 use Rattle.executor.specs.Faults.{IfRaised}
 use Rattle.executor.specs.declared.fault.AnswerFault.{AnswerFault}
 use Rattle.executor.specs.OneComposite.{are_true_in, raised_in, row_in, row_raises_in}
 use Rattle.executor.specs.Telling.{column_raises, kept, late_raises, names_of, rows_of, HaveTaken, HaveTakenOneMore, Tells, TellsOneMore}
 use Rattle.executor.specs.declared.lines.Lines.{Lines}
 
-module _ (source : Source) (outer : List Combination) (done : List Composite) (composite : Composite) where
+module _ (source : BlockSource) (outer : List Combination) (done : List Composite) (composite : Composite) where
   abbrev env : Environment
   env = environment_at source outer composite
 
@@ -65,7 +65,7 @@ module _ (source : Source) (outer : List Combination) (done : List Composite) (c
   }
 
 -- as code has the composite and the conditions
-module _ (source : Source) (outer : List Combination) (numbers composite : Composite) (conditions : List Condition) (is : numbers ≡ composite) (late : conditions ≡ late_conjuncts (block_in source)) where
+module _ (source : BlockSource) (outer : List Combination) (numbers composite : Composite) (conditions : List Condition) (is : numbers ≡ composite) (late : conditions ≡ late_conjuncts (block_in source)) where
   abbrev there : Environment
   there = environment_at source outer numbers
 

@@ -13,24 +13,24 @@ use Rattle.sqlvalue.specs.Raises.{raise_of}
 use Rattle.sqlvalue.specs.declared.arithmetic.Raise.{Raise}
 use Rattle.definitions_execution.specs.Stored.{Composite}
 use Rattle.definitions_execution.specs.OfBlock.{combination_of}
-use Rattle.scans.specs.Sources.{Source, block_in, context_in, environment_at}
+use Rattle.scans.specs.Sources.{BlockSource, block_in, context_in, environment_at}
 use Rattle.executor.specs.OneComposite.{are_true_in, raised_in, row_in, row_raises_in}
 use Rattle.executor.specs.declared.lines.Lines.{Lines}
 
 -- what may be told of a block that has no order, in the rows of the blocks around it
-abbrev pub MayTell : Source → List Combination → Told → Type 0
+abbrev pub MayTell : BlockSource → List Combination → Told → Type 0
 MayTell source outer told = Allowed (block_answer (context_in source outer) (block_in source)) [] told
 
 -- composites stand for all combinations that pass the early conjuncts, each as often as there
-abbrev pub ArrangePassing : Source → List Combination → List Composite → Type 0
+abbrev pub ArrangePassing : BlockSource → List Combination → List Composite → Type 0
 ArrangePassing source outer composites = IsPermutation (passing (context_in source outer) (block_in source)) (map (combination_of source.database (block_in source)) composites)
 
-abbrev pub names_of : Source → List (List ℕ)
+abbrev pub names_of : BlockSource → List (List ℕ)
 names_of source = map (λ (i : Item). i.name) (block_in source).items
 
 -- ---- rows of composites
 
-module _ (source : Source) (outer : List Combination) where
+module _ (source : BlockSource) (outer : List Combination) where
   -- what late conjuncts raise on a composite, and on composites
   abbrev pub late_raises_on : Composite → List arithmetic.Raise
   late_raises_on composite = raised_in (environment_at source outer composite) (late_conjuncts (block_in source))
@@ -79,9 +79,9 @@ abbrev pub IsCounted : Lines → Type 0
 IsCounted lines = IsCountedBy lines.raised lines
 
 -- they tell of composites on which no late conjunct raises
-pub record HaveTaken (source : Source) (outer : List Combination) (composites : List Composite) (lines : Lines) : Type 0 where
+pub record HaveTaken (source : BlockSource) (outer : List Combination) (composites : List Composite) (lines : Lines) : Type 0 where
   pub quiet : late_raises source outer composites ≡ []
   pub told : Tells (names_of source) (rows_of source outer composites) (column_raises source outer composites) lines
 
-abbrev pub HaveTakenOneMore : Source → List Combination → Composite → Lines → Lines → Type 0
+abbrev pub HaveTakenOneMore : BlockSource → List Combination → Composite → Lines → Lines → Type 0
 HaveTakenOneMore source outer composite lines lines' = (composites : List Composite) → HaveTaken source outer composites lines → HaveTaken source outer (composites ++ composite ∷ []) lines'

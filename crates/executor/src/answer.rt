@@ -21,7 +21,7 @@ use catalog::Database;
 use operators::open;
 use plan_tree::{Plan, SortKey};
 use query_tree::Block;
-use scans::{Outermost, Source};
+use scans::{NoOuterRows, BlockSource};
 use std::alloc::Global;
 
 /// What a block prints: the answer of a query of one block that is neither grouped nor DISTINCT nor ordered, by a least plan of it; and how
@@ -38,7 +38,7 @@ pub fn answer_text<'a>(
     ensures work { IfOk result (λ r. IsTotal current_version database.now (block_of block.now ∷ []) r.1) }
     ensures raised { IfErr result (λ fault. IfRaised fault (λ raise. AllowedOf database.now (block_of block.now ∷ []) (Exception raise))) }
 {
-    let source = Source::new(alloc, database, block)?;
+    let source = BlockSource::new(alloc, database, block)?;
     let (space, plan) = least_plan(alloc, database, block)?;
     run(alloc, &source, block, space.orders(), &plan)
 }
@@ -46,7 +46,7 @@ pub fn answer_text<'a>(
 /// The same, by a plan whose orders are given.
 fn run<'s>(
     alloc: Global,
-    source: &'s Source<'_>,
+    source: &'s BlockSource<'_>,
     block: &Block,
     orders: &[Vec<SortKey>],
     plan: &'s Plan,
@@ -60,7 +60,7 @@ fn run<'s>(
     ensures work { IfOk result (λ r. IsTotal current_version source.now.database (block_in source.now ∷ []) r.1) }
     ensures raised { IfErr result (λ fault. IfRaised fault (λ raise. AllowedOf source.now.database (block_in source.now ∷ []) (Exception raise))) }
 {
-    let mut line = open(alloc, source, orders, plan, &Outermost)?;
-    let text = crate::answer_rows::answer_text(alloc, source, block, &Outermost, &mut line)?;
+    let mut line = open(alloc, source, orders, plan, &NoOuterRows)?;
+    let text = crate::answer_rows::answer_text(alloc, source, block, &NoOuterRows, &mut line)?;
     Ok((text, line.opened()))
 }

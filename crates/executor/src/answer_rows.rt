@@ -17,16 +17,16 @@ use crate::fault::AnswerFault;
 use crate::late::{late_conditions, try_all};
 use crate::lines::Lines;
 use query_tree::{Block, Condition, Item};
-use scans::{Around, Composite, Place, Pull, Source};
+use scans::{OuterRows, Composite, RowContext, TupleSource, BlockSource};
 use std::alloc::Global;
 
 /// What a block prints of the composites that pass its early conjuncts: its header, its rows and how many there are; or an
 /// exception that it raises (ISO/IEC 9075:1992, 7.6, 7.9; the form is own). Each composite is taken once and none is kept, so
 /// the text is all the memory that it takes, but for a list of the late conjuncts. Those are all evaluated on each composite,
 /// and what they raise is told before what the result columns raise (own).
-pub fn answer_text<P: Pull, A: Around>(
+pub fn answer_text<P: TupleSource, A: OuterRows>(
     alloc: Global,
-    source: &Source<'_>,
+    source: &BlockSource<'_>,
     block: &Block,
     around: &A,
     pull: &mut P,
@@ -55,9 +55,9 @@ pub fn answer_text<P: Pull, A: Around>(
 }
 
 /// Takes a composite: its row is added where the late conjuncts are true.
-fn take<A: Around>(
+fn take<A: OuterRows>(
     lines: &mut Lines,
-    source: &Source<'_>,
+    source: &BlockSource<'_>,
     late: &[&Condition],
     items: &[Item],
     composite: &Composite,
@@ -72,7 +72,7 @@ fn take<A: Around>(
     ensures counted { OnOk result (IsCounted lines.new) }
     ensures raised { IfErr result (λ fault. IfRaised fault (Contains (late_raises_on source.now (A.combinations around.now) (numbers_in (length (block_in source.now).tables) composite.now)))) }
 {
-    let place = Place {
+    let place = RowContext {
         source,
         rows: composite.numbers(source.table_count()),
         around,

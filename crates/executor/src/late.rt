@@ -9,16 +9,16 @@ ghost use Rattle.sqlvalue.specs.Raises.{raise_of};
 ghost use Rattle.executor.specs.Views.{conditions_of};
 ghost use Rattle.executor.specs.OneComposite.{are_true_in, raised_in};
 
-use expr::{Surroundings, truth};
+use expr::{Environment, truth};
 use query_tree::Condition;
-use scans::Source;
+use scans::BlockSource;
 use sqlvalue::Raise;
 use std::alloc::{AllocError, Global};
 
 /// The late conjuncts of a block, in text order.
 pub(crate) fn late_conditions<'s>(
     alloc: Global,
-    source: &'s Source<'s>,
+    source: &'s BlockSource<'s>,
 ) -> Result<Vec<&'s Condition>, AllocError>
     ensures { IfOk result (λ conditions. conditions_of conditions.items ≡ late_conjuncts (block_in source.now)) }
 {
@@ -32,7 +32,7 @@ pub(crate) fn late_conditions<'s>(
 }
 
 /// Whether all conditions are true. All are evaluated, whatever the others say, and the first that raises is told (own).
-pub(crate) fn try_all<S: Surroundings>(conditions: &[&Condition], env: &S) -> Result<bool, Raise>
+pub(crate) fn try_all<S: Environment>(conditions: &[&Condition], env: &S) -> Result<bool, Raise>
     requires { AllByRecursion (CanEvaluate (S.environment env.now)) (conditions_of conditions.now) }
     ensures truth { IfOk result (λ all. all ≡ are_true_in (S.environment env.now) (conditions_of conditions.now)) }
     ensures quiet { OnOk result (raised_in (S.environment env.now) (conditions_of conditions.now) ≡ []) }

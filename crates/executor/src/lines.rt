@@ -10,7 +10,7 @@ ghost use Rattle.executor.specs.Views.{items_of};
 
 use crate::fault::AnswerFault;
 use crate::row::{write_header, write_row};
-use expr::Surroundings;
+use expr::Environment;
 use query_tree::Item;
 use sqlvalue::{Raise, write_decimal};
 use std::alloc::{AllocError, Global};
@@ -40,7 +40,7 @@ impl Lines {
     }
 
     /// Adds a row, unless a result column has raised.
-    pub fn add<S: Surroundings>(&mut self, items: &[Item], env: &S) -> Result<(), AllocError>
+    pub fn add<S: Environment>(&mut self, items: &[Item], env: &S) -> Result<(), AllocError>
         requires can { AllByRecursion (CanGive (S.environment env.now)) (items_of items.now) }
         requires counted { IsCounted self.old }
         ensures told { OnOk result (TellsOneMore (S.environment env.now) (items_of items.now) self.old self.new) }

@@ -9,7 +9,7 @@ ghost use Rattle.executor.specs.OneComposite.{row_raises_in, row_in, CanGive};
 ghost use Rattle.executor.specs.Views.{items_of};
 
 use crate::fault::AnswerFault;
-use expr::{Surroundings, value};
+use expr::{Environment, value};
 use query_tree::Item;
 use sqlvalue::write_value;
 use std::alloc::AllocError;
@@ -29,7 +29,7 @@ pub(crate) fn write_header(out: &mut Vec<u8>, items: &[Item]) -> Result<(), Allo
 }
 
 /// The values of the result columns; or the first exception that one of them raises.
-pub(crate) fn write_row<S: Surroundings>(
+pub(crate) fn write_row<S: Environment>(
     out: &mut Vec<u8>,
     items: &[Item],
     env: &S,

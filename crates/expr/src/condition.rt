@@ -19,13 +19,13 @@ use crate::predicate::{
     both, compared, either, fits, has_row, is_null, opposite, quantified, unless,
 };
 use crate::short::compared_in_short;
-use crate::surroundings::Surroundings;
+use crate::surroundings::Environment;
 use query_tree::{Condition, Quantifier, ValueExpr};
-use sqlvalue::{Op, Raise, Tri, Value};
+use sqlvalue::{ComparisonOperator, Raise, Tri, Value};
 
 /// The truth value of a condition, or what it raises first in text order: all parts are evaluated (own; ISO/IEC 9075:1992,
 /// 8.1 to 8.12). Takes no memory.
-pub fn truth<'a, S: Surroundings>(condition: &'a Condition, env: &'a S) -> Result<Tri, Raise>
+pub fn truth<'a, S: Environment>(condition: &'a Condition, env: &'a S) -> Result<Tri, Raise>
     requires fits { AllByRecursion (FitsTypes (S.environment env.now)) (values_of (condition_of condition.now)) }
     requires typed { AllByRecursion IsTyped (values_of (condition_of condition.now)) }
     ensures { MayAnswer (meaning.truth (S.environment env.now) (condition_of condition.now)) (truth_answer_of result) }
@@ -76,7 +76,7 @@ pub fn truth<'a, S: Surroundings>(condition: &'a Condition, env: &'a S) -> Resul
         } => unless(
             *negated,
             quantified(
-                Op::Equals,
+                ComparisonOperator::Equals,
                 Quantifier::Any,
                 value(operand, env),
                 env.first_values(*block),
@@ -110,13 +110,13 @@ fn between(
     ensures { (m l h : Meaning spec.Value) → MayAnswer m (answer_of operand.entry) → MayAnswer l (answer_of low.entry) → MayAnswer h (answer_of high.entry) → MayAnswer (meaning.on_two and (meaning.on_two (is.compared GreaterOrEquals) m l) (meaning.on_two (is.compared LessOrEquals) m h)) (truth_answer_of result) }
 {
     both(
-        compared(Op::GreaterOrEquals, operand, low),
-        compared(Op::LessOrEquals, operand, high),
+        compared(ComparisonOperator::GreaterOrEquals, operand, low),
+        compared(ComparisonOperator::LessOrEquals, operand, high),
     )
 }
 
 /// Whether a value is equal to a member of a list (ISO/IEC 9075:1992, 8.4).
-fn is_member<'a, S: Surroundings>(
+fn is_member<'a, S: Environment>(
     operand: Result<Value<'a>, Raise>,
     members: &'a [Option<ValueExpr>],
     env: &'a S,
@@ -129,7 +129,7 @@ fn is_member<'a, S: Surroundings>(
     for member in members {
         any = either(
             any,
-            compared(Op::Equals, operand, member_value(member, env)),
+            compared(ComparisonOperator::Equals, operand, member_value(member, env)),
         );
     }
     any
@@ -146,7 +146,7 @@ fn nowhere(operand: Result<Value, Raise>) -> Result<Tri, Raise>
 }
 
 /// The value of a member of a list, which may be NULL (own).
-fn member_value<'a, S: Surroundings>(
+fn member_value<'a, S: Environment>(
     member: &'a Option<ValueExpr>,
     env: &'a S,
 ) -> Result<Value<'a>, Raise>

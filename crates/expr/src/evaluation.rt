@@ -10,12 +10,12 @@ ghost use Rattle.query_tree.specs.Bound.{value_of as tree_of};
 ghost use Rattle.expr.specs.Answers.{answer_of};
 
 use crate::operation::{only_value, operated, signed};
-use crate::surroundings::Surroundings;
+use crate::surroundings::Environment;
 use query_tree::ValueExpr;
 use sqlvalue::{Raise, Value};
 
 /// The value of an expression, or what it raises first in text order (own; ISO/IEC 9075:1992, 6.11 and 6.12). Takes no memory.
-pub fn value<'a, S: Surroundings>(expr: &'a ValueExpr, env: &'a S) -> Result<Value<'a>, Raise>
+pub fn value<'a, S: Environment>(expr: &'a ValueExpr, env: &'a S) -> Result<Value<'a>, Raise>
     requires fits { FitsTypes (S.environment env.now) (tree_of expr.now) }
     requires typed { (type : ValueType) × (value_type (tree_of expr.now) ≡ Some type) }
     ensures { MayAnswer (meaning.value (S.environment env.now) (tree_of expr.now)) (answer_of result) }
@@ -37,7 +37,7 @@ pub fn value<'a, S: Surroundings>(expr: &'a ValueExpr, env: &'a S) -> Result<Val
             }
             left
         }
-        ValueExpr::SetValue { number, .. } => env.set_value(*number),
+        ValueExpr::AggregateValue { number, .. } => env.aggregate_value(*number),
         ValueExpr::Subquery { block, .. } => only_value(env.first_values(*block)),
     }
 }

@@ -12,4 +12,4 @@ mod surroundings;
 pub use condition::truth;
 pub use evaluation::value;
 pub use raising::{can_raise, condition_can_raise};
-pub use surroundings::Surroundings;
+pub use surroundings::Environment;

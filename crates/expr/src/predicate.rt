@@ -14,11 +14,11 @@ ghost use Rattle.parse_tree.specs.Trees.{quantifier_of};
 ghost use Rattle.expr.specs.Answers.{answer_of, truth_answer_of, values_answer_of};
 
 use query_tree::Quantifier;
-use sqlvalue::{Op, Raise, Tri, Value, like};
+use sqlvalue::{ComparisonOperator, Raise, Tri, Value, like};
 
 /// A comparison (ISO/IEC 9075:1992, 8.2).
 pub(crate) fn compared(
-    op: Op,
+    op: ComparisonOperator,
     left: Result<Value, Raise>,
     right: Result<Value, Raise>,
 ) -> Result<Tri, Raise>
@@ -104,7 +104,7 @@ pub(crate) fn has_row(rows: Result<&[Value], Raise>) -> Result<Tri, Raise>
 
 /// A value compared with all or any of the rows of a subquery, by their first values (ISO/IEC 9075:1992, 8.7).
 pub(crate) fn quantified(
-    op: Op,
+    op: ComparisonOperator,
     quantifier: Quantifier,
     operand: Result<Value, Raise>,
     rows: Result<&[Value], Raise>,
@@ -120,7 +120,7 @@ pub(crate) fn quantified(
     }
 }
 
-fn with_all(op: Op, value: Value, values: &[Value]) -> Tri
+fn with_all(op: ComparisonOperator, value: Value, values: &[Value]) -> Tri
     ensures { truth_of result ≡ truth.compared_with_all (op_of op) (value_of value.entry) (map value_of values.now) }
 {
     let mut all = Tri::True;
@@ -130,7 +130,7 @@ fn with_all(op: Op, value: Value, values: &[Value]) -> Tri
     all
 }
 
-fn with_any(op: Op, value: Value, values: &[Value]) -> Tri
+fn with_any(op: ComparisonOperator, value: Value, values: &[Value]) -> Tri
     ensures { truth_of result ≡ truth.compared_with_any (op_of op) (value_of value.entry) (map value_of values.now) }
 {
     let mut any = Tri::False;

@@ -98,7 +98,7 @@ fn safe_size(expr: &ValueExpr) -> Option<Size>
             }
             size
         }
-        ValueExpr::SetValue { .. } | ValueExpr::Subquery { .. } => None,
+        ValueExpr::AggregateValue { .. } | ValueExpr::Subquery { .. } => None,
     }
 }
 

@@ -11,9 +11,9 @@ ghost use Rattle.query_tree.specs.Bound.{operator_of, value_of as tree_of};
 ghost use Rattle.definitions.specs.Value.{Number};
 ghost use Rattle.expr.specs.Shorts.{short_of, IsWhole};
 
-use crate::surroundings::Surroundings;
+use crate::surroundings::Environment;
 use query_tree::{Operator, ValueExpr};
-use sqlvalue::{Num, Op, Tri, Value};
+use sqlvalue::{Num, ComparisonOperator, Tri, Value};
 
 /// A null, or a number of so many units at a scale.
 #[derive(Clone, Copy)]
@@ -23,8 +23,8 @@ pub(crate) enum Short {
 }
 
 /// A comparison of two values that can be calculated in 64 bits (ISO/IEC 9075:1992, 8.2). None says nothing of them.
-pub(crate) fn compared_in_short<'a, S: Surroundings>(
-    op: Op,
+pub(crate) fn compared_in_short<'a, S: Environment>(
+    op: ComparisonOperator,
     left: &'a ValueExpr,
     right: &'a ValueExpr,
     env: &'a S,
@@ -36,7 +36,7 @@ pub(crate) fn compared_in_short<'a, S: Surroundings>(
 
 /// The value of an expression that can be calculated in 64 bits: it is made of null and of numbers, of no quotient, and all
 /// that is met on the way fits.
-fn short_value<'a, S: Surroundings>(expr: &'a ValueExpr, env: &'a S) -> Option<Short>
+fn short_value<'a, S: Environment>(expr: &'a ValueExpr, env: &'a S) -> Option<Short>
     ensures { IfSome result (λ s. meaning.value (S.environment env.now) (tree_of expr.now) ≡ Is (short_of s)) }
 {
     match expr {
@@ -114,7 +114,7 @@ fn joined(operator: Operator, left: Short, right: Short) -> Option<Short>
 }
 
 /// A comparison; none where it would take more than 64 bits.
-fn shorts_compared(op: Op, left: Short, right: Short) -> Option<Tri>
+fn shorts_compared(op: ComparisonOperator, left: Short, right: Short) -> Option<Tri>
     ensures { IfSome result (λ t. truth_of t ≡ truth.compared (op_of op) (short_of left) (short_of right)) }
 {
     match (left, right) {

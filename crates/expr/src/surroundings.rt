@@ -13,7 +13,7 @@ use query_tree::BlockColumn;
 use sqlvalue::{Raise, Value};
 
 /// What an expression of a block is evaluated in (own). What it lends is there as long as it is.
-pub trait Surroundings {
+pub trait Environment {
     ghost environment: { Self → Environment };
 
     /// The value in a column of the block's combination of rows (ISO/IEC 9075:1992, 6.4).
@@ -25,7 +25,7 @@ pub trait Surroundings {
         ensures { value_of result ≡ cell (get_or (environment self.now).outer between []) (column_of column) };
 
     /// The value of a set function over the group (ISO/IEC 9075:1992, 6.5).
-    fn set_value(&self, number: usize) -> Result<Value<'_>, Raise>
+    fn aggregate_value(&self, number: usize) -> Result<Value<'_>, Raise>
         ensures { MayAnswer (get_or (environment self.now).functions number (Is Null)) (answer_of result) };
 
     /// The first value of each row of an inner block.

@@ -19,7 +19,7 @@ use Rattle.loading.specs.Stored.{StoredColumn, AreFilled, headers, row_at, rows_
 use Rattle.indexes.specs.KeyColumns.{cells_at, key_cells}
 use Rattle.indexes.specs.declared.unique.UniqueFault.{UniqueFault}
 use Rattle.indexes.specs.declared.unique.UniqueFault.TheVariants as u
-use Rattle.indexes.specs.declared.order.Order.{Order}
+use Rattle.indexes.specs.declared.order.IndexKind.{IndexKind}
 use Rattle.indexes.specs.Orders.{IsOrderOf, RefusesOrder, is_unique, run_of}
 use Rattle.indexes.specs.Indexes.{StoredIndex, AreIndexColumns, IsIndexOn, RefusesIndexOn}
 
@@ -98,11 +98,11 @@ pub no_order : (n : ℕ) (cs : List StoredColumn) (numbers : List ℕ) (keys : L
 no_order n cs numbers keys unique (u.Repeated repeated) e f h r = rw (sym (keys_are n cs numbers f h), sym (ap keys_in e)) r
 no_order n cs numbers keys unique u.Memory e f h r = tt
 
-pub run_had : (n : ℕ) (cs : List StoredColumn) (numbers : List ℕ) (keys : List CellList) (unique : Bool) (order : Order) → keys ≡ key_cells cs numbers → AreFilled n cs → AreIndexColumns (length cs) numbers
+pub run_had : (n : ℕ) (cs : List StoredColumn) (numbers : List ℕ) (keys : List CellList) (unique : Bool) (order : IndexKind) → keys ≡ key_cells cs numbers → AreFilled n cs → AreIndexColumns (length cs) numbers
     → IsOrderOf keys unique order → IsRun (map (key_of numbers) (rows_of n cs)) (run_of order).entries
 run_had n cs numbers keys unique order e f h o = rw (sym (keys_are n cs numbers f h), sym (ap keys_in e)) o.run
 
-pub index_had : (n : ℕ) (cs : List StoredColumn) (numbers kept : List ℕ) (keys : List CellList) (unique : Bool) (order : Order) (statistics : IndexStatistics) → keys ≡ key_cells cs numbers → AreFilled n cs → AreIndexColumns (length cs) numbers → IsOrderOf keys unique order
+pub index_had : (n : ℕ) (cs : List StoredColumn) (numbers kept : List ℕ) (keys : List CellList) (unique : Bool) (order : IndexKind) (statistics : IndexStatistics) → keys ≡ key_cells cs numbers → AreFilled n cs → AreIndexColumns (length cs) numbers → IsOrderOf keys unique order
     → kept ≡ numbers → statistics ≡ index_statistics (headers cs) (rows_of n cs) numbers
     → IsIndexOn (headers cs) (rows_of n cs) numbers unique (record { index = record { columns = kept; unique = is_unique order; statistics = statistics }; entries = (run_of order).entries })
 index_had n cs numbers kept keys unique order statistics e f h o k g = record {

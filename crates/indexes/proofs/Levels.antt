@@ -5,7 +5,7 @@ use Rattle.std.specs.Int.{div_ceil}
 use Rattle.std.proofs.lemmas.Bool.{false≢true, cases_lt}
 use Rattle.columns.specs.Cells.{CellList}
 use Rattle.columns.specs.Starts.{AreOrdered, Splits, starts, value_in}
-use Rattle.columns.specs.declared.start.Start.{Start}
+use Rattle.columns.specs.declared.start.LowerBound.{LowerBound}
 
 before_false : (test : ℕ → Bool) (first end i j : ℕ) → AreOrdered test first end → first ≤ i → i ≤ j → j < end → test j ≡ false → test i ≡ false
 before_false test first end i j o h l m e = of (test i) refl
@@ -54,7 +54,7 @@ module _ (test heads : ℕ → Bool) (from to long page : ℕ) (within : to ≤ 
             ordered (page * 256) i (omega arith) (omega arith) l (sym (read page (omega arith)) ∙ split.pass page (omega arith) (omega arith))
 
 -- the same of the values of a column
-module _ (start : Start) (now values heads : CellList) (from to page low high most last : ℕ) (view : values ≡ now) (within : to ≤ length now.values)
+module _ (start : LowerBound) (now values heads : CellList) (from to page low high most last : ℕ) (view : values ≡ now) (within : to ≤ length now.values)
     (ordered : AreOrdered (λ place. starts start (value_in now place)) from to) (read : (p : ℕ) → p * 256 < length values.values → value_in heads p ≡ value_in values (p * 256))
     (e : last ≡ to / 256 + min 1 (to % 256)) (more : from / 256 + 1 < last) where
   heads_of : (p : ℕ) → p * 256 < length now.values → starts start (value_in heads p) ≡ starts start (value_in now (p * 256))

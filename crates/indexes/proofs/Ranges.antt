@@ -13,7 +13,7 @@ use Rattle.definitions.proofs.Ranking.{rank_total}
 use Rattle.indexes.specs.Stretches.{turned_limit}
 use Rattle.std.specs.List.{AllByRecursion}
 use Rattle.columns.specs.Cells.{CellList}
-use Rattle.columns.specs.declared.start.Start.{Start}
+use Rattle.columns.specs.declared.start.LowerBound.{LowerBound}
 use Rattle.indexes.proofs.PagedValues.{held_at}
 use Rattle.std.specs.declared.ops.Bound.{Bound}
 use Rattle.std.specs.declared.ops.Bound.TheVariants.{Included, Excluded, Unbounded}
@@ -190,7 +190,7 @@ module _ (now values : CellList) (view : values ≡ now) (all : AllByRecursion (
   held_now : (i : ℕ) → IsHeld now.type (value_in now i)
   held_now i = held_at now i (rw view at all)
 
-  module _ (limit : Limit) (start : Start) (some : (cell : Value) → IsHeld values.type cell → starts start cell ≡ (not (is_null cell) && is_from limit cell)) where
+  module _ (limit : Limit) (start : LowerBound) (some : (cell : Value) → IsHeld values.type cell → starts start cell ≡ (not (is_null cell) && is_from limit cell)) where
     starts_now : (i : ℕ) → starts start (value_in now i) ≡ passes limit (value_in now i)
     starts_now i = some (value_in now i) (rw (ap (λ (c : CellList). c.type) view) (held_now i))
 
@@ -207,11 +207,11 @@ module _ (now values : CellList) (view : values ≡ now) (all : AllByRecursion (
   pub nothing_high : (low high limit : Limit) → limit ≡ turned_limit high → AreApart values.type limit → (place at : ℕ) → (not (nat_lt place at) && nat_lt place at) ≡ lies low high (value_in now place)
   nothing_high low high limit e a place at = none_up_to now.type low high (value_in now place) place at (rw (e, view) at a) (held_now place)
 
-  pub range_open : (low high : Limit) (start : Start) → ((cell : Value) → IsHeld values.type cell → starts start cell ≡ (not (is_null cell) && is_from low cell)) → (first end from : ℕ) → Splits (λ place. starts start (value_in now place)) first end from
+  pub range_open : (low high : Limit) (start : LowerBound) → ((cell : Value) → IsHeld values.type cell → starts start cell ≡ (not (is_null cell) && is_from low cell)) → (first end from : ℕ) → Splits (λ place. starts start (value_in now place)) first end from
       → high ≡ Unlimited → (place : ℕ) → first ≤ place → place < end → (not (nat_lt place from) && nat_lt place end) ≡ lies low high (value_in now place)
   range_open low high start some first end from s u = no_end now.type low high (λ i. value_in now i) first end from held_now (passes_split low start some first end from s) u
 
-  pub range_closed : (low high limit : Limit) (start stop : Start) → limit ≡ turned_limit high
+  pub range_closed : (low high limit : Limit) (start stop : LowerBound) → limit ≡ turned_limit high
       → ((cell : Value) → IsHeld values.type cell → starts start cell ≡ (not (is_null cell) && is_from low cell)) → ((cell : Value) → IsHeld values.type cell → starts stop cell ≡ (not (is_null cell) && is_from limit cell)) → AreMet values.type limit
       → (first end from to : ℕ) → Splits (λ place. starts start (value_in now place)) first end from → Splits (λ place. starts stop (value_in now place)) from end to
       → high ≢ Unlimited → (place : ℕ) → first ≤ place → place < end → (not (nat_lt place from) && nat_lt place to) ≡ lies low high (value_in now place)

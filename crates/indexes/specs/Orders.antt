@@ -8,19 +8,19 @@ use Rattle.indexes.specs.Runs.{Index}
 use Rattle.indexes.specs.Repeats.{IsFirstRepeated}
 use Rattle.indexes.specs.declared.unique.UniqueFault.{UniqueFault}
 use Rattle.indexes.specs.declared.unique.UniqueFault.TheVariants as u
-use Rattle.indexes.specs.declared.order.Order.{Order}
-use Rattle.indexes.specs.declared.order.Order.TheVariants as o
+use Rattle.indexes.specs.declared.order.IndexKind.{IndexKind}
+use Rattle.indexes.specs.declared.order.IndexKind.TheVariants as o
 
-abbrev pub run_of : Order → Index
+abbrev pub run_of : IndexKind → Index
 run_of (o.Sorted index) = index
 run_of (o.Unique index) = index
 
-abbrev pub is_unique : Order → Bool
+abbrev pub is_unique : IndexKind → Bool
 is_unique (o.Sorted index) = false
 is_unique (o.Unique index) = true
 
 -- the order of the rows of columns, in which keys come once or may come again
-pub record IsOrderOf (columns : List CellList) (unique : Bool) (order : Order) : Type 0 where
+pub record IsOrderOf (columns : List CellList) (unique : Bool) (order : IndexKind) : Type 0 where
   pub kind : is_unique order ≡ unique
   pub types : (run_of order).types ≡ types_of columns
   pub run : IsRun (keys_in columns) (run_of order).entries

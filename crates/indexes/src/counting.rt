@@ -12,7 +12,7 @@ ghost use Rattle.indexes.specs.Orders.{run_of};
 ghost use Rattle.indexes.specs.Ranges.{widened_by};
 
 use crate::statistics::{IndexStatistics, KeyRange};
-use crate::order::Order;
+use crate::order::IndexKind;
 use crate::pages::entry_pages;
 use loading::Column;
 use sqlvalue::Value;
@@ -22,7 +22,7 @@ pub(crate) fn counted(
     columns: &[Column],
     rows: usize,
     numbers: &[usize],
-    order: &Order,
+    order: &IndexKind,
 ) -> IndexStatistics
     requires some { 0 < length numbers.now }
     requires short { length numbers.now ≤ most_index_columns }

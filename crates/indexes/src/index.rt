@@ -15,7 +15,7 @@ ghost use Rattle.indexes.specs.Indexes.{AreIndexColumns, IsIndexOn, RefusesIndex
 use crate::counting::counted;
 use crate::statistics::IndexStatistics;
 use crate::key_columns::key_columns;
-use crate::order::Order;
+use crate::order::IndexKind;
 use crate::ordered::OrderedIndex;
 use crate::unique::UniqueFault;
 use loading::Column;
@@ -28,7 +28,7 @@ use std::ops::Bound;
 #[derive(Drop)]
 pub struct Index {
     columns: Vec<usize>,
-    order: Order,
+    order: IndexKind,
     statistics: IndexStatistics,
 }
 
@@ -64,7 +64,7 @@ impl Index {
             Ok(keys) => keys,
             Err(_) => return Err(UniqueFault::Memory),
         };
-        let order = match Order::build(alloc, keys.as_slice(), unique) {
+        let order = match IndexKind::build(alloc, keys.as_slice(), unique) {
             Ok(order) => order,
             Err(fault) => return Err(fault),
         };

@@ -10,7 +10,7 @@ ghost use Rattle.columns.specs.Columns.{cells_of};
 ghost use Rattle.columns.specs.Starts.{AreOrdered, IsHeld, Splits, limit_of, starts, value_in};
 ghost use Rattle.indexes.specs.Stretches.{IsWithin, AreInOrder, is_within, turned_limit};
 
-use columns::{Column, Start};
+use columns::{Column, LowerBound};
 use sqlvalue::Value;
 use std::alloc::{AllocError, Global};
 use std::cmp::Ordering;
@@ -105,7 +105,7 @@ impl KeyColumn {
     }
 
     /// Of a stretch in which the values from a limit on stand last, the first such place.
-    fn first_from(&self, start: &Start, within: Stretch) -> usize
+    fn first_from(&self, start: &LowerBound, within: Stretch) -> usize
         requires forward { within.from ≤ within.to }
         requires inside { within.to ≤ length self.now.values }
         requires ordered { AreOrdered (λ place. starts start.now (value_in self.now place)) within.from within.to }
@@ -123,7 +123,7 @@ impl KeyColumn {
     }
 
     /// The same, found from the stretch's beginning by steps that double.
-    fn first_near(&self, start: &Start, within: Stretch) -> usize
+    fn first_near(&self, start: &LowerBound, within: Stretch) -> usize
         requires forward { within.from ≤ within.to }
         requires inside { within.to ≤ length self.now.values }
         requires ordered { AreOrdered (λ place. starts start.now (value_in self.now place)) within.from within.to }

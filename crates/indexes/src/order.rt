@@ -18,14 +18,14 @@ use std::ops::Bound;
 
 /// The rows of a table in the order of their keys, which may come again or not.
 #[derive(Drop)]
-pub(crate) enum Order {
+pub(crate) enum IndexKind {
     Sorted(SortedIndex),
     Unique(UniqueIndex),
 }
 
-impl Order {
+impl IndexKind {
     /// The order of the rows of columns.
-    pub(crate) fn build(alloc: Global, keys: &[&Column], unique: bool) -> Result<Order, UniqueFault>
+    pub(crate) fn build(alloc: Global, keys: &[&Column], unique: bool) -> Result<IndexKind, UniqueFault>
         requires table { AreOfHeight (height (columns_of keys.now)) (columns_of keys.now) }
         requires few { height (columns_of keys.now) < 2 ^ 32 }
         ensures ok { IfOk result (IsOrderOf (columns_of keys.now) unique) }
@@ -33,19 +33,19 @@ impl Order {
     {
         if unique {
             match UniqueIndex::build(alloc, keys) {
-                Ok(index) => Ok(Order::Unique(index)),
+                Ok(index) => Ok(IndexKind::Unique(index)),
                 Err(fault) => Err(fault),
             }
         } else {
             match SortedIndex::build(alloc, keys) {
-                Ok(index) => Ok(Order::Sorted(index)),
+                Ok(index) => Ok(IndexKind::Sorted(index)),
                 Err(_) => Err(UniqueFault::Memory),
             }
         }
     }
 
     /// The order of the rows of the same columns with more rows behind those that this one has.
-    pub(crate) fn extended(&self, alloc: Global, keys: &[&Column]) -> Result<Order, UniqueFault>
+    pub(crate) fn extended(&self, alloc: Global, keys: &[&Column]) -> Result<IndexKind, UniqueFault>
         requires table { AreOfHeight (height (columns_of keys.now)) (columns_of keys.now) }
         requires few { height (columns_of keys.now) < 2 ^ 32 }
         requires beginning { IsRun (take (length (run_of self.now).entries) (keys_in (columns_of keys.now))) (run_of self.now).entries }
@@ -53,12 +53,12 @@ impl Order {
         ensures refused { IfErr result (RefusesOrder (columns_of keys.now) (is_unique self.now)) }
     {
         match self {
-            Order::Sorted(index) => match index.extended(alloc, keys) {
-                Ok(index) => Ok(Order::Sorted(index)),
+            IndexKind::Sorted(index) => match index.extended(alloc, keys) {
+                Ok(index) => Ok(IndexKind::Sorted(index)),
                 Err(_) => Err(UniqueFault::Memory),
             },
-            Order::Unique(index) => match index.extended(alloc, keys) {
-                Ok(index) => Ok(Order::Unique(index)),
+            IndexKind::Unique(index) => match index.extended(alloc, keys) {
+                Ok(index) => Ok(IndexKind::Unique(index)),
                 Err(fault) => Err(fault),
             },
         }
@@ -68,8 +68,8 @@ impl Order {
         ensures { result ≡ is_unique self.now }
     {
         match self {
-            Order::Sorted(_) => false,
-            Order::Unique(_) => true,
+            IndexKind::Sorted(_) => false,
+            IndexKind::Unique(_) => true,
         }
     }
 
@@ -77,8 +77,8 @@ impl Order {
         ensures { result ≡ length (distinct_keys (full_keys (keys_of (run_of self.now).entries))) }
     {
         match self {
-            Order::Sorted(index) => index.key_count(),
-            Order::Unique(index) => index.key_count(),
+            IndexKind::Sorted(index) => index.key_count(),
+            IndexKind::Unique(index) => index.key_count(),
         }
     }
 
@@ -86,8 +86,8 @@ impl Order {
         ensures { result.now ≡ rows_of (run_of self.now).entries }
     {
         match self {
-            Order::Sorted(index) => index.all(),
-            Order::Unique(index) => index.all(),
+            IndexKind::Sorted(index) => index.all(),
+            IndexKind::Unique(index) => index.all(),
         }
     }
 
@@ -96,8 +96,8 @@ impl Order {
         ensures { result.now ≡ rows_of (equal_part (map value_of values.now) (run_of self.now).entries) }
     {
         match self {
-            Order::Sorted(index) => index.equal(values),
-            Order::Unique(index) => index.equal(values),
+            IndexKind::Sorted(index) => index.equal(values),
+            IndexKind::Unique(index) => index.equal(values),
         }
     }
 
@@ -106,8 +106,8 @@ impl Order {
         ensures { result.now ≡ rows_of (range_part (map value_of values.now) (limit_of low.entry) (limit_of high.entry) (run_of self.now).entries) }
     {
         match self {
-            Order::Sorted(index) => index.range(values, low, high),
-            Order::Unique(index) => index.range(values, low, high),
+            IndexKind::Sorted(index) => index.range(values, low, high),
+            IndexKind::Unique(index) => index.range(values, low, high),
         }
     }
 }

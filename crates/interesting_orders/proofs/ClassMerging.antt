@@ -9,7 +9,7 @@ use Rattle.definitions.specs.Plans.Space.{Space}
 use Rattle.definitions.specs.Plans.ColumnClass.{SameClass}
 use Rattle.definitions.proofs.PlanTheory.Orders.{same_trans, same_turned}
 use Rattle.interesting_orders.specs.Labels.{merged, label_at, column_at, AreSound, IsBetween, Joins}
-use Rattle.interesting_orders.specs.declared.equivalence_classes.Equation.{Equation}
+use Rattle.interesting_orders.specs.declared.equivalence_classes.Equality.{Equality}
 
 by_test : (from to x : ℕ) (b : Bool) → nat_eq x from ≡ b → ((x ≡ from) × ((if b then to else x) ≡ to)) ⊎ ((if b then to else x) ≡ x)
 by_test from to x true e = inl (grind (arith, nat_tests, e), refl)
@@ -39,7 +39,7 @@ module _ (tables : TableSet) (columns : List o.BlockColumn) (old new : List ℕ)
       by_cases (inr p) (inr q) = sound i j hi hj (sym p ∙ sym (m i hi) ∙ e ∙ m j hj ∙ q)
 
   -- what was joined stays joined
-  pub joins_kept : (e : Equation) → IsBetween (length columns) e → Joins tables columns old e → Joins tables columns new e
+  pub joins_kept : (e : Equality) → IsBetween (length columns) e → Joins tables columns old e → Joins tables columns new e
   joins_kept e b joins hx hy = m e.left b.0 ∙ ap (merged (label_at old r) (label_at old l)) (joins hx hy) ∙ sym (m e.right b.1)
 
   -- and the two are joined

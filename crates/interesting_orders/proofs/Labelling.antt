@@ -8,16 +8,16 @@ use Rattle.definitions.specs.Plans.Order as o
 use Rattle.definitions.specs.Plans.Space.{Space}
 use Rattle.definitions.specs.Plans.ColumnClass.{SameClass, itself, chain}
 use Rattle.interesting_orders.specs.Labels.{label_at, column_at, AreSound, Holds, IsBetween, Joins}
-use Rattle.interesting_orders.specs.declared.equivalence_classes.Equation.{Equation}
+use Rattle.interesting_orders.specs.declared.equivalence_classes.Equality.{Equality}
 use Rattle.interesting_orders.proofs.ClassMerging.{IsMerged, sound_kept, joins_kept, joined_now}
 
-pub record Labelled (tables : TableSet) (columns : List o.BlockColumn) (equations : List Equation) (labels : List ℕ) (count : ℕ) : Type 0 where
+pub record Labelled (tables : TableSet) (columns : List o.BlockColumn) (equations : List Equality) (labels : List ℕ) (count : ℕ) : Type 0 where
   pub len : length labels ≡ length columns
   pub sound : (space : Space) → All (Holds space columns) equations → AreSound space tables columns labels
-  pub joined : (k : ℕ) (d : Equation) → k < count → Joins tables columns labels (get_or equations k d)
+  pub joined : (k : ℕ) (d : Equality) → k < count → Joins tables columns labels (get_or equations k d)
 
 -- each column has a label of its own
-pub begin : (tables : TableSet) (columns : List o.BlockColumn) (equations : List Equation) (labels : List ℕ) → length labels ≡ length columns
+pub begin : (tables : TableSet) (columns : List o.BlockColumn) (equations : List Equality) (labels : List ℕ) → length labels ≡ length columns
     → ((i : ℕ) → i < length columns → get_or labels i 0 ≡ i) → Labelled tables columns equations labels 0
 begin tables columns equations labels len own = record {
   len = len;
@@ -26,12 +26,12 @@ begin tables columns equations labels len own = record {
 }
 
 -- what joins the columns of the next equation
-abbrev pub JoinsNext : TableSet → List o.BlockColumn → List Equation → List ℕ → ℕ → Type 0
-JoinsNext tables columns equations labels i = (d : Equation) → Joins tables columns labels (get_or equations i d)
+abbrev pub JoinsNext : TableSet → List o.BlockColumn → List Equality → List ℕ → ℕ → Type 0
+JoinsNext tables columns equations labels i = (d : Equality) → Joins tables columns labels (get_or equations i d)
 
-more : (tables : TableSet) (columns : List o.BlockColumn) (equations : List Equation) (labels : List ℕ) (i : ℕ)
-    → ((k : ℕ) (d : Equation) → k < i → Joins tables columns labels (get_or equations k d)) → JoinsNext tables columns equations labels i
-    → (k : ℕ) (d : Equation) → k < i + 1 → Joins tables columns labels (get_or equations k d)
+more : (tables : TableSet) (columns : List o.BlockColumn) (equations : List Equality) (labels : List ℕ) (i : ℕ)
+    → ((k : ℕ) (d : Equality) → k < i → Joins tables columns labels (get_or equations k d)) → JoinsNext tables columns equations labels i
+    → (k : ℕ) (d : Equality) → k < i + 1 → Joins tables columns labels (get_or equations k d)
 more tables columns equations labels i before now k d h = by_place (cases_lt k i)
   where
     by_place : (k < i) ⊎ (i ≤ k) → Joins tables columns labels (get_or equations k d)
@@ -39,12 +39,12 @@ more tables columns equations labels i before now k d h = by_place (cases_lt k i
     by_place (inr b) = let here : k ≡ i = omega (arith, b, h) in subst (λ n. Joins tables columns labels (get_or equations n d)) (sym here) (now d)
 
 -- an equation of which a table is not in the set
-pub pass : (tables : TableSet) (columns : List o.BlockColumn) (equations : List Equation) (labels : List ℕ) (i : ℕ) → Labelled tables columns equations labels i
+pub pass : (tables : TableSet) (columns : List o.BlockColumn) (equations : List Equality) (labels : List ℕ) (i : ℕ) → Labelled tables columns equations labels i
     → JoinsNext tables columns equations labels i → Labelled tables columns equations labels (i + 1)
 pass tables columns equations labels i l now = record { len = l.len; sound = l.sound; joined = more tables columns equations labels i l.joined now }
 
 -- one whose tables are
-pub join : (tables : TableSet) (columns : List o.BlockColumn) (equations : List Equation) (old new : List ℕ) (i : ℕ) (x : Equation) → Labelled tables columns equations old i
+pub join : (tables : TableSet) (columns : List o.BlockColumn) (equations : List Equality) (old new : List ℕ) (i : ℕ) (x : Equality) → Labelled tables columns equations old i
     → i < length equations → x ≡ get_or equations i x → All (IsBetween (length columns)) equations
     → Has tables (column_at columns x.left).table → Has tables (column_at columns x.right).table
     → length new ≡ length old → IsMerged (length columns) old new (label_at old x.right) (label_at old x.left)
@@ -62,8 +62,8 @@ join tables columns equations old new i x l hi ex between hx hy len m =
     at_x : IsBetween (length columns) x
     at_x = subst (IsBetween (length columns)) (sym ex) (between i x hi)
 
-    joins_kept_at : (k : ℕ) (d : Equation) → k < i → Joins tables columns new (get_or equations k d)
+    joins_kept_at : (k : ℕ) (d : Equality) → k < i → Joins tables columns new (get_or equations k d)
     joins_kept_at k d h = joins_kept tables columns old new x.left x.right at_x.0 at_x.1 m (get_or equations k d) (between k d (omega (arith, h, hi))) (l.joined k d h)
 
-    now : (d : Equation) → Joins tables columns new (get_or equations i d)
+    now : (d : Equality) → Joins tables columns new (get_or equations i d)
     now d = subst (Joins tables columns new) (ex ∙ get_or_default equations i x d hi) (λ gx gy. joined_now tables columns old new x.left x.right at_x.0 at_x.1 m)

@@ -5,7 +5,7 @@ use Rattle.definitions.specs.Plans.Space.{Space}
 use Rattle.definitions.specs.Plans.ColumnClass.{Equates}
 use Rattle.definitions.specs.Plans.PlanSpace.{IsMergeConjunct}
 use Rattle.interesting_orders.specs.Labels.{column_at}
-use Rattle.interesting_orders.specs.declared.equivalence_classes.Equation.{Equation}
+use Rattle.interesting_orders.specs.declared.equivalence_classes.Equality.{Equality}
 use Rattle.interesting_orders.specs.Places.{AreStated, HaveSides}
 use Rattle.interesting_orders.proofs.Stated.{stated_by, states}
 
@@ -13,16 +13,16 @@ use Rattle.interesting_orders.proofs.Stated.{stated_by, states}
 abbrev pub IsOneOf : (x y a b : BlockColumn) → Type 0
 IsOneOf x y a b = ((x ≡ a) × (y ≡ b)) ⊎ ((x ≡ b) × (y ≡ a))
 
-module _ (space : Space) (columns : List BlockColumn) (es : List (Option Equation)) (has : HaveSides columns space.conjuncts) (stated : AreStated columns space.conjuncts es) (number : ℕ) where
+module _ (space : Space) (columns : List BlockColumn) (es : List (Option Equality)) (has : HaveSides columns space.conjuncts) (stated : AreStated columns space.conjuncts es) (number : ℕ) where
   -- the equation of a conjunct that equates two columns
-  pub equation_of : (x y : BlockColumn) → Equates space number x y → (e : Equation) × (get_or es number None ≡ Some e) × IsOneOf x y (column_at columns e.left) (column_at columns e.right)
+  pub equation_of : (x y : BlockColumn) → Equates space number x y → (e : Equality) × (get_or es number None ≡ Some e) × IsOneOf x y (column_at columns e.left) (column_at columns e.right)
   equation_of x y (c, is, early, inl equated) = let s = states space columns es has stated number c x y is early equated in (s.0, s.1, inl (sym s.2, sym s.3))
   equation_of x y (c, is, early, inr equated) = let s = states space columns es has stated number c y x is early equated in (s.0, s.1, inr (sym s.3, sym s.2))
 
   pub no_equation_no_merge : get_or es number None ≡ None → (x y : BlockColumn) → IsMergeConjunct space number x y → ⊥
   no_equation_no_merge none x y merge = let e = equation_of x y merge.0 in let both : None ≡ Some e.0 = sym none ∙ e.1 in absurd cc
 
-  module _ (e : Equation) (is : get_or es number None ≡ Some e) where
+  module _ (e : Equality) (is : get_or es number None ≡ Some e) where
     abbrev left : BlockColumn
     left = column_at columns e.left
 
@@ -34,7 +34,7 @@ module _ (space : Space) (columns : List BlockColumn) (es : List (Option Equatio
         let f = equation_of x y equates in
         let both : Some f.0 ≡ Some e = sym f.1 ∙ is in
         let same : f.0 ≡ e = cc in
-        subst (λ (d : Equation). IsOneOf x y (column_at columns d.left) (column_at columns d.right)) same f.2
+        subst (λ (d : Equality). IsOneOf x y (column_at columns d.left) (column_at columns d.right)) same f.2
 
     pub equates : Equates space number left right
     equates = let c = stated_by space columns es has stated number e is in (c.0, c.1, c.2, inl c.3)

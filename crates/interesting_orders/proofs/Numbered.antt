@@ -16,10 +16,10 @@ use Rattle.interesting_orders.specs.Merges.{IsPartner}
 use Rattle.interesting_orders.specs.Uses.{AreUses, IsUse}
 use Rattle.interesting_orders.specs.declared.equated.EquatedColumns.{EquatedColumns}
 use Rattle.interesting_orders.specs.declared.order_use.OrderUse.{OrderUse}
-use Rattle.interesting_orders.specs.declared.interesting_orders.OrderUses.{OrderUses}
+use Rattle.interesting_orders.specs.declared.interesting_orders.InterestingOrders.{InterestingOrders}
 use Rattle.interesting_orders.proofs.Opening.{none_yet}
 
-pub numbered : (space : Space) (u : OrderUses) (number : ℕ) (d : OrderUse) → AreUses space u → number < length u.orders.items → IsUse space u.equated (order_at space number) (get_or u.orders.items number d)
+pub numbered : (space : Space) (u : InterestingOrders) (number : ℕ) (d : OrderUse) → AreUses space u → number < length u.orders.items → IsUse space u.equated (order_at space number) (get_or u.orders.items number d)
 numbered space u number d are lt =
     let within : number < length space.orders = omega (arith, lt, are.orders.len) in
     are.orders.each number (order_at space number) d (slice_get-get_or space.orders number [] within)

@@ -13,21 +13,21 @@ use Rattle.definitions.specs.Plans.Space.{Space}
 use Rattle.definitions.specs.Plans.ColumnClass.{SameClass}
 use Rattle.definitions.proofs.PlanTheory.TableSets.{has_more, with_has, only_has}
 use Rattle.interesting_orders.specs.Labels.{column_at}
-use Rattle.interesting_orders.specs.declared.equivalence_classes.Equation.{Equation}
+use Rattle.interesting_orders.specs.declared.equivalence_classes.Equality.{Equality}
 use Rattle.interesting_orders.specs.Places.{AreStated, HaveSides}
 use Rattle.interesting_orders.specs.Reach.{reached, AreThose}
 use Rattle.interesting_orders.specs.Merges.{IsOpened, OpensSide, IsWithSide}
 use Rattle.interesting_orders.proofs.Merging.{IsOneOf, equates, equates_turned, equation_of}
 
 -- one of the first equations opens a merge that brings the table
-abbrev pub IsOpenedBy : Space → TableSet → List BlockColumn → BlockColumn → Equation → ℕ → Type 0
+abbrev pub IsOpenedBy : Space → TableSet → List BlockColumn → BlockColumn → Equality → ℕ → Type 0
 IsOpenedBy space tables columns lead e table =
     (OpensSide space tables lead (column_at columns e.left) (column_at columns e.right) × (table ≡ (column_at columns e.right).table))
     ⊎ (OpensSide space tables lead (column_at columns e.right) (column_at columns e.left) × (table ≡ (column_at columns e.left).table))
 
-abbrev pub IsOpenedBefore : Space → TableSet → List BlockColumn → BlockColumn → List (Option Equation) → ℕ → ℕ → Type 0
+abbrev pub IsOpenedBefore : Space → TableSet → List BlockColumn → BlockColumn → List (Option Equality) → ℕ → ℕ → Type 0
 IsOpenedBefore space tables columns lead es count table =
-    (number : ℕ) × (e : Equation) × (number < count) × (get_or es number None ≡ Some e) × IsOpenedBy space tables columns lead e table
+    (number : ℕ) × (e : Equality) × (number < count) × (get_or es number None ≡ Some e) × IsOpenedBy space tables columns lead e table
 
 -- ---- sets of tables of which something holds
 
@@ -91,7 +91,7 @@ module _ (space : Space) (tables : TableSet) (lead : BlockColumn) where
       only_left table (inl h) = h
       only_left table (inr both) = absurd (not_open both.0)
 
-  module _ (columns : List BlockColumn) (es : List (Option Equation)) (count : ℕ) where
+  module _ (columns : List BlockColumn) (es : List (Option Equality)) (count : ℕ) where
     abbrev Before : ℕ → ℕ → Type 0
     Before = IsOpenedBefore space tables columns lead es
 
@@ -110,7 +110,7 @@ module _ (space : Space) (tables : TableSet) (lead : BlockColumn) where
                 let here : number ≡ count = omega (arith, lt, ge) in
                 let both : None ≡ Some e = sym (subst (λ n. get_or es n None ≡ None) (sym here) none) ∙ is in absurd cc
 
-    module _ (e : Equation) (is : get_or es count None ≡ Some e) where
+    module _ (e : Equality) (is : get_or es count None ≡ Some e) where
       abbrev left : BlockColumn
       left = column_at columns e.left
 
@@ -148,8 +148,8 @@ module _ (space : Space) (tables : TableSet) (lead : BlockColumn) where
           (with_side (Before count) left right before between are first) second)
 
   -- all equations together are what conjuncts say
-  module _ (columns : List BlockColumn) (es : List (Option Equation)) (has : HaveSides columns space.conjuncts) (stated : AreStated columns space.conjuncts es) where
-    below : (xs : List (Option Equation)) (number : ℕ) (e : Equation) → get_or xs number None ≡ Some e → number < length xs
+  module _ (columns : List BlockColumn) (es : List (Option Equality)) (has : HaveSides columns space.conjuncts) (stated : AreStated columns space.conjuncts es) where
+    below : (xs : List (Option Equality)) (number : ℕ) (e : Equality) → get_or xs number None ≡ Some e → number < length xs
     below [] zero e h = absurd cc
     below [] (suc number) e h = absurd cc
     below (x ∷ xs) zero e h = omega arith
@@ -164,7 +164,7 @@ module _ (space : Space) (tables : TableSet) (lead : BlockColumn) where
         let e = equation_of space columns es has stated number x y says in
         (number, e.0, omega (arith, all, below es number e.0 e.1), e.1, of_sides e.0 e.2)
       where
-        of_sides : (e : Equation) → IsOneOf x y (column_at columns e.left) (column_at columns e.right) → IsOpenedBy space tables columns lead e table
+        of_sides : (e : Equality) → IsOneOf x y (column_at columns e.left) (column_at columns e.right) → IsOpenedBy space tables columns lead e table
         of_sides e (inl (ex, ey)) = inl ((subst (λ z. z.table ≢ (column_at columns e.right).table) ex (subst (λ z. x.table ≢ z.table) ey differ), subst (SameClass space tables lead) ex same), sym at ∙ ap (λ (z : BlockColumn). z.table) ey)
         of_sides e (inr (ex, ey)) = inr ((subst (λ z. z.table ≢ (column_at columns e.left).table) ex (subst (λ z. x.table ≢ z.table) ey differ), subst (SameClass space tables lead) ex same), sym at ∙ ap (λ (z : BlockColumn). z.table) ey)
 

@@ -12,23 +12,23 @@ use Rattle.definitions.specs.Plans.ColumnClass.{Equates, SameClass}
 use Rattle.definitions.proofs.PlanTheory.Orders.{same_closed}
 use Rattle.interesting_orders.specs.Labels.{column_at, label_at, AreSound, Holds, IsBetween, Joins}
 use Rattle.interesting_orders.specs.Classes.{no_equation, AreDistinct, AreEquations, Says}
-use Rattle.interesting_orders.specs.declared.equivalence_classes.Equation.{Equation}
+use Rattle.interesting_orders.specs.declared.equivalence_classes.Equality.{Equality}
 
 -- the row of a set
 abbrev pub row_of : List ℕ → ℕ → ℕ → List ℕ
 row_of labels set m = take m (drop (set * m) labels)
 
 -- labels by which columns are of one class
-pub record IsRow (tables : TableSet) (columns : List o.BlockColumn) (equations : List Equation) (labels : List ℕ) : Type 0 where
+pub record IsRow (tables : TableSet) (columns : List o.BlockColumn) (equations : List Equality) (labels : List ℕ) : Type 0 where
   pub sound : (space : Space) → All (Holds space columns) equations → AreSound space tables columns labels
   pub joined : All (Joins tables columns labels) equations
 
-pub record RowsMade (columns : List o.BlockColumn) (equations : List Equation) (row labels : List ℕ) (place : ℕ) : Type 0 where
+pub record RowsMade (columns : List o.BlockColumn) (equations : List Equality) (row labels : List ℕ) (place : ℕ) : Type 0 where
   pub wide : length row ≡ length columns
   pub len : length labels ≡ place * length columns
   pub rows : (set : ℕ) → set < place → IsRow set columns equations (row_of labels set (length columns))
 
-pub begun : (columns : List o.BlockColumn) (equations : List Equation) (row : List ℕ) → length row ≡ length columns → RowsMade columns equations row [] 0
+pub begun : (columns : List o.BlockColumn) (equations : List Equality) (row : List ℕ) → length row ≡ length columns → RowsMade columns equations row [] 0
 begun columns equations row e = record { wide = e; len = sym (omega arith); rows = λ set h. absurd (omega (arith, h)) }
 
 -- a row further down is as it was, and the new one is behind them
@@ -43,7 +43,7 @@ row_new : (labels row : List ℕ) (place m : ℕ) → length labels ≡ place * 
 row_new labels row place m len wide =
     ap (λ n. take m (drop n (labels ++ row))) (sym len) ∙ ap (take m) (drop-append_seam labels row) ∙ take_all m row (omega (arith, wide))
 
-pub one_more : (columns : List o.BlockColumn) (equations : List Equation) (row new labels : List ℕ) (place : ℕ) → RowsMade columns equations row labels place
+pub one_more : (columns : List o.BlockColumn) (equations : List Equality) (row new labels : List ℕ) (place : ℕ) → RowsMade columns equations row labels place
     → length new ≡ length columns → IsRow place columns equations new → RowsMade columns equations new (labels ++ new) (place + 1)
 one_more columns equations row new labels place r wide made = record {
   wide = wide;
@@ -60,7 +60,7 @@ one_more columns equations row new labels place r wide made = record {
 
 -- ---- what a row says
 
-module _ (space : Space) (tables : TableSet) (columns : List o.BlockColumn) (equations : List Equation) (labels : List ℕ)
+module _ (space : Space) (tables : TableSet) (columns : List o.BlockColumn) (equations : List Equality) (labels : List ℕ)
     (e : AreEquations space columns equations) (distinct : AreDistinct columns) (between : All (IsBetween (length columns)) equations)
     (row : IsRow tables columns equations labels) where
   -- the columns of i's class have its label
@@ -99,7 +99,7 @@ module _ (space : Space) (tables : TableSet) (columns : List o.BlockColumn) (equ
 in_row : (labels : List ℕ) (set m i : ℕ) → i < m → label_at (row_of labels set m) i ≡ label_at labels (set * m + i)
 in_row labels set m i h = get_or-take m (drop (set * m) labels) i 0 h ∙ get_or-drop (set * m) labels i 0
 
-pub rows_say : (space : Space) (columns : List o.BlockColumn) (equations : List Equation) (row labels : List ℕ) (place : ℕ) → AreEquations space columns equations → AreDistinct columns
+pub rows_say : (space : Space) (columns : List o.BlockColumn) (equations : List Equality) (row labels : List ℕ) (place : ℕ) → AreEquations space columns equations → AreDistinct columns
     → All (IsBetween (length columns)) equations → RowsMade columns equations row labels place
     → (set i j : ℕ) → set < place → i < length columns → j < length columns
     → (label_at labels (set * length columns + i) ≡ label_at labels (set * length columns + j)) ↔ SameClass space set (column_at columns i) (column_at columns j)

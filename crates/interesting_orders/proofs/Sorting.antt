@@ -17,7 +17,7 @@ use Rattle.interesting_orders.specs.Reach.{key_tables, is_reached}
 use Rattle.interesting_orders.specs.Sorts.{open_orders, tables_told, AreSorts}
 use Rattle.interesting_orders.specs.Uses.{AreUses}
 use Rattle.interesting_orders.specs.declared.order_use.OrderUse.{OrderUse}
-use Rattle.interesting_orders.specs.declared.interesting_orders.OrderUses.{OrderUses}
+use Rattle.interesting_orders.specs.declared.interesting_orders.InterestingOrders.{InterestingOrders}
 use Rattle.interesting_orders.proofs.Numbered.{numbered}
 use Rattle.interesting_orders.proofs.Reaching.{keys_there, there_keys, none_needed}
 
@@ -112,7 +112,7 @@ module _ (space : Space) (set : TableSet) (few : set < 2 ^ most_from_tables) whe
   }
 
 -- those behind the first order, which is the empty one
-pub sorts_of : (space : Space) (u : OrderUses) → AreUses space u → (set : TableSet) → set < 2 ^ most_from_tables → (first : OrderUse) (rest : List OrderUse) → u.orders.items ≡ first ∷ rest
+pub sorts_of : (space : Space) (u : InterestingOrders) → AreUses space u → (set : TableSet) → set < 2 ^ most_from_tables → (first : OrderUse) (rest : List OrderUse) → u.orders.items ≡ first ∷ rest
     → (number : ℕ) → number ≡ 1 → AreSorts space set (open_orders set number (map tables_told rest))
 sorts_of space u are set few first rest is number one = rw one (are_sorts space set few (map tables_told rest) told (omega (arith, count, length-map rest tables_told)))
   where

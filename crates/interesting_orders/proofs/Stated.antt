@@ -9,16 +9,16 @@ use Rattle.definitions.specs.Plans.Space.{Space}
 use Rattle.definitions.specs.Plans.ColumnClass.{Equates}
 use Rattle.interesting_orders.specs.Labels.{column_at, IsBetween}
 use Rattle.interesting_orders.specs.Classes.{no_equation, AreEquations, Says}
-use Rattle.interesting_orders.specs.declared.equivalence_classes.Equation.{Equation}
+use Rattle.interesting_orders.specs.declared.equivalence_classes.Equality.{Equality}
 use Rattle.interesting_orders.specs.Places.{given, sides_of, AreBetween, AreStated, HasSides, HaveSides, IsEquation}
 
-was_given : (es : List (Option Equation)) (place : ℕ) → place < length (given es) → (number : ℕ) × (number < length es) × (get_or es number None ≡ Some (get_or (given es) place no_equation))
+was_given : (es : List (Option Equality)) (place : ℕ) → place < length (given es) → (number : ℕ) × (number < length es) × (get_or es number None ≡ Some (get_or (given es) place no_equation))
 was_given [] place h = absurd (omega (arith, h))
 was_given (None ∷ es) place h = let r = was_given es place h in (suc r.0, omega (arith, r.1), r.2)
 was_given (Some e ∷ es) zero h = (0, omega arith, refl)
 was_given (Some e ∷ es) (suc place) h = let r = was_given es place (omega (arith, h)) in (suc r.0, omega (arith, r.1), r.2)
 
-is_given : (es : List (Option Equation)) (number : ℕ) (e : Equation) → get_or es number None ≡ Some e → (place : ℕ) × (place < length (given es)) × (get_or (given es) place no_equation ≡ e)
+is_given : (es : List (Option Equality)) (number : ℕ) (e : Equality) → get_or es number None ≡ Some e → (place : ℕ) × (place < length (given es)) × (get_or (given es) place no_equation ≡ e)
 is_given [] zero e h = absurd cc
 is_given [] (suc number) e h = absurd cc
 is_given (None ∷ es) zero e h = absurd cc
@@ -26,17 +26,17 @@ is_given (None ∷ es) (suc number) e h = is_given es number e h
 is_given (Some x ∷ es) zero e h = (0, omega arith, cc)
 is_given (Some x ∷ es) (suc number) e h = let r = is_given es number e h in (suc r.0, omega (arith, r.1), r.2)
 
-pub all_between : (count : ℕ) (es : List (Option Equation)) → All (AreBetween count) es → All (IsBetween count) (given es)
+pub all_between : (count : ℕ) (es : List (Option Equality)) → All (AreBetween count) es → All (IsBetween count) (given es)
 all_between count es all place d h =
     let r = was_given es place h in
     subst (IsBetween count) (get_or_default (given es) place no_equation d h) (all r.0 None r.1 (get_or (given es) place no_equation) r.2)
 
-of_equation : (columns : List BlockColumn) (sides : Option (BlockColumn × BlockColumn)) (o : Option Equation) → IsEquation columns sides o → AreBetween (length columns) o
+of_equation : (columns : List BlockColumn) (sides : Option (BlockColumn × BlockColumn)) (o : Option Equality) → IsEquation columns sides o → AreBetween (length columns) o
 of_equation columns sides None is e h = absurd cc
 of_equation columns None (Some e') is e h = absurd is
 of_equation columns (Some (x, y)) (Some e') is e h = let same : e' ≡ e = cc in subst (IsBetween (length columns)) same is.0
 
-pub stated_between : (columns : List BlockColumn) (conjuncts : List Conjunct) (es : List (Option Equation)) → AreStated columns conjuncts es → All (AreBetween (length columns)) es
+pub stated_between : (columns : List BlockColumn) (conjuncts : List Conjunct) (es : List (Option Equality)) → AreStated columns conjuncts es → All (AreBetween (length columns)) es
 stated_between columns conjuncts es stated place d h =
     let within : place < length conjuncts = omega (arith, h, stated.len) in
     of_conjunct (slice_get conjuncts place) refl within
@@ -62,13 +62,13 @@ are_sides c x y e = by_early c.early c.equated refl refl e
 pub has_sides : (c : Conjunct) (p : BlockColumn × BlockColumn) → c.early ≡ true → c.equated ≡ Some p → sides_of c ≡ Some p
 has_sides c p early equated = subst (λ b. cond b c.equated None ≡ Some p) (sym early) equated
 
-module _ (space : Space) (columns : List BlockColumn) (es : List (Option Equation)) (has : HaveSides columns space.conjuncts) (stated : AreStated columns space.conjuncts es) where
+module _ (space : Space) (columns : List BlockColumn) (es : List (Option Equality)) (has : HaveSides columns space.conjuncts) (stated : AreStated columns space.conjuncts es) where
   -- the conjunct of an equation
-  pub stated_by : (number : ℕ) (e : Equation) → get_or es number None ≡ Some e
+  pub stated_by : (number : ℕ) (e : Equality) → get_or es number None ≡ Some e
       → (c : Conjunct) × (slice_get space.conjuncts number ≡ Some c) × (c.early ≡ true) × (c.equated ≡ Some (column_at columns e.left, column_at columns e.right))
   stated_by number e is = of_conjunct (slice_get space.conjuncts number) refl
     where
-      beyond : (xs : List (Option Equation)) (cs : List Conjunct) (n : ℕ) → length xs ≡ length cs → slice_get cs n ≡ None → get_or xs n None ≡ None
+      beyond : (xs : List (Option Equality)) (cs : List Conjunct) (n : ℕ) → length xs ≡ length cs → slice_get cs n ≡ None → get_or xs n None ≡ None
       beyond [] cs zero len e = refl
       beyond [] cs (suc n) len e = refl
       beyond (x ∷ xs) [] n len e = absurd (omega (arith, len))
@@ -89,13 +89,13 @@ module _ (space : Space) (columns : List BlockColumn) (es : List (Option Equatio
 
   -- the equation of a conjunct
   pub states : (number : ℕ) (c : Conjunct) (x y : BlockColumn) → slice_get space.conjuncts number ≡ Some c → c.early ≡ true → c.equated ≡ Some (x, y)
-      → (e : Equation) × (get_or es number None ≡ Some e) × (column_at columns e.left ≡ x) × (column_at columns e.right ≡ y)
+      → (e : Equality) × (get_or es number None ≡ Some e) × (column_at columns e.left ≡ x) × (column_at columns e.right ≡ y)
   states number c x y is early equated =
       let sides = has_sides c (x, y) early equated in
       of_equation (get_or es number None) refl (subst (λ s. IsEquation columns s (get_or es number None)) sides (stated.each number c None is)) (subst (HasSides columns) sides (has number c is))
     where
-      of_equation : (o : Option Equation) → get_or es number None ≡ o → IsEquation columns (Some (x, y)) o → HasSides columns (Some (x, y))
-          → (e : Equation) × (get_or es number None ≡ Some e) × (column_at columns e.left ≡ x) × (column_at columns e.right ≡ y)
+      of_equation : (o : Option Equality) → get_or es number None ≡ o → IsEquation columns (Some (x, y)) o → HasSides columns (Some (x, y))
+          → (e : Equality) × (get_or es number None ≡ Some e) × (column_at columns e.left ≡ x) × (column_at columns e.right ≡ y)
       of_equation None h not_there there = absurd (not_there there)
       of_equation (Some e) h (within, left, right) there = (e, h, left, right)
 

@@ -6,7 +6,7 @@ use Rattle.definitions.specs.Plans.PlanSpace.{IsMergeConjunct}
 use Rattle.query_tree.specs.Bound.{column_of}
 use Rattle.interesting_orders.specs.Labels.{column_at}
 use Rattle.interesting_orders.specs.Classes.{sets_in, AreClasses}
-use Rattle.interesting_orders.specs.declared.equivalence_classes.Equation.{Equation}
+use Rattle.interesting_orders.specs.declared.equivalence_classes.Equality.{Equality}
 use Rattle.interesting_orders.specs.Places.{AreStated, HaveSides, IsPlace}
 use Rattle.interesting_orders.specs.Merges.{leading_of}
 use Rattle.interesting_orders.specs.declared.equated.EquatedColumns.{EquatedColumns}
@@ -22,7 +22,7 @@ abbrev pub places_in : EquatedColumns → ℕ
 places_in e = length e.columns.items
 
 -- what an early conjunct equates
-abbrev pub equation_in : EquatedColumns → ℕ → Option Equation
+abbrev pub equation_in : EquatedColumns → ℕ → Option Equality
 equation_in e number = get_or e.equations.items number None
 
 -- how many sets of tables they have classes under

@@ -5,7 +5,7 @@ use Rattle.definitions.specs.Plans.Order.{BlockColumn}
 use Rattle.definitions.specs.Plans.Conjunct.{Conjunct}
 use Rattle.interesting_orders.specs.Labels.{column_at, IsBetween}
 use Rattle.interesting_orders.specs.Classes.{AreDistinct}
-use Rattle.interesting_orders.specs.declared.equivalence_classes.Equation.{Equation}
+use Rattle.interesting_orders.specs.declared.equivalence_classes.Equality.{Equality}
 use Rattle.interesting_orders.specs.Each.{AreEach}
 
 -- what an early conjunct equates
@@ -37,18 +37,18 @@ pub record IsGrown (old new : List BlockColumn) : Type 0 where
 
 -- ---- equations by places
 
-abbrev pub IsEquation : List BlockColumn → Option (BlockColumn × BlockColumn) → Option Equation → Type 0
+abbrev pub IsEquation : List BlockColumn → Option (BlockColumn × BlockColumn) → Option Equality → Type 0
 IsEquation columns None None = ⊤
 IsEquation columns None (Some e) = ⊥
 IsEquation columns (Some (x, y)) None = HasSides columns (Some (x, y)) → ⊥
 IsEquation columns (Some (x, y)) (Some e) = IsBetween (length columns) e × (column_at columns e.left ≡ x) × (column_at columns e.right ≡ y)
 
-abbrev pub AreBetween : ℕ → Option Equation → Type 0
+abbrev pub AreBetween : ℕ → Option Equality → Type 0
 AreBetween count e = ForSome e (IsBetween count)
 
 -- by number those that the conjuncts say
-abbrev pub AreStated : List BlockColumn → List Conjunct → List (Option Equation) → Type 0
-AreStated columns = AreEach (λ (c : Conjunct) (e : Option Equation). IsEquation columns (sides_of c) e)
+abbrev pub AreStated : List BlockColumn → List Conjunct → List (Option Equality) → Type 0
+AreStated columns = AreEach (λ (c : Conjunct) (e : Option Equality). IsEquation columns (sides_of c) e)
 
-abbrev pub given : List (Option Equation) → List Equation
+abbrev pub given : List (Option Equality) → List Equality
 given = filter_map (λ e. e)

@@ -12,10 +12,10 @@ use Rattle.interesting_orders.specs.Merges.{leading_of, IsOpened, IsPartner}
 use Rattle.interesting_orders.specs.Equated.{column_in, sets_under, AreEquated, IsLead}
 use Rattle.interesting_orders.specs.declared.equated.EquatedColumns.{EquatedColumns}
 use Rattle.interesting_orders.specs.declared.order_use.OrderUse.{OrderUse}
-use Rattle.interesting_orders.specs.declared.interesting_orders.OrderUses.{OrderUses}
+use Rattle.interesting_orders.specs.declared.interesting_orders.InterestingOrders.{InterestingOrders}
 
 -- how many sets of tables they are of
-abbrev pub sets_in : OrderUses → ℕ
+abbrev pub sets_in : InterestingOrders → ℕ
 sets_in u = sets_under u.equated
 
 -- what one order serves for
@@ -37,7 +37,7 @@ abbrev pub IsReached : Space → EquatedColumns → TableSet → Option ℕ → 
 IsReached space e tables None table = ⊥
 IsReached space e tables (Some place) table = IsOpened space tables (column_in e place) table
 
-pub record AreUses (space : Space) (u : OrderUses) : Type 0 where
+pub record AreUses (space : Space) (u : InterestingOrders) : Type 0 where
   pub equated : AreEquated space u.equated
   pub whole : whole space < sets_in u
   pub orders : AreEach (λ (order : Order) (d : OrderUse). IsUse space u.equated order d) space.orders u.orders.items

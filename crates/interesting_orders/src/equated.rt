@@ -15,8 +15,8 @@ ghost use Rattle.interesting_orders.specs.Places.{AreBetween};
 ghost use Rattle.interesting_orders.specs.Reach.{AreThose};
 ghost use Rattle.interesting_orders.specs.Merges.{leading_of, IsOpened, IsWithin, IsWithSide};
 
-use crate::equivalence_classes::{ColumnClasses, Equation};
-use crate::places::{are_one, equated_columns, equations_of, place_of, stated};
+use crate::equivalence_classes::{EquivalenceClasses, Equality};
+use crate::places::{are_equal, equated_columns, equations_of, place_of, stated};
 use crate::reach::with_table;
 use estimate::PlanConjunct;
 use plan_tree::{SortKey, TableSet};
@@ -35,8 +35,8 @@ pub(crate) struct MergeSides {
 pub(crate) struct EquatedColumns {
     columns: Vec<BlockColumn>,
     // by conjunct
-    equations: Vec<Option<Equation>>,
-    classes: ColumnClasses,
+    equations: Vec<Option<Equality>>,
+    classes: EquivalenceClasses,
     ghost counted: { columns_in classes ≡ length columns.items },
     ghost between: { All (AreBetween (length columns.items)) equations.items },
 }
@@ -56,7 +56,7 @@ impl EquatedColumns {
         let columns = equated_columns(alloc, conjuncts)?;
         let equations = equations_of(alloc, &columns, conjuncts)?;
         let stated = stated(alloc, &equations)?;
-        let classes = ColumnClasses::new(alloc, &columns, &stated, tables)?;
+        let classes = EquivalenceClasses::new(alloc, &columns, &stated, tables)?;
         Ok(EquatedColumns {
             columns,
             equations,
@@ -79,15 +79,15 @@ impl EquatedColumns {
         requires b { b < places_in self.now }
         ensures { (space : Space) → AreEquated space self.now → Decides result (SameClass space (set_of tables) (column_in self.now a) (column_in self.now b)) }
     {
-        self.classes.are_one(tables, a, b)
+        self.classes.are_equal(tables, a, b)
     }
 
     /// Whether two columns are of one class under a set of tables.
-    fn are_one(&self, tables: TableSet, a: BlockColumn, b: BlockColumn) -> bool
+    fn are_equal(&self, tables: TableSet, a: BlockColumn, b: BlockColumn) -> bool
         requires set { set_of tables < sets_under self.now }
         ensures { (space : Space) → AreEquated space self.now → Decides result (SameClass space (set_of tables) (column_of a) (column_of b)) }
     {
-        if are_one(a, b) {
+        if are_equal(a, b) {
             return true;
         }
         match (place_of(&self.columns, a), place_of(&self.columns, b)) {
@@ -117,7 +117,7 @@ impl EquatedColumns {
         requires set { set_of tables < sets_under self.now }
         ensures { (space : Space) → AreEquated space self.now → Decides result (((key_of key).descending ≡ (key_of wanted).descending) × SameClass space (set_of tables) (key_of key).column (key_of wanted).column) }
     {
-        key.descending == wanted.descending && self.are_one(tables, key.column, wanted.column)
+        key.descending == wanted.descending && self.are_equal(tables, key.column, wanted.column)
     }
 
     /// The place of the column that an order leads with, if it is ascending and equated with another.
@@ -129,7 +129,7 @@ impl EquatedColumns {
     }
 
     /// What an early conjunct equates.
-    fn equation(&self, conjunct: usize) -> Option<Equation>
+    fn equation(&self, conjunct: usize) -> Option<Equality>
         ensures within { IfSome result (IsBetween (places_in self.now)) }
         ensures exact { result ≡ equation_in self.now conjunct }
     {

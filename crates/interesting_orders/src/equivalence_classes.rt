@@ -19,7 +19,7 @@ use std::alloc::{AllocError, Global};
 
 /// That two columns are equal, by their places in a list of columns.
 #[derive(Clone, Copy, Debug, PartialEq, Eq)]
-pub struct Equation {
+pub struct Equality {
     pub left: usize,
     pub right: usize,
 }
@@ -28,7 +28,7 @@ pub struct Equation {
 pub(crate) fn label(
     labels: &mut [usize],
     columns: &[BlockColumn],
-    equations: &[Equation],
+    equations: &[Equality],
     tables: TableSet,
 )
     requires paired { length labels.old ≡ length columns.now }
@@ -47,7 +47,7 @@ pub(crate) fn label(
 }
 
 /// Whether the tables of both columns of an equation are in a set.
-fn has_both(tables: TableSet, columns: &[BlockColumn], equation: Equation) -> bool
+fn has_both(tables: TableSet, columns: &[BlockColumn], equation: Equality) -> bool
     requires { IsBetween (length columns.now) equation }
     ensures { Decides result (Has (set_of tables) (column_at (map column_of columns.now) equation.left).table × Has (set_of tables) (column_at (map column_of columns.now) equation.right).table) }
 {
@@ -56,7 +56,7 @@ fn has_both(tables: TableSet, columns: &[BlockColumn], equation: Equation) -> bo
 
 /// The classes of the columns of a list, under each set of a block's tables.
 #[derive(Drop)]
-pub struct ColumnClasses {
+pub struct EquivalenceClasses {
     columns: usize,
     tables: usize,
     // a row of labels for each set, in the order of the sets' places
@@ -64,7 +64,7 @@ pub struct ColumnClasses {
     ghost whole: { length labels.items ≡ 2 ^ tables * columns },
 }
 
-impl ColumnClasses {
+impl EquivalenceClasses {
     ghost use Rattle.interesting_orders.specs.Classes.{columns_in, sets_in, AreClasses, AreDistinct, AreEquations};
 
     /// The classes of columns by the equations that a block's early conjuncts say; no column comes twice. It looks at each
@@ -72,9 +72,9 @@ impl ColumnClasses {
     pub fn new(
         alloc: Global,
         columns: &[BlockColumn],
-        equations: &[Equation],
+        equations: &[Equality],
         tables: usize,
-    ) -> Result<ColumnClasses, AllocError>
+    ) -> Result<EquivalenceClasses, AllocError>
         requires tables { tables ≤ most_from_tables }
         requires distinct { AreDistinct (map column_of columns.now) }
         requires between { All (IsBetween (length columns.now)) equations.now }
@@ -88,7 +88,7 @@ impl ColumnClasses {
             label(&mut row, columns, equations, TableSet::at(place));
             labels.extend_from_slice(&row)?;
         }
-        Ok(ColumnClasses {
+        Ok(EquivalenceClasses {
             columns: columns.len(),
             tables,
             labels,
@@ -97,7 +97,7 @@ impl ColumnClasses {
 
     /// Whether two of the columns are of one class under a set of tables: they are one, or a chain of early conjuncts equates
     /// them whose tables are all in the set (Selinger et al. 1979, section 5; that the tables have to be there is own).
-    pub fn are_one(&self, tables: TableSet, a: usize, b: usize) -> bool
+    pub fn are_equal(&self, tables: TableSet, a: usize, b: usize) -> bool
         requires set { set_of tables < sets_in self.now }
         requires a { a < columns_in self.now }
         requires b { b < columns_in self.now }

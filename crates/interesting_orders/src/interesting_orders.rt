@@ -26,14 +26,14 @@ use std::alloc::{AllocError, Global};
 /// What the numbered orders of a block serve for: merges that are still to come, sorts, and the order that the block asks for
 /// (Selinger et al. 1979, section 5: interesting orders).
 #[derive(Drop)]
-pub struct OrderUses {
+pub struct InterestingOrders {
     equated: EquatedColumns,
     orders: Vec<OrderUse>,
     asked: bool,
     ghost within: { All (λ (u : OrderUse). IsWithin (places_in equated) u.lead) orders.items },
 }
 
-impl OrderUses {
+impl InterestingOrders {
     ghost use Rattle.interesting_orders.specs.Uses.{sets_in, AreUses, IsUse};
 
     /// What the orders of a block serve for, by its conjuncts in text order, its numbered orders and the one that it asks for. It
@@ -44,14 +44,14 @@ impl OrderUses {
         orders: &[Vec<SortKey>],
         required: &[SortKey],
         tables: usize,
-    ) -> Result<OrderUses, AllocError>
+    ) -> Result<InterestingOrders, AllocError>
         requires tables { tables ≤ most_from_tables }
         ensures sets { IfOk result (λ u. sets_in u ≡ 2 ^ tables) }
         ensures exact { (space : Space) → space.table_count ≡ tables → space.conjuncts ≡ map conjunct_of conjuncts.now → space.orders ≡ orders_in orders.now → space.required ≡ order_of required.now → IfOk result (AreUses space) }
     {
         let equated = EquatedColumns::new(alloc, conjuncts, tables)?;
         let orders = order_uses(alloc, &equated, orders, required, TableSet::first(tables))?;
-        Ok(OrderUses {
+        Ok(InterestingOrders {
             equated,
             orders,
             asked: !required.is_empty(),

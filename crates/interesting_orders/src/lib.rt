@@ -15,10 +15,10 @@ mod sort_orders;
 mod sorts;
 mod version;
 
-pub use equivalence_classes::{ColumnClasses, Equation};
-pub use interesting_orders::OrderUses;
+pub use equivalence_classes::{EquivalenceClasses, Equality};
+pub use interesting_orders::InterestingOrders;
 pub use known::known_indexes;
 pub use required::required_order;
-pub use sort_orders::PlanOrders;
+pub use sort_orders::SortOrders;
 pub use sorts::Sorts;
 pub use version::Version;

@@ -8,7 +8,7 @@ ghost use Rattle.estimate.specs.Columns.{pair_of};
 ghost use Rattle.estimate.specs.PlanConjuncts.{conjunct_of};
 ghost use Rattle.interesting_orders.specs.Places.{given, sides_of, AreStated, HasColumn, HasSides, HaveSides, IsEquation, IsGrown, IsPlace};
 
-use crate::equivalence_classes::Equation;
+use crate::equivalence_classes::Equality;
 use estimate::PlanConjunct;
 use query_tree::BlockColumn;
 use std::alloc::{AllocError, Global};
@@ -70,7 +70,7 @@ pub(crate) fn place_of(columns: &[BlockColumn], column: BlockColumn) -> Option<u
     ensures { IsPlace (map column_of columns.now) (column_of column) result }
 {
     'columns: for place in 0..columns.len() {
-        if are_one(columns[place], column) {
+        if are_equal(columns[place], column) {
             return Some(place);
         }
     }
@@ -78,7 +78,7 @@ pub(crate) fn place_of(columns: &[BlockColumn], column: BlockColumn) -> Option<u
 }
 
 /// Whether two columns are one.
-pub(crate) fn are_one(a: BlockColumn, b: BlockColumn) -> bool
+pub(crate) fn are_equal(a: BlockColumn, b: BlockColumn) -> bool
     ensures { Decides result (column_of a ≡ column_of b) }
 {
     a.table == b.table && a.number == b.number
@@ -89,7 +89,7 @@ pub(crate) fn equations_of(
     alloc: Global,
     columns: &[BlockColumn],
     conjuncts: &[PlanConjunct],
-) -> Result<Vec<Option<Equation>>, AllocError>
+) -> Result<Vec<Option<Equality>>, AllocError>
     ensures { IfOk result (λ equations. AreStated (map column_of columns.now) (map conjunct_of conjuncts.now) equations.items) }
 {
     let mut equations = Vec::new(alloc);
@@ -103,11 +103,11 @@ pub(crate) fn equations_of(
 fn equation_of(
     columns: &[BlockColumn],
     sides: Option<(BlockColumn, BlockColumn)>,
-) -> Option<Equation>
+) -> Option<Equality>
     ensures { IsEquation (map column_of columns.now) (option_map pair_of sides) result }
 {
     let (x, y) = sides?;
-    Some(Equation {
+    Some(Equality {
         left: place_of(columns, x)?,
         right: place_of(columns, y)?,
     })
@@ -116,8 +116,8 @@ fn equation_of(
 /// The equations that are there.
 pub(crate) fn stated(
     alloc: Global,
-    equations: &[Option<Equation>],
-) -> Result<Vec<Equation>, AllocError>
+    equations: &[Option<Equality>],
+) -> Result<Vec<Equality>, AllocError>
     ensures { IfOk result (λ found. found.items ≡ given equations.now) }
 {
     let mut found = Vec::new(alloc);

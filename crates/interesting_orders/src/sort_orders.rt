@@ -26,11 +26,11 @@ use std::marker::Model;
 /// The orders of a block that plans may give their rows, by number: the empty one, the one that the block asks for, those of merge
 /// conjuncts in text order, and those of indexes, table by table. None has two numbers.
 #[derive(Drop)]
-pub struct PlanOrders {
+pub struct SortOrders {
     orders: Vec<Vec<SortKey>>,
 }
 
-impl Model for PlanOrders {
+impl Model for SortOrders {
     ghost use Rattle.std.specs.Prelude.{List};
     ghost use Rattle.definitions.specs.Plans.Order.{Order};
 
@@ -41,18 +41,18 @@ impl Model for PlanOrders {
     ghost view = { λ s. orders_in s.orders.items };
 }
 
-impl PlanOrders {
+impl SortOrders {
     /// The orders of a block, of which the order that it asks for is known.
     pub fn new(
         alloc: Global,
         estimate: &Estimate,
         version: Version,
         required: &[SortKey],
-    ) -> Result<PlanOrders, AllocError>
+    ) -> Result<SortOrders, AllocError>
         requires required { order_of required.now ≡ spec.required_of (block_of estimate.now.block) }
         ensures { IfOk result (λ orders. orders ≡ spec.orders_of (version_of version) estimate.now.database (block_of estimate.now.block)) }
     {
-        let mut orders = PlanOrders {
+        let mut orders = SortOrders {
             orders: Vec::new(alloc),
         };
         orders.add(Vec::new(alloc))?;
@@ -74,7 +74,7 @@ impl PlanOrders {
         ensures { result ≡ numbering.number_of self.now (order_of keys.now) }
     {
         'orders: for number in 0..self.orders.len() {
-            if are_one(keys, &self.orders[number]) {
+            if are_equal(keys, &self.orders[number]) {
                 return number;
             }
         }
@@ -176,7 +176,7 @@ impl PlanOrders {
 }
 
 /// Whether two orders are one.
-fn are_one(a: &[SortKey], b: &[SortKey]) -> bool
+fn are_equal(a: &[SortKey], b: &[SortKey]) -> bool
     ensures { result ≡ numbering.same_order (order_of a.now) (order_of b.now) }
 {
     if a.len() != b.len() {

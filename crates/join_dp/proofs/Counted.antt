@@ -8,7 +8,7 @@ use Rattle.definitions.specs.Estimates.BlockTables.{has}
 use Rattle.definitions.specs.Plans.Space.{Space}
 use Rattle.definitions.specs.Plans.PlanSpace.{MayFollow, CanSort}
 use Rattle.definitions.specs.Plans.TableSet.{Lacks, no_tables, with_table}
-use Rattle.plan_space.specs.Merge.{Merge as MergeItem, AreMerges, most_merges}
+use Rattle.plan_space.specs.Merge.{Merge as CostedMerge, AreMerges, most_merges}
 use Rattle.join_dp.specs.Counting.{AreCounts, most_last, most_lasts, most_to, most_up_to}
 use Rattle.plan_space.proofs.Lists.{at_index, weaker}
 use Rattle.join_dp.proofs.LessSets.{with_more}
@@ -45,7 +45,7 @@ module _ (space : Space) (sorts : ℕ → ℕ) (joins : ℕ → ℕ → ℕ) whe
       let no : (tables - 2 ^ table == 0) ≡ false = no_eqb (tables - 2 ^ table) (λ z. some (is ∙ z)) in
       last_has tables table e ∙ rw no (ap (λ n. length space.orders * joins n table) (sym is))
 
-  pub joins_counted : AreCounts space sorts joins → (before table old between new each : ℕ) (merges : List MergeItem) → MayFollow space before table → AreMerges space before table merges
+  pub joins_counted : AreCounts space sorts joins → (before table old between new each : ℕ) (merges : List CostedMerge) → MayFollow space before table → AreMerges space before table merges
       → between ≤ old + each * length (space.paths before table) → new ≤ between + each * length merges → new ≤ old + each * joins before table
   joins_counted counts before table old between new each merges follows are a b =
       let m = mul-le-mul_left each (counts.of_joins before table merges follows are) in

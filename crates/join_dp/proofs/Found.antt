@@ -7,7 +7,7 @@ use Rattle.std.proofs.lemmas.Bool.Decides.{nat_tests}
 use Rattle.std.proofs.lemmas.List.{get_or-set_same, get_or-set_other, length-set, length-map, map-set, get_or-map}
 use Rattle.definitions.specs.Plans.Cost.{limit}
 use Rattle.join_dp.specs.Steps.{Candidate, better}
-use Rattle.join_dp.specs.Rows.{Row, found_at, cost_or, cost_at, filled, improved, one_step_more, offered, EachFits, Below}
+use Rattle.join_dp.specs.Rows.{SetCandidates, found_at, cost_or, cost_at, filled, improved, one_step_more, offered, EachFits, Below}
 
 -- ---- the better of two
 
@@ -142,15 +142,15 @@ all_cleared (x ∷ row) (suc n) le none (suc j) = all_cleared row n (omega (arit
 -- ---- what the code writes
 
 module _ {X : Type 0} (f : X → Candidate) (xs : List (Option X)) (steps k : ℕ) where
-  pub offer_is : (known : Option X) (r : X) (c : Candidate) (steps' : ℕ) (row : Row) → k < length row.found → ◌≡◌ {A = Row} (record { found = map (option_map f) xs; steps = steps }) row
-      → known ≡ get_or xs k known → f r ≡ better (option_map f known) c → steps' ≡ one_step_more steps → ◌≡◌ {A = Row} (record { found = map (option_map f) (set xs k (Some r)); steps = steps' }) (offered row k c)
+  pub offer_is : (known : Option X) (r : X) (c : Candidate) (steps' : ℕ) (row : SetCandidates) → k < length row.found → ◌≡◌ {A = SetCandidates} (record { found = map (option_map f) xs; steps = steps }) row
+      → known ≡ get_or xs k known → f r ≡ better (option_map f known) c → steps' ≡ one_step_more steps → ◌≡◌ {A = SetCandidates} (record { found = map (option_map f) (set xs k (Some r)); steps = steps' }) (offered row k c)
   unfolding improved
   offer_is known r c steps' row lt view is better_is' counted =
-      subst (λ (old : Row). ◌≡◌ {A = Row} (record { found = map (option_map f) (set xs k (Some r)); steps = steps' }) (offered old k c)) view
+      subst (λ (old : SetCandidates). ◌≡◌ {A = SetCandidates} (record { found = map (option_map f) (set xs k (Some r)); steps = steps' }) (offered old k c)) view
       (ap₂ (λ (found : List (Option Candidate)) (n : ℕ). record { found = found; steps = n }) found_is counted)
     where
       within : k < length xs
-      within = omega (arith, lt, ap (λ (r : Row). length r.found) view, length-map xs (option_map f))
+      within = omega (arith, lt, ap (λ (r : SetCandidates). length r.found) view, length-map xs (option_map f))
 
       found_is : map (option_map f) (set xs k (Some r)) ≡ set (map (option_map f) xs) k (Some (better (get_or (map (option_map f) xs) k None) c))
       found_is = map-set (option_map f) xs k (Some r)

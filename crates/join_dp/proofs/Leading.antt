@@ -10,12 +10,12 @@ use Rattle.definitions.specs.Plans.Folding.{Folds}
 use Rattle.definitions.specs.Plans.Cost.{saturated, merge_cost}
 use Rattle.definitions.proofs.PlanTheory.Orders.{folds_once}
 use Rattle.plan_space.specs.Item.{Item, AreItems}
-use Rattle.plan_space.specs.Merge.{Merge as MergeItem, IsMergeItem, AreMerges}
+use Rattle.plan_space.specs.Merge.{Merge as CostedMerge, IsMergeItem, AreMerges}
 use Rattle.plan_space.proofs.Lists.{has_each, head_has, both}
 use Rattle.plan_space.proofs.PathItems.{IsPathItem, each_path, found_item}
 use Rattle.join_dp.specs.Steps.{Join, Loop, Merge, AccessOf, Candidate}
 use Rattle.join_dp.specs.Joining.{IsJoin, IsAdded}
-use Rattle.join_dp.specs.Rows.{Row, cost_at, offered, Below}
+use Rattle.join_dp.specs.Rows.{SetCandidates, cost_at, offered, Below}
 use Rattle.join_dp.specs.Solving.{Solved, IsUnsorted, AreUnsorted, LowByAccesses, LowByJoin}
 use Rattle.join_dp.proofs.Found.{improved_size, below_same, below_trans, LeadsLow, goes_low}
 use Rattle.join_dp.proofs.Offering.{offered_below, offered_low, offered_unsorted}
@@ -54,10 +54,10 @@ module _ (space : Space) (table : ℕ) where
       let right = head_has (IsPathItem space 0 table) items rest item is s.leads.0 in
       omega (arith, right.0.numbered, s.size, le)
 
-  pub accesses_go : (old : List (Option Candidate)) (row row' : Row) (items rest : List Item) (item : Item) (f : ℕ) → table < space.table_count → items ≡ item ∷ rest → f ≤ item.order → Folds space (only table) item.order f
+  pub accesses_go : (old : List (Option Candidate)) (row row' : SetCandidates) (items rest : List Item) (item : Item) (f : ℕ) → table < space.table_count → items ≡ item ∷ rest → f ≤ item.order → Folds space (only table) item.order f
       → Accessed old row.found items → row' ≡ offered row f (record { step = AccessOf item.path; sorted = None; cost = item.cost }) → Accessed old row'.found rest
   accesses_go old row row' items rest item f lt is le folds s e = record {
-    size = ap (λ (r : Row). length r.found) e ∙ improved_size row.found f candidate ∙ s.size;
+    size = ap (λ (r : SetCandidates). length r.found) e ∙ improved_size row.found f candidate ∙ s.size;
     made = λ states made. offered_unsorted space states (only table) row row' f candidate e within (s.made states made) (fits states);
     below = below_trans _ _ _ below s.below;
     leads = goes_low (IsPathItem space 0 table) AccessSeen (LowByAccesses space table) row.found row'.found items rest item is s.leads below
@@ -98,25 +98,25 @@ module _ (space : Space) (states : List Solved) (s table : ℕ) where
 
   -- ---- merges
 
-  abbrev pub MergeSeen : List (Option Candidate) → MergeItem → Type 0
+  abbrev pub MergeSeen : List (Option Candidate) → CostedMerge → Type 0
   MergeSeen row item = LowByJoin space states s table (Merge item.conjunct item.inner) row
 
   abbrev pub LowByMerges : List (Option Candidate) → Type 0
   LowByMerges row = (number : ℕ) (inner : Inner) → IsJoin space s table (Merge number inner) → LowByJoin space states s table (Merge number inner) row
 
-  pub record Merged (old row : List (Option Candidate)) (items : List MergeItem) : Type 0 where
+  pub record Merged (old row : List (Option Candidate)) (items : List CostedMerge) : Type 0 where
     pub made : AreUnsorted space states (with_table s table) row
     pub below : Below row old
     pub leads : LeadsLow (IsMergeItem space s table) MergeSeen LowByMerges row items
 
-  pub merges_begin : (row : List (Option Candidate)) (items : List MergeItem) → AreUnsorted space states (with_table s table) row → AreMerges space s table items → Merged row row items
+  pub merges_begin : (row : List (Option Candidate)) (items : List CostedMerge) → AreUnsorted space states (with_table s table) row → AreMerges space s table items → Merged row row items
   merges_begin row items made are = record {
     made = made;
     below = below_same row;
     leads = (are.each, λ later below all number inner is. has_each (MergeSeen later) items (record { conjunct = number; inner = inner; cost = merge_cost space s number inner }) all (are.all number inner is));
   }
 
-  pub merges_go : (old row row' : List (Option Candidate)) (items rest : List MergeItem) (item : MergeItem) → items ≡ item ∷ rest → Merged old row items
+  pub merges_go : (old row row' : List (Option Candidate)) (items rest : List CostedMerge) (item : CostedMerge) → items ≡ item ∷ rest → Merged old row items
       → AreUnsorted space states (with_table s table) row' → Below row' row → MergeSeen row' item → Merged old row' rest
   merges_go old row row' items rest item is so_far made below low = record {
     made = made;
@@ -124,5 +124,5 @@ module _ (space : Space) (states : List Solved) (s table : ℕ) where
     leads = goes_low (IsMergeItem space s table) MergeSeen LowByMerges row row' items rest item is so_far.leads below (λ later b. join_low_later (Merge item.conjunct item.inner) later row' b low);
   }
 
-  pub merge_added : (item : MergeItem) → MayFollow space s table → IsMergeItem space s table item → IsAdded space s table (Merge item.conjunct item.inner) item.cost
+  pub merge_added : (item : CostedMerge) → MayFollow space s table → IsMergeItem space s table item → IsAdded space s table (Merge item.conjunct item.inner) item.cost
   merge_added item follows right = record { follows = follows; is_join = right.is_merge; cost = right.cost }

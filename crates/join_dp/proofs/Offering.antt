@@ -10,26 +10,26 @@ use Rattle.definitions.proofs.PlanTheory.Orders.{folds_once}
 use Rattle.plan_space.proofs.Merging.{can_merge}
 use Rattle.join_dp.specs.Steps.{Join, Loop, Merge, table_in, JoinOn, Candidate}
 use Rattle.join_dp.specs.Joining.{CanJoin, join_cost, IsJoin, GoesWith, IsAdded}
-use Rattle.join_dp.specs.Rows.{Row, cost_at, offered, Below}
+use Rattle.join_dp.specs.Rows.{SetCandidates, cost_at, offered, Below}
 use Rattle.join_dp.specs.Solving.{Solved, at, StepMakes, IsUnsorted, AreUnsorted, LowByJoinOn}
 use Rattle.join_dp.proofs.Found.{improved_size, improved_fits, improved_low, improved_below, below_same, below_trans}
 
 -- a row is lower after a plan
-pub offered_below : (row row' : Row) (k : ℕ) (c : Candidate) → row' ≡ offered row k c → k < length row.found → c.cost ≤ limit → Below row'.found row.found
-offered_below row row' k c is lt small = subst (λ (r : Row). Below r.found row.found) (sym is) (improved_below row.found k c lt small)
+pub offered_below : (row row' : SetCandidates) (k : ℕ) (c : Candidate) → row' ≡ offered row k c → k < length row.found → c.cost ≤ limit → Below row'.found row.found
+offered_below row row' k c is lt small = subst (λ (r : SetCandidates). Below r.found row.found) (sym is) (improved_below row.found k c lt small)
 
-pub offered_low : (row row' : Row) (k : ℕ) (c : Candidate) → row' ≡ offered row k c → k < length row.found → cost_at row'.found k ≤ c.cost
-offered_low row row' k c is lt = subst (λ (r : Row). cost_at r.found k ≤ c.cost) (sym is) (improved_low row.found k c lt)
+pub offered_low : (row row' : SetCandidates) (k : ℕ) (c : Candidate) → row' ≡ offered row k c → k < length row.found → cost_at row'.found k ≤ c.cost
+offered_low row row' k c is lt = subst (λ (r : SetCandidates). cost_at r.found k ≤ c.cost) (sym is) (improved_low row.found k c lt)
 
-pub offered_steps : (row row' : Row) (k : ℕ) (c : Candidate) → row' ≡ offered row k c → row'.steps ≤ row.steps + 1
-offered_steps row row' k c is = let e = ap (λ (r : Row). r.steps) is in omega (arith, e)
+pub offered_steps : (row row' : SetCandidates) (k : ℕ) (c : Candidate) → row' ≡ offered row k c → row'.steps ≤ row.steps + 1
+offered_steps row row' k c is = let e = ap (λ (r : SetCandidates). r.steps) is in omega (arith, e)
 
 pub sum_is : (n x y a b : ℕ) → n ≡ saturated (x + y) → x ≡ a → y ≡ b → n ≡ saturated (a + b)
 sum_is n x y a b is e f = rw (← e, ← f) is
 
 module _ (space : Space) (states : List Solved) where
-  pub offered_unsorted : (next : ℕ) (row row' : Row) (k : ℕ) (c : Candidate) → row' ≡ offered row k c → k < length row.found → AreUnsorted space states next row.found → IsUnsorted space states next k c → AreUnsorted space states next row'.found
-  offered_unsorted next row row' k c is lt made fits = subst (λ (r : Row). AreUnsorted space states next r.found) (sym is) (record {
+  pub offered_unsorted : (next : ℕ) (row row' : SetCandidates) (k : ℕ) (c : Candidate) → row' ≡ offered row k c → k < length row.found → AreUnsorted space states next row.found → IsUnsorted space states next k c → AreUnsorted space states next row'.found
+  offered_unsorted next row row' k c is lt made fits = subst (λ (r : SetCandidates). AreUnsorted space states next r.found) (sym is) (record {
     size = improved_size row.found k c ∙ made.size;
     each = improved_fits (IsUnsorted space states next) row.found k c lt made.each fits;
   })

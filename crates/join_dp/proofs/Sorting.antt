@@ -8,15 +8,15 @@ use Rattle.definitions.specs.Plans.Cost.{limit, saturated}
 use Rattle.definitions.proofs.PlanTheory.Orders.{folds_once}
 use Rattle.interesting_orders.specs.Sorts.{AreSorts}
 use Rattle.plan_space.proofs.Lists.{has_each, head_has}
-use Rattle.join_dp.specs.Rows.{Row, found_at, cost_or, cost_at, improved, offered, least_from, Below, IsFloor, StandsIn}
+use Rattle.join_dp.specs.Rows.{SetCandidates, found_at, cost_or, cost_at, improved, offered, least_from, Below, IsFloor, StandsIn}
 use Rattle.join_dp.specs.Solving.{Solved, SortMakes, IsUnsorted, IsMade, AreUnsorted, AreMade, LowBySorts, SortsAreLow}
 use Rattle.join_dp.specs.Steps.{Candidate, better}
 use Rattle.join_dp.proofs.Found.{improved_at, improved_other, improved_size, improved_fits, better_is, below_same, below_trans, LeadsLow, goes_low}
 use Rattle.join_dp.proofs.Least.{least_none, stands, floor}
 use Rattle.join_dp.proofs.Offering.{offered_below, offered_low}
 
-floor_kept : (least : ℕ) (row row' : Row) (k : ℕ) (c : Candidate) → row' ≡ offered row k c → k < length row.found → least ≤ c.cost → IsFloor least row.found → IsFloor least row'.found
-floor_kept least row row' k c e lt le low j = subst (λ (r : Row). least ≤ cost_at r.found j) (sym e) (of_cases (cases_eq j k))
+floor_kept : (least : ℕ) (row row' : SetCandidates) (k : ℕ) (c : Candidate) → row' ≡ offered row k c → k < length row.found → least ≤ c.cost → IsFloor least row.found → IsFloor least row'.found
+floor_kept least row row' k c e lt le low j = subst (λ (r : SetCandidates). least ≤ cost_at r.found j) (sym e) (of_cases (cases_eq j k))
   where
     of_better : (better (found_at row.found k) c ≡ c) ⊎ (Some (better (found_at row.found k) c) ≡ found_at row.found k) → least ≤ cost_or (Some (better (found_at row.found k) c))
     of_better (inl is) = subst (λ (x : Candidate). least ≤ x.cost) (sym is) le
@@ -58,11 +58,11 @@ module _ (space : Space) (tables : ℕ) where
         let can = head_has (CanSort space tables) orders rest into is s.leads.0 in
         omega (arith, can.1.0, s.size, le)
 
-    pub sorts_go : (cheapest : Candidate) → cost ≡ saturated (cheapest.cost + space.sort_cost tables) → (old : List (Option Candidate)) (row row' : Row) (orders rest : List ℕ) (into f : ℕ) → StandsIn old cheapest
+    pub sorts_go : (cheapest : Candidate) → cost ≡ saturated (cheapest.cost + space.sort_cost tables) → (old : List (Option Candidate)) (row row' : SetCandidates) (orders rest : List ℕ) (into f : ℕ) → StandsIn old cheapest
         → orders ≡ into ∷ rest → f ≤ into → Folds space tables into f → Sorted old row.found orders → row' ≡ offered row f (record { step = cheapest.step; sorted = Some into; cost = cost }) → Sorted old row'.found rest
     sorts_go cheapest cost_is old row row' orders rest into f (k, there) is le folds s e = record {
-      size = ap (λ (r : Row). length r.found) e ∙ improved_size row.found f candidate ∙ s.size;
-      made = λ states u. subst (λ (r : Row). AreMade space states tables r.found) (sym e) (record {
+      size = ap (λ (r : SetCandidates). length r.found) e ∙ improved_size row.found f candidate ∙ s.size;
+      made = λ states u. subst (λ (r : SetCandidates). AreMade space states tables r.found) (sym e) (record {
         size = improved_size row.found f candidate ∙ s.size;
         each = improved_fits (IsMade space states tables) row.found f candidate within (s.made states u).each (fits states (u.each k cheapest there));
       });

@@ -5,7 +5,7 @@ use Rattle.definitions.specs.Plans.TableSet.{TableSet, no_tables}
 use Rattle.definitions.specs.Plans.Order.{OrderNumber}
 use Rattle.definitions.specs.Plans.Space.{Space, whole}
 use Rattle.definitions.specs.Plans.PlanSpace.{MayFollow}
-use Rattle.plan_space.specs.Merge.{Merge as MergeItem, AreMerges}
+use Rattle.plan_space.specs.Merge.{Merge as CostedMerge, AreMerges}
 use Rattle.interesting_orders.specs.Sorts.{AreSorts}
 
 -- a set has at most so many states, by where the sets begin
@@ -16,7 +16,7 @@ module _ (space : Space) (sorts : TableSet → ℕ) (joins : TableSet → ℕ �
   -- no more sorts of a set, and joins of it with a table that may follow, than so many
   pub record AreCounts : Type 0 where
     pub of_sorts : (tables : TableSet) (orders : List OrderNumber) → AreSorts space tables orders → length orders ≤ sorts tables
-    pub of_joins : (tables : TableSet) (table : ℕ) (merges : List MergeItem) → MayFollow space tables table → AreMerges space tables table merges
+    pub of_joins : (tables : TableSet) (table : ℕ) (merges : List CostedMerge) → MayFollow space tables table → AreMerges space tables table merges
         → length (space.paths tables table) + length merges ≤ joins tables table
 
   -- the steps by which a table comes last to a set: its accesses, or its joins on top of each state of the set without it

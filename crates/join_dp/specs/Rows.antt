@@ -5,7 +5,7 @@ use Rattle.definitions.specs.Plans.Cost.{limit}
 use Rattle.join_dp.specs.Steps.{Candidate, better}
 
 -- and how many plans were looked at
-pub record Row : Type 0 where
+pub record SetCandidates : Type 0 where
   pub found : List (Option Candidate)
   pub steps : ℕ
 
@@ -40,7 +40,7 @@ improved found order candidate = set found order (Some (better (found_at found o
 abbrev pub one_step_more : ℕ → ℕ
 one_step_more steps = min (steps + 1) (2 ^ 64 - 1)
 
-abbrev pub offered : Row → OrderNumber → Candidate → Row
+abbrev pub offered : SetCandidates → OrderNumber → Candidate → SetCandidates
 offered row order candidate = record { found = improved row.found order candidate; steps = one_step_more row.steps }
 
 -- each plan fits its order

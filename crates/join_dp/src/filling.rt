@@ -9,7 +9,7 @@ ghost use Rattle.definitions.specs.Plans.TableSet.{Has, Lacks, no_tables, only, 
 ghost use Rattle.definitions.specs.Plans.PlanSpace.{MayFollow};
 ghost use Rattle.definitions.specs.Plans.Cost.{saturated};
 ghost use Rattle.plan_tree.specs.Sets.{set_of};
-ghost use Rattle.plan_space.specs.Merge.{Merge as MergeItem, AreMerges};
+ghost use Rattle.plan_space.specs.Merge.{Merge as CostedMerge, AreMerges};
 ghost use Rattle.interesting_orders.specs.Sorts.{AreSorts};
 ghost use Rattle.join_dp.specs.Counting.{AreCounts, AreFew, most_last, most_to};
 ghost use Rattle.join_dp.specs.Indexing.{AreStarts};
@@ -23,7 +23,7 @@ ghost use Rattle.join_dp.specs.Views.{candidate_of, join_of};
 ghost use Rattle.plan_space.specs.Planned.{space_in};
 
 use crate::cheapest_path::cheapest_path;
-use crate::row::Row;
+use crate::row::SetCandidates;
 use crate::states::States;
 use crate::step::{AddedJoin, Candidate, Join, Step};
 use estimate::saturated;
@@ -31,7 +31,7 @@ use plan_space::Space;
 use plan_tree::TableSet;
 
 /// Looks at the accesses of a table, as plans of the set of that table alone.
-fn add_accesses<'a>(space: &'a Space<'_>, table: usize, row: &mut Row<'a>)
+fn add_accesses<'a>(space: &'a Space<'_>, table: usize, row: &mut SetCandidates<'a>)
     requires few { (space_in space.now).table_count ≤ most_from_tables }
     requires table { table < (space_in space.now).table_count }
     requires size { length row.old.found ≡ length (space_in space.now).orders }
@@ -68,7 +68,7 @@ fn add_join_on<'a>(
     states: &States<'a>,
     from: usize,
     added: AddedJoin<'a>,
-    row: &mut Row<'a>,
+    row: &mut SetCandidates<'a>,
 )
     requires few { (space_in space.now).table_count ≤ most_from_tables }
     requires set { set_of added.tables < 2 ^ (space_in space.now).table_count }
@@ -99,7 +99,7 @@ fn add_join_on<'a>(
 }
 
 /// Looks at a join on top of the plans of all states of its set.
-fn add_join<'a>(space: &'a Space<'_>, states: &States<'a>, added: AddedJoin<'a>, row: &mut Row<'a>)
+fn add_join<'a>(space: &'a Space<'_>, states: &States<'a>, added: AddedJoin<'a>, row: &mut SetCandidates<'a>)
     requires few { (space_in space.now).table_count ≤ most_from_tables }
     requires set { set_of added.tables < 2 ^ (space_in space.now).table_count }
     requires states { AllMade (space_in space.now) (states_in states.now) }
@@ -126,7 +126,7 @@ fn add_loop<'a>(
     states: &States<'a>,
     tables: TableSet,
     table: usize,
-    row: &mut Row<'a>,
+    row: &mut SetCandidates<'a>,
 ) -> u64
     requires few { (space_in space.now).table_count ≤ most_from_tables }
     requires set { set_of tables < 2 ^ (space_in space.now).table_count }
@@ -163,7 +163,7 @@ fn add_cheaper_join<'a>(
     states: &States<'a>,
     added: AddedJoin<'a>,
     known: u64,
-    row: &mut Row<'a>,
+    row: &mut SetCandidates<'a>,
 )
     requires few { (space_in space.now).table_count ≤ most_from_tables }
     requires set { set_of added.tables < 2 ^ (space_in space.now).table_count }
@@ -192,7 +192,7 @@ fn add_merges<'a>(
     tables: TableSet,
     table: usize,
     known: u64,
-    row: &mut Row<'a>,
+    row: &mut SetCandidates<'a>,
 )
     requires few { (space_in space.now).table_count ≤ most_from_tables }
     requires set { set_of tables < 2 ^ (space_in space.now).table_count }
@@ -206,7 +206,7 @@ fn add_merges<'a>(
     ensures made { AreUnsorted (space_in space.now) (states_in states.now) (with_table (set_of tables) table) row.new.found }
     ensures below { Below row.new.found row.old.found }
     ensures low { (number : ℕ) (inner : Inner) → IsJoin (space_in space.now) (set_of tables) table (steps.Merge number inner) → LowByJoin (space_in space.now) (states_in states.now) (set_of tables) table (steps.Merge number inner) row.new.found }
-    ensures steps { (merges : List MergeItem) × AreMerges (space_in space.now) (set_of tables) table merges × (row.new.steps ≤ row.old.steps + length (space_in space.now).orders * length merges) }
+    ensures steps { (merges : List CostedMerge) × AreMerges (space_in space.now) (set_of tables) table merges × (row.new.steps ≤ row.old.steps + length (space_in space.now).orders * length merges) }
 {
     'merges: for item in space.merges(tables, table) {
         let join = Join::Merge {
@@ -240,7 +240,7 @@ fn add_last<'a>(
     states: &States<'a>,
     tables: TableSet,
     table: usize,
-    row: &mut Row<'a>,
+    row: &mut SetCandidates<'a>,
 )
     requires few { (space_in space.now).table_count ≤ most_from_tables }
     requires table { table < (space_in space.now).table_count }
@@ -263,7 +263,7 @@ fn add_last<'a>(
         add_accesses(space, table, row);
         return;
     }
-    if !space.may_follow(before, table) {
+    if !space.can_join_next(before, table) {
         return;
     }
     let known = add_loop(space, states, before, table, row);
@@ -275,7 +275,7 @@ fn add_sorts_of<'a>(
     space: &'a Space<'_>,
     tables: TableSet,
     cheapest: Candidate<'a>,
-    row: &mut Row<'a>,
+    row: &mut SetCandidates<'a>,
 )
     requires set { set_of tables < 2 ^ (space_in space.now).table_count }
     requires size { length row.old.found ≡ length (space_in space.now).orders }
@@ -298,7 +298,7 @@ fn add_sorts_of<'a>(
 }
 
 /// Looks at the sorts of the cheapest plan of a set. No sort of another plan costs less.
-fn add_sorts<'a>(space: &'a Space<'_>, tables: TableSet, row: &mut Row<'a>)
+fn add_sorts<'a>(space: &'a Space<'_>, tables: TableSet, row: &mut SetCandidates<'a>)
     requires set { set_of tables < 2 ^ (space_in space.now).table_count }
     requires size { length row.old.found ≡ length (space_in space.now).orders }
     ensures made { (states : List solving.Solved) → AreUnsorted (space_in space.now) states (set_of tables) row.old.found → AreMade (space_in space.now) states (set_of tables) row.new.found }
@@ -317,7 +317,7 @@ pub(crate) fn fill_row<'a>(
     space: &'a Space<'_>,
     states: &States<'a>,
     tables: TableSet,
-    row: &mut Row<'a>,
+    row: &mut SetCandidates<'a>,
 )
     requires set { set_of tables < 2 ^ (space_in space.now).table_count }
     requires states { AllMade (space_in space.now) (states_in states.now) }

@@ -11,15 +11,15 @@ use std::marker::Model;
 
 /// Of each order the least plan of a set of tables that was found so far, and how many were looked at.
 #[derive(Drop)]
-pub(crate) struct Row<'a> {
+pub(crate) struct SetCandidates<'a> {
     found: Vec<Option<Candidate<'a>>>,
     steps: u64,
 }
 
-impl<'a> Model for Row<'a> {
-    ghost use Rattle.join_dp.specs.Rows.{Row};
+impl<'a> Model for SetCandidates<'a> {
+    ghost use Rattle.join_dp.specs.Rows.{SetCandidates};
 
-    ghost Value = { Row };
+    ghost Value = { SetCandidates };
 
     ghost use Rattle.std.specs.Prelude.{map, option_map, ◌≤◌};
     ghost use Rattle.join_dp.specs.Views.{candidate_of};
@@ -30,9 +30,9 @@ impl<'a> Model for Row<'a> {
     ghost invariant = { λ r. filled (map (option_map candidate_of) r.found.items) ≤ r.steps };
 }
 
-impl<'a> Row<'a> {
+impl<'a> SetCandidates<'a> {
     /// No plans, for so many orders.
-    pub fn new(alloc: Global, orders: usize) -> Result<Row<'a>, AllocError>
+    pub fn new(alloc: Global, orders: usize) -> Result<SetCandidates<'a>, AllocError>
         ensures size { IfOk result (λ row. length row.found ≡ orders) }
         ensures none { IfOk result (λ row. (order : ℕ) → found_at row.found order ≡ None) }
         ensures steps { IfOk result (λ row. row.steps ≡ 0) }
@@ -41,7 +41,7 @@ impl<'a> Row<'a> {
         'orders: for _ in 0..orders {
             found.push(None)?;
         }
-        Ok(Row { found, steps: 0 })
+        Ok(SetCandidates { found, steps: 0 })
     }
 
     /// Forgets all plans.

@@ -7,7 +7,7 @@ ghost use Rattle.join_dp.specs.States.{states_in, starts_in};
 ghost use Rattle.plan_space.specs.Planned.{space_in};
 
 use crate::filling::fill_row;
-use crate::row::Row;
+use crate::row::SetCandidates;
 use crate::states::States;
 use plan_space::Space;
 use plan_tree::TableSet;
@@ -20,7 +20,7 @@ pub(crate) fn solve<'a>(alloc: Global, space: &'a Space<'_>) -> Result<States<'a
     ensures steps { (sorts : ℕ → ℕ) (joins : ℕ → ℕ → ℕ) → AreCounts (space_in space.now) sorts joins → IfOk result (λ s. s.steps ≤ most_steps (space_in space.now) sorts joins) }
 {
     let mut states = States::new(alloc)?;
-    let mut row = Row::new(alloc, space.order_count())?;
+    let mut row = SetCandidates::new(alloc, space.order_count())?;
     let whole = TableSet::first(space.table_count());
     'sets: for place in 1..whole.place() + 1 {
         let tables = TableSet::at(place);

@@ -7,7 +7,7 @@ ghost use Rattle.join_dp.specs.Counting.{AreFew};
 ghost use Rattle.join_dp.specs.Indexing.{AreStarts};
 ghost use Rattle.join_dp.specs.States.{solved_of};
 
-use crate::row::Row;
+use crate::row::SetCandidates;
 use crate::step::Candidate;
 use plan_tree::TableSet;
 use std::alloc::{AllocError, Global};
@@ -87,7 +87,7 @@ impl<'a> States<'a> {
     }
 
     /// Puts the states of the next set behind those before.
-    pub fn push_row(&mut self, tables: TableSet, row: &Row<'a>) -> Result<(), AllocError>
+    pub fn push_row(&mut self, tables: TableSet, row: &SetCandidates<'a>) -> Result<(), AllocError>
         ensures states { IfOk result (λ _. states_in self.new ≡ states_in self.old ++ entries_from (set_of tables) 0 row.now.found) }
         ensures starts { IfOk result (λ _. starts_in self.new ≡ starts_in self.old ++ length (states_in self.new) ∷ []) }
         ensures counted { IfOk result (λ _. length (states_in self.old) ≤ self.old.steps → length (states_in self.new) ≤ self.new.steps) }
@@ -104,7 +104,7 @@ impl<'a> States<'a> {
 fn push_states<'a>(
     solved: &mut Vec<Solved<'a>>,
     tables: TableSet,
-    row: &Row<'a>,
+    row: &SetCandidates<'a>,
 ) -> Result<(), AllocError>
     ensures { IfOk result (λ _. map solved_of solved.new.items ≡ map solved_of solved.old.items ++ entries_from (set_of tables) 0 row.now.found) }
 {

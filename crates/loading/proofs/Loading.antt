@@ -14,7 +14,7 @@ use Rattle.loading.specs.Pushes.{Pushes}
 use Rattle.loading.specs.Stored.{StoredColumn, AreFilled, headers, row_at, rows_of, with_row, with_rows, Extends}
 use Rattle.loading.specs.declared.fault.RecordFault.{RecordFault}
 use Rattle.loading.specs.declared.fault.RefusedRecord.{RefusedRecord}
-use Rattle.loading.specs.declared.pushed.Stop.TheVariants as stop
+use Rattle.loading.specs.declared.pushed.StopReason.TheVariants as stop
 use Rattle.loading.proofs.Pushing.{extends_same, extends_row, extends_then}
 use Rattle.loading.proofs.Reading.{read_few, read_first}
 

@@ -5,11 +5,11 @@ use Rattle.definitions.specs.Loading.{Record, AreFileRecords, RecordReads, AllRe
 use Rattle.loading.specs.Meaning.{record_refusal}
 use Rattle.loading.specs.Stored.{StoredColumn, headers, with_rows}
 use Rattle.loading.specs.declared.pushed.Pushed.{Pushed}
-use Rattle.loading.specs.declared.pushed.Stop.{Stop}
-use Rattle.loading.specs.declared.pushed.Stop.TheVariants as stop
+use Rattle.loading.specs.declared.pushed.StopReason.{StopReason}
+use Rattle.loading.specs.declared.pushed.StopReason.TheVariants as stop
 
 -- why no more records than so many become rows, where there is room for some: none is left, the next is no row, or there is no room for it
-abbrev pub StopsAt : List Column → (room rows : ℕ) → (left : List Record) → Option Stop → Type 0
+abbrev pub StopsAt : List Column → (room rows : ℕ) → (left : List Record) → Option StopReason → Type 0
 StopsAt columns room rows [] None = ⊤
 StopsAt columns room rows (faulty ∷ left) (Some (stop.Record r)) = (rows < room) × RecordReads columns faulty (Err (record_refusal r.fault)) × (r.number ≡ rows + 1)
 StopsAt columns room rows (further ∷ left) (Some stop.Full) = rows ≡ room

@@ -16,7 +16,7 @@ ghost use Rattle.loading.specs.Files.{HasRead};
 use crate::column::Column;
 use crate::fault::{PushFault, RecordFault, RefusedRecord};
 use crate::field::is_null;
-use crate::pushed::{Pushed, Stop};
+use crate::pushed::{Pushed, StopReason};
 use csv::{ByteRecord, Position, Reader, ReaderBuilder};
 use std::alloc::{AllocError, Global};
 
@@ -41,7 +41,7 @@ pub fn push_records(
         if rows == room {
             return Ok(Pushed {
                 rows,
-                stopped: Some(Stop::Full),
+                stopped: Some(StopReason::Full),
             });
         }
         match push_record(columns, len + rows as usize, &record) {
@@ -50,7 +50,7 @@ pub fn push_records(
                 let refused = refused_record(fault, rows + 1, record.position());
                 return Ok(Pushed {
                     rows,
-                    stopped: Some(Stop::Record(refused)),
+                    stopped: Some(StopReason::Record(refused)),
                 });
             }
             Err(PushFault::Memory) => return Err(AllocError),

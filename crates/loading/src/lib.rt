@@ -13,5 +13,5 @@ mod written_number;
 pub use column::Column;
 pub use fault::{RecordFault, RefusedRecord};
 pub use file::{RecordStart, cut_columns, push_records, record_start};
-pub use pushed::{Pushed, Stop};
+pub use pushed::{Pushed, StopReason};
 pub use written_number::{WrittenNumber, units_in};

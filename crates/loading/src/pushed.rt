@@ -4,7 +4,7 @@ use crate::fault::RefusedRecord;
 
 /// Why further records of a file are not added.
 #[derive(Clone, Copy, Debug, PartialEq, Eq)]
-pub enum Stop {
+pub enum StopReason {
     /// The next record is no row.
     Record(RefusedRecord),
     /// There is no room for the next record, whatever it holds.
@@ -15,5 +15,5 @@ pub enum Stop {
 #[derive(Clone, Copy, Debug, PartialEq, Eq)]
 pub struct Pushed {
     pub rows: u64,
-    pub stopped: Option<Stop>,
+    pub stopped: Option<StopReason>,
 }

@@ -13,7 +13,7 @@ use crate::steps::{access_below, join_below, sort_below, state_at};
 use crate::target::target_missed;
 use catalog::Database;
 use certificate::{BlockSpace, Spelled, Version, read_text};
-use certificate_files::{Expected, FileTold, Place, Rule, TextFault, Told};
+use certificate_files::{Expected, FileTold, StateKey, Rule, TextFault, Told};
 use query_tree::Block;
 use std::alloc::{AllocError, Global};
 
@@ -150,7 +150,7 @@ fn rule_found(
     block: &Block,
     refused: Refused<'_>,
     rule: Rule,
-    place: Place,
+    place: StateKey,
 ) -> Result<Option<Found>, AllocError>
     requires { IsFormedSomewhere database.now (block_of block.now) }
 {
@@ -167,7 +167,7 @@ fn rule_failing(
     spelled: &Spelled,
     text: &[u8],
     rule: Rule,
-    place: Place,
+    place: StateKey,
 ) -> Option<Found>
     requires { IsCertificate (space_in own.now.space) (certificate_of spelled.now.certificate) }
 {

@@ -1,6 +1,6 @@
 //! Places of a file as people are shown them.
 
-use messages_excerpts::{Lines, Place, write_excerpt};
+use messages_excerpts::{Lines, LineColumn, write_excerpt};
 use std::fmt::{self, Formatter};
 
 /// A file whose places are found from one to the next.
@@ -20,7 +20,7 @@ impl<'a> Page<'a> {
     }
 
     /// The line and the column of a byte; in a file that isn't UTF-8 columns are bytes.
-    pub fn locate(&mut self, offset: usize) -> Place {
+    pub fn locate(&mut self, offset: usize) -> LineColumn {
         match self {
             Page::Text(lines) => lines.locate(offset),
             Page::Bytes(file) => place_in(file.get(..offset).unwrap_or(&[])),
@@ -39,8 +39,8 @@ impl<'a> Page<'a> {
 }
 
 /// The place behind bytes.
-fn place_in(bytes: &[u8]) -> Place {
-    let mut place = Place { line: 1, column: 1 };
+fn place_in(bytes: &[u8]) -> LineColumn {
+    let mut place = LineColumn { line: 1, column: 1 };
     for byte in bytes {
         if *byte == b'\n' {
             place.line = place.line.saturating_add(1);

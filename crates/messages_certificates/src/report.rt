@@ -9,7 +9,7 @@ use crate::finding::{Message, block_message};
 use crate::page::Page;
 use catalog::Database;
 use certificate_files::FileTold;
-use messages_excerpts::Place;
+use messages_excerpts::LineColumn;
 use query_tree::Block;
 use std::alloc::Global;
 use std::fmt::{self, Display, Formatter};
@@ -47,8 +47,8 @@ impl<'r> FileReport<'r> {
     }
 
     /// `plans.txt:5:7: `.
-    fn write_place<W: fmt::Write>(&self, f: &mut Formatter<W>, place: Place) -> fmt::Result {
-        let Place { line, column } = place;
+    fn write_place<W: fmt::Write>(&self, f: &mut Formatter<W>, place: LineColumn) -> fmt::Result {
+        let LineColumn { line, column } = place;
         write!(f, "{}:{line}:{column}: ", self.name)
     }
 

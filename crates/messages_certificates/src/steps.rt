@@ -10,12 +10,12 @@ ghost use Rattle.plan_space.specs.Planned.{space_in};
 use crate::reason::{LowStep, Step};
 use crate::spelling::{spelled, state_name};
 use certificate::BlockSpace;
-use certificate_files::Place;
+use certificate_files::StateKey;
 use estimate::saturated;
 use plan_tree::{Certificate, State, TableSet};
 
 /// Where a state stands in the list, if it does.
-pub(crate) fn state_at(certificate: &Certificate, place: Place) -> Option<usize> {
+pub(crate) fn state_at(certificate: &Certificate, place: StateKey) -> Option<usize> {
     certificate.states.iter().position(|state| {
         state.tables.place() == place.tables.place() && state.order == place.order
     })
@@ -46,7 +46,7 @@ fn low_step(
 pub(crate) fn access_below(
     own: &BlockSpace<'_>,
     certificate: &Certificate,
-    place: Place,
+    place: StateKey,
 ) -> Option<LowStep>
     requires { IsCertificate (space_in own.now.space) (certificate_of certificate.now) }
 {
@@ -139,7 +139,7 @@ fn join_with(
     requires table { table < (space_in own.now.space).table_count }
     requires set { set_of from.tables < 2 ^ (space_in own.now.space).table_count }
 {
-    if !own.space.may_follow(from.tables, table) {
+    if !own.space.can_join_next(from.tables, table) {
         return None;
     }
     let tables = from.tables.with(table);

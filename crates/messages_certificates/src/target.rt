@@ -6,7 +6,7 @@ use crate::reason::{PlanFault, Reason, Step, WrongStep};
 use crate::spelling::{spelled, state_name};
 use crate::steps::state_at;
 use certificate::{BlockSpace, Spelled};
-use certificate_files::Place;
+use certificate_files::StateKey;
 use plan_tree::Plan;
 
 /// What makes the rule of the target fail at a state of all tables.
@@ -14,7 +14,7 @@ pub(crate) fn target_missed(
     own: &BlockSpace<'_>,
     spelled: &Spelled,
     text: &[u8],
-    place: Place,
+    place: StateKey,
 ) -> Found {
     let listed = state_at(&spelled.certificate, place);
     let (spot, reason) = match listed {

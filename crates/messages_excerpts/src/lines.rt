@@ -2,7 +2,7 @@
 
 /// Where a byte of a script stands: its line and its column, both from 1, the column in characters.
 #[derive(Clone, Copy)]
-pub struct Place {
+pub struct LineColumn {
     pub line: usize,
     pub column: usize,
 }
@@ -13,7 +13,7 @@ pub struct Place {
 pub struct Lines<'a> {
     script: &'a str,
     offset: usize,
-    place: Place,
+    place: LineColumn,
 }
 
 impl<'a> Lines<'a> {
@@ -21,7 +21,7 @@ impl<'a> Lines<'a> {
         Lines {
             script,
             offset: 0,
-            place: Place { line: 1, column: 1 },
+            place: LineColumn { line: 1, column: 1 },
         }
     }
 
@@ -31,7 +31,7 @@ impl<'a> Lines<'a> {
     }
 
     /// The place of a byte, by its offset.
-    pub fn locate(&mut self, offset: usize) -> Place {
+    pub fn locate(&mut self, offset: usize) -> LineColumn {
         if offset < self.offset {
             *self = Lines::new(self.script);
         }
@@ -43,7 +43,7 @@ impl<'a> Lines<'a> {
 }
 
 /// The place behind a text that begins at a place.
-fn behind(place: Place, text: &str) -> Place {
+fn behind(place: LineColumn, text: &str) -> LineColumn {
     let mut line = place.line;
     let mut column = place.column;
     for byte in text.as_bytes() {
@@ -54,7 +54,7 @@ fn behind(place: Place, text: &str) -> Place {
             column = column.saturating_add(1);
         }
     }
-    Place { line, column }
+    LineColumn { line, column }
 }
 
 /// Whether a byte is the first of a character in UTF-8 (RFC 3629, 3).

@@ -18,7 +18,7 @@ mod wanted;
 mod words;
 
 pub use messages_certificates::FileReport;
-pub use messages_excerpts::{Lines, Place};
+pub use messages_excerpts::{Lines, LineColumn};
 pub use query_places::offset_of_fault;
 pub use report::{Report, Reporter};
 pub use suggestions::{Nearest, write_near_column, write_near_table};

@@ -20,7 +20,7 @@ use catalog::{
     TableStatisticsFault,
 };
 use messages_certificates::FileReport;
-use messages_excerpts::{Lines, Place, write_excerpt};
+use messages_excerpts::{Lines, LineColumn, write_excerpt};
 use sqlr::{Cause, CheckedFile, ColumnList, FileLoad, Refused};
 use std::alloc::Global;
 use std::fmt::{self, Display, Formatter};
@@ -49,7 +49,7 @@ impl<'a> Reporter<'a> {
     }
 
     /// The line and the column of a byte of the script.
-    pub fn locate(&mut self, offset: usize) -> Place {
+    pub fn locate(&mut self, offset: usize) -> LineColumn {
         self.lines.locate(offset)
     }
 
@@ -99,7 +99,7 @@ pub struct Report<'r> {
     script_name: &'r str,
     script: &'r str,
     offset: usize,
-    place: Place,
+    place: LineColumn,
     refused: &'r Refused<'r>,
     database: &'r Database,
 }
@@ -124,7 +124,7 @@ impl Display for Report<'_> {
 impl Report<'_> {
     /// `script.sql:3:15: `.
     fn write_place<W: fmt::Write>(&self, f: &mut Formatter<W>) -> fmt::Result {
-        let Place { line, column } = self.place;
+        let LineColumn { line, column } = self.place;
         write!(f, "{}:{line}:{column}: ", self.script_name)
     }
 

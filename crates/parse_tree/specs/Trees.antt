@@ -177,8 +177,8 @@ abbrev pub statement_of : Statement → spec.Statement
 statement_of (s.CreateTable name columns) = spec.CreateTable (name_of name) (definitions_of columns.items)
 statement_of (s.CreateIndex unique table columns) = spec.CreateIndex unique (name_of table) (map name_of columns.items)
 statement_of (s.Load table file) = spec.Load (name_of table) (text_of file)
-statement_of (s.SetTable table rows pages) = spec.SetTable (name_of table) rows.units pages.units
-statement_of (s.SetIndex table columns statistics) = spec.SetIndex (name_of table) (map name_of columns.items) (statistics_of statistics)
+statement_of (s.SetTableStatistics table rows pages) = spec.SetTableStatistics (name_of table) rows.units pages.units
+statement_of (s.SetIndexStatistics table columns statistics) = spec.SetIndexStatistics (name_of table) (map name_of columns.items) (statistics_of statistics)
 statement_of (s.Query q) = spec.Query (select_of q)
 statement_of (s.Explain q) = spec.Explain (select_of q)
 

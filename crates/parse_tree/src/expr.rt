@@ -5,7 +5,7 @@ ghost use Rattle.std.specs.Prelude.{◌<◌, length};
 use crate::leaf::{
     ColumnReference, LineOperator, Name, Numeral, Quantifier, SetFunction, StringLiteral,
 };
-use sqlvalue::Op;
+use sqlvalue::ComparisonOperator;
 
 /// A value or a condition; the binder tells them apart (ISO/IEC 9075:1992, 6.11 and 8.12). What stands
 /// in parentheses is the same tree without them.
@@ -32,14 +32,14 @@ pub enum Expr {
     },
     Compare {
         start: usize,
-        op: Op,
+        op: ComparisonOperator,
         left: Box<Expr>,
         right: Box<Expr>,
     },
     /// `left op ALL (query)`.
     CompareAll {
         start: usize,
-        op: Op,
+        op: ComparisonOperator,
         quantifier: Quantifier,
         left: Box<Expr>,
         query: Box<Block>,

@@ -10,7 +10,7 @@ pub use expr::{Block, Expr, Item, Operand, SelectList, Source, Sources};
 pub use leaf::{
     ColumnReference, Count, LineOperator, Name, Numeral, Quantifier, SetFunction, StringLiteral,
 };
-pub use sqlvalue::Op;
+pub use sqlvalue::ComparisonOperator;
 pub use statement::{
     Bound, ColumnDefinition, Constraint, IndexStatistics, Key, KeyName, Range, Select, Statement,
 };

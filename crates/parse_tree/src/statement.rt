@@ -81,12 +81,12 @@ pub enum Statement {
         table: Name,
         file: StringLiteral,
     },
-    SetTable {
+    SetTableStatistics {
         table: Name,
         rows: Count,
         pages: Count,
     },
-    SetIndex {
+    SetIndexStatistics {
         table: Name,
         columns: Vec<Name>,
         statistics: IndexStatistics,

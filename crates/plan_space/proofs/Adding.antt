@@ -19,8 +19,8 @@ use Rattle.interesting_orders.specs.Merges.{GoesBy}
 use Rattle.plan_space.specs.Item.{Item, IsItem}
 use Rattle.plan_space.specs.Merge.{FoundMerge, MergesBy, found, IsFound, IsGrown, AddsPath}
 use Rattle.plan_space.specs.MergeListed.{merge_told, IsWay}
-use Rattle.plan_space.specs.declared.listed.ListedMerge.{ListedMerge}
-use Rattle.plan_space.specs.declared.listed.MergeWay.{MergeWay}
+use Rattle.plan_space.specs.declared.listed.MergeJoinPath.{MergeJoinPath}
+use Rattle.plan_space.specs.declared.listed.MergeClause.{MergeClause}
 use Rattle.plan_space.proofs.Sides.{turned, same_sides}
 
 module _ (space : Space) (table : ℕ) where
@@ -37,7 +37,7 @@ module _ (space : Space) (table : ℕ) where
 last_there : (xs : List FoundMerge) (x : FoundMerge) → Contains (xs ++ x ∷ []) x
 last_there xs x = Contains-append_right xs (x ∷ []) x (first_is x [] x refl)
 
-module _ (space : Space) (way : MergeWay) (is : IsWay space way.table way.conjunct (Some way)) (item : Item) (right : IsItem space no_tables way.table item) (path : IsPath space no_tables item.path) where
+module _ (space : Space) (way : MergeClause) (is : IsWay space way.table way.conjunct (Some way)) (item : Item) (right : IsItem space no_tables way.table item) (path : IsPath space no_tables item.path) where
   abbrev outer : BlockColumn
   outer = is.2.0
 
@@ -146,9 +146,9 @@ module _ (space : Space) (way : MergeWay) (is : IsWay space way.table way.conjun
       adds_with old = subst (λ (x : FoundMerge). Contains (old ++ with_sort ∷ []) x) (exact true (saturated (item.cost + way.sort_cost)) sorted_cost) (last_there old with_sort)
 
 -- what is pushed comes last
-pub pushed : (xs new : List ListedMerge) (y : ListedMerge) (x : FoundMerge) → new ≡ xs ++ y ∷ [] → merge_told y ≡ x → map merge_told new ≡ map merge_told xs ++ x ∷ []
+pub pushed : (xs new : List MergeJoinPath) (y : MergeJoinPath) (x : FoundMerge) → new ≡ xs ++ y ∷ [] → merge_told y ≡ x → map merge_told new ≡ map merge_told xs ++ x ∷ []
 pushed xs new y x is told = ap (map merge_told) is ∙ together xs ∙ ap (λ z. map merge_told xs ++ z ∷ []) told
   where
-    together : (zs : List ListedMerge) → map merge_told (zs ++ y ∷ []) ≡ map merge_told zs ++ merge_told y ∷ []
+    together : (zs : List MergeJoinPath) → map merge_told (zs ++ y ∷ []) ≡ map merge_told zs ++ merge_told y ∷ []
     together [] = refl
     together (z ∷ zs) = ap (λ rest. merge_told z ∷ rest) (together zs)

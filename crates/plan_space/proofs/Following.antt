@@ -10,8 +10,8 @@ use Rattle.definitions.proofs.PlanTheory.TableSets.{has_or_lacks}
 use Rattle.plan_tree.specs.Sets.{set_of}
 use Rattle.plan_tree.specs.declared.table_set.TableSet.{TableSet as Code}
 use Rattle.plan_space.specs.Linked.{AreLinked}
-use Rattle.plan_space.specs.TableLinks.{AreLinks}
-use Rattle.plan_space.specs.declared.join_graph.TableLinks.{TableLinks}
+use Rattle.plan_space.specs.JoinGraph.{AreLinks}
+use Rattle.plan_space.specs.declared.join_graph.JoinGraph.{JoinGraph}
 
 module _ (space : Space) (count : ℕ) (set linked : TableSet) (table : ℕ) (e : space.table_count ≡ count)
     (below : table < count) (lacks : Lacks set table) (are : AreLinked space count set linked) where
@@ -42,7 +42,7 @@ module _ (space : Space) (count : ℕ) (set linked : TableSet) (table : ℕ) (e 
       of_case (inr (inr none)) = same_from_bits linked 0 (λ u. of_bit none u (has_or_lacks linked u))
 
 -- the entry of a set, as it is read
-pub read_linked : (space : Space) (l : TableLinks) (set : ℕ) (x : Code) → set < 2 ^ l.tables → x ≡ get_or l.linked.items set x → AreLinks space l
+pub read_linked : (space : Space) (l : JoinGraph) (set : ℕ) (x : Code) → set < 2 ^ l.tables → x ≡ get_or l.linked.items set x → AreLinks space l
     → AreLinked space l.tables set (set_of x)
 read_linked space l set x below r are =
     let inside : set < length l.linked.items = omega (arith, below, l.whole) in

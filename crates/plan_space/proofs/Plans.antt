@@ -19,7 +19,7 @@ use Rattle.plan_space.specs.Merge as m
 use Rattle.plan_space.specs.Merge.{IsMerge, IsMergeItem, AreMerges}
 use Rattle.plan_space.proofs.Sides.{same_sides}
 use Rattle.plan_space.specs.Measures.{IsMeasured, IsPathFound, IsMergeFound}
-use Rattle.plan_space.specs.declared.measured.Measured.{Measured}
+use Rattle.plan_space.specs.declared.measured.PlanSummary.{PlanSummary}
 
 -- ---- a path among items
 
@@ -95,7 +95,7 @@ module _ (space : Space) where
   pub no_access : (path : Path) → IsPathFound space no_tables path None → IsPlan space (Access path) → ⊥
   no_access path none (access p lt is) = none lt is
 
-  pub an_access : (path : Path) (item : Item) (m : Measured) → IsPathFound space no_tables path (Some item) → table_of path < space.table_count
+  pub an_access : (path : Path) (item : Item) (m : PlanSummary) → IsPathFound space no_tables path (Some item) → table_of path < space.table_count
       → set_of m.tables ≡ only (table_of path) → m.order ≡ item.order → m.cost ≡ item.cost → IsMeasured space (Access path) m
   an_access path item m found lt tables order cost = record {
     is_plan = access path lt found.1;
@@ -105,14 +105,14 @@ module _ (space : Space) where
     inside = subst (λ n. n < 2 ^ space.table_count) (sym tables) (pow_below (table_of path) space.table_count lt);
   }
 
-  module _ (plan : Plan) (outer : Measured) (is : IsMeasured space plan outer) where
+  module _ (plan : Plan) (outer : PlanSummary) (is : IsMeasured space plan outer) where
     pub not_following : (path : Path) → (MayFollow space (set_of outer.tables) (table_of path) → ⊥) → IsPlan space (Loop plan path) → ⊥
     not_following path never (loop p a is' can) = never (subst (λ s. MayFollow space s (table_of path)) is.tables can.0)
 
     pub no_path : (path : Path) → MayFollow space (set_of outer.tables) (table_of path) → IsPathFound space (set_of outer.tables) path None → IsPlan space (Loop plan path) → ⊥
     no_path path follows none (loop p a is' can) = none follows.0 (subst (λ s. IsPath space s path) is.tables can.1)
 
-    pub a_loop : (path : Path) (item : Item) (m : Measured) → MayFollow space (set_of outer.tables) (table_of path) → IsPathFound space (set_of outer.tables) path (Some item)
+    pub a_loop : (path : Path) (item : Item) (m : PlanSummary) → MayFollow space (set_of outer.tables) (table_of path) → IsPathFound space (set_of outer.tables) path (Some item)
         → set_of m.tables ≡ with_table (set_of outer.tables) (table_of path) → m.order ≡ outer.order
         → m.cost ≡ saturated (outer.cost + saturated (space.cardinality (set_of outer.tables) * item.cost)) → with_table (set_of outer.tables) (table_of path) < 2 ^ space.table_count
         → IsMeasured space (Loop plan path) m
@@ -144,7 +144,7 @@ module _ (space : Space) where
         let told = at_told number inner can in
         none (refl, (told.1.0, told.1.1, told.1.2, told.1.3, told.1.4, told.1.6))
 
-    pub a_merge : (number : ℕ) (inner : Inner) (item : m.Merge) (m : Measured) → MayFollow space (set_of outer.tables) (table_of inner.path)
+    pub a_merge : (number : ℕ) (inner : Inner) (item : m.Merge) (m : PlanSummary) → MayFollow space (set_of outer.tables) (table_of inner.path)
         → GoesBy space (set_of outer.tables) outer.order number (table_of inner.path) → IsMergeFound space (set_of outer.tables) number inner (Some item)
         → set_of m.tables ≡ with_table (set_of outer.tables) (table_of inner.path) → m.order ≡ outer.order → m.cost ≡ saturated (outer.cost + item.cost)
         → with_table (set_of outer.tables) (table_of inner.path) < 2 ^ space.table_count → IsMeasured space (Merge plan number inner) m
@@ -177,7 +177,7 @@ module _ (space : Space) where
     pub no_sort : (order : OrderNumber) → (CanSort space (set_of outer.tables) order → ⊥) → IsPlan space (Sort plan order) → ⊥
     no_sort order never (sort p o is' can) = never (subst (λ s. CanSort space s order) is.tables can)
 
-    pub a_sort : (order : OrderNumber) (m : Measured) → CanSort space (set_of outer.tables) order → set_of m.tables ≡ set_of outer.tables → m.order ≡ order
+    pub a_sort : (order : OrderNumber) (m : PlanSummary) → CanSort space (set_of outer.tables) order → set_of m.tables ≡ set_of outer.tables → m.order ≡ order
         → m.cost ≡ saturated (outer.cost + space.sort_cost (set_of outer.tables)) → IsMeasured space (Sort plan order) m
     a_sort order m can tables is_order cost = record {
       is_plan = sort plan order is.is_plan (subst (λ s. CanSort space s order) (sym is.tables) can);

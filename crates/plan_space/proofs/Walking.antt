@@ -16,7 +16,7 @@ use Rattle.definitions.proofs.PlanTheory.Elements.{later, first_or_rest, not_in_
 use Rattle.plan_space.specs.Item.{Item, IsItem, AreItems}
 use Rattle.plan_space.specs.Merge.{FoundMerge, MergesBy, found, IsFound, IsGrown, AddsPath, AddsMerges}
 use Rattle.plan_space.specs.MergeListed.{AreMergesOf, IsWay}
-use Rattle.plan_space.specs.declared.listed.MergeWay.{MergeWay}
+use Rattle.plan_space.specs.declared.listed.MergeClause.{MergeClause}
 use Rattle.plan_space.proofs.Adding.{then_grown}
 
 module _ (space : Space) (table number : ℕ) where
@@ -132,7 +132,7 @@ module _ (space : Space) (table : ℕ) where
   }
 
 -- what a way adds is of its table and conjunct
-pub added_by : (space : Space) (table number : ℕ) (way : MergeWay) (items : List Item) (old new : List FoundMerge) → IsWay space table number (Some way) → AreItems space no_tables table items
+pub added_by : (space : Space) (table number : ℕ) (way : MergeClause) (items : List Item) (old new : List FoundMerge) → IsWay space table number (Some way) → AreItems space no_tables table items
     → (IsWay space way.table way.conjunct (Some way) → AreItems space no_tables way.table items → AddsMerges space way.table way.conjunct old new) → AddsMerges space table number old new
 added_by space table number way items old new is are adds =
     let own = subst (λ t. IsWay space t way.conjunct (Some way)) (sym is.0) (subst (λ n. IsWay space table n (Some way)) (sym is.1) is) in

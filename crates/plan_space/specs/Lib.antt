@@ -3,7 +3,7 @@ pub use Rattle.definitions.specs.Estimates
 pub use Rattle.definitions.specs.Plans.Cost
 pub use Rattle.definitions.specs.Plans.Search
 pub mod Linked
-pub mod TableLinks
+pub mod JoinGraph
 pub mod Item
 pub mod Items
 pub mod PathListed

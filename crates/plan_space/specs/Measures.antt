@@ -9,11 +9,11 @@ use Rattle.definitions.specs.Plans.Cost.{cost_of}
 use Rattle.plan_tree.specs.Sets.{set_of}
 use Rattle.plan_space.specs.Item.{Item, IsItem}
 use Rattle.plan_space.specs.Merge.{Merge, IsMerge, IsMergeItem}
-use Rattle.plan_space.specs.declared.measured.Measured.{Measured}
+use Rattle.plan_space.specs.declared.measured.PlanSummary.{PlanSummary}
 
 module _ (space : Space) where
   -- a plan of the block, with all that is said of it
-  pub record IsMeasured (plan : Plan) (m : Measured) : Type 0 where
+  pub record IsMeasured (plan : Plan) (m : PlanSummary) : Type 0 where
     pub is_plan : IsPlan space plan
     pub tables : tables_of space plan ≡ set_of m.tables
     pub order : order_of space plan ≡ m.order
@@ -21,7 +21,7 @@ module _ (space : Space) where
     pub inside : set_of m.tables < 2 ^ space.table_count
 
   -- or no plan of the block
-  abbrev pub Measures : Plan → Option Measured → Type 0
+  abbrev pub Measures : Plan → Option PlanSummary → Type 0
   Measures plan None = IsPlan space plan → ⊥
   Measures plan (Some m) = IsMeasured plan m
 

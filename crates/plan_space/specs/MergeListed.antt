@@ -10,15 +10,15 @@ use Rattle.definitions.specs.Plans.PlanSpace.{IsInner}
 use Rattle.definitions.specs.Plans.Cost.{selectivity_of}
 use Rattle.plan_tree.specs.Plans.{path_of}
 use Rattle.plan_space.specs.Merge.{FoundMerge, MergesBy, IsFound, found, most_merges}
-use Rattle.plan_space.specs.declared.listed.ListedMerge.{ListedMerge}
-use Rattle.plan_space.specs.declared.listed.MergeWay.{MergeWay}
+use Rattle.plan_space.specs.declared.listed.MergeJoinPath.{MergeJoinPath}
+use Rattle.plan_space.specs.declared.listed.MergeClause.{MergeClause}
 
-abbrev pub merge_told : ListedMerge → FoundMerge
+abbrev pub merge_told : MergeJoinPath → FoundMerge
 merge_told x = record { conjunct = x.conjunct; other = x.other; inner = record { path = path_of x.path; sorted = x.sorted }; cost = x.cost; selectivity = x.selectivity }
 
 module _ (space : Space) where
   -- how a conjunct may merge a table, if it does
-  abbrev pub IsWay : ℕ → ℕ → Option MergeWay → Type 0
+  abbrev pub IsWay : ℕ → ℕ → Option MergeClause → Type 0
   IsWay table number None = (x y : BlockColumn) → MergesBy space table number x y → ⊥
   IsWay table number (Some way) = (way.table ≡ table) × (way.conjunct ≡ number)
       × ((x : BlockColumn) × (y : BlockColumn) × MergesBy space table number x y × (x.table ≡ way.other))

@@ -4,14 +4,14 @@ use Rattle.std.specs.Global.{Vec}
 use Rattle.definitions.specs.Plans.Space.{Space}
 use Rattle.plan_space.specs.Merge.{FoundMerge}
 use Rattle.plan_space.specs.MergeListed.{merge_told, AreMergesOf}
-use Rattle.plan_space.specs.declared.listed.ListedMerge.{ListedMerge}
+use Rattle.plan_space.specs.declared.listed.MergeJoinPath.{MergeJoinPath}
 use Rattle.plan_space.specs.declared.merge_lists.BlockMerges.{BlockMerges}
 
 abbrev pub tables_in : BlockMerges → ℕ
 tables_in m = length m.tables.items
 
 abbrev pub merges_at : BlockMerges → ℕ → List FoundMerge
-merges_at m table = get_or (map (λ (xs : Vec ListedMerge). map merge_told xs.items) m.tables.items) table []
+merges_at m table = get_or (map (λ (xs : Vec MergeJoinPath). map merge_told xs.items) m.tables.items) table []
 
 -- of each table they are its merges
 abbrev pub AreBlockMerges : Space → BlockMerges → Type 0

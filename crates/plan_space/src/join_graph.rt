@@ -15,15 +15,15 @@ use std::alloc::{AllocError, Global};
 
 /// Which tables are linked to each set of a block's tables.
 #[derive(Drop)]
-pub struct TableLinks {
+pub struct JoinGraph {
     tables: usize,
     // the linked tables of each set, in the order of the sets' places
     linked: Vec<TableSet>,
     ghost whole: { length linked.items ≡ 2 ^ tables },
 }
 
-impl TableLinks {
-    ghost use Rattle.plan_space.specs.TableLinks.{tables_in, AreLinks};
+impl JoinGraph {
+    ghost use Rattle.plan_space.specs.JoinGraph.{tables_in, AreLinks};
 
     /// The links that a block's early conjuncts make: each set of its tables with the tables outside it that a conjunct names
     /// together with one of the set, and with no others (Selinger et al. 1979, section 5; that it holds them for all sets is own).
@@ -32,7 +32,7 @@ impl TableLinks {
         alloc: Global,
         conjuncts: &[PlanConjunct],
         tables: usize,
-    ) -> Result<TableLinks, AllocError>
+    ) -> Result<JoinGraph, AllocError>
         requires tables { tables ≤ most_from_tables }
         ensures tables { IfOk result (λ l. tables_in l ≡ tables) }
         ensures links { (space : Space) → space.conjuncts ≡ map conjunct_of conjuncts.now → IfOk result (AreLinks space) }
@@ -41,12 +41,12 @@ impl TableLinks {
         'sets: for place in 0..1 << tables {
             linked.push(linked_to(conjuncts, TableSet::at(place), tables))?;
         }
-        Ok(TableLinks { tables, linked })
+        Ok(JoinGraph { tables, linked })
     }
 
     /// Whether a table may come next after a set of tables: it is outside the set, and linked to it where any table is, so that
     /// products of tables come last (Selinger et al. 1979, section 5). It takes constant time.
-    pub fn may_follow(&self, set: TableSet, table: usize) -> bool
+    pub fn can_join_next(&self, set: TableSet, table: usize) -> bool
         requires set { set_of set < 2 ^ tables_in self.now }
         requires table { table < tables_in self.now }
         ensures { (space : Space) → space.table_count ≡ tables_in self.now → space.free_products ≡ false → AreLinks space self.now → Decides result (MayFollow space (set_of set) table) }

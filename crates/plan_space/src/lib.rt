@@ -14,11 +14,11 @@ mod same;
 mod space;
 
 pub use interesting_orders::{Sorts, Version};
-pub use join_graph::TableLinks;
-pub use measured::Measured;
-pub use merge_joins::{MergeItem, Merges};
+pub use join_graph::JoinGraph;
+pub use measured::PlanSummary;
+pub use merge_joins::{CostedMerge, Merges};
 pub use merge_lists::BlockMerges;
 pub use path_lists::BlockPaths;
-pub use paths::{PathItem, Paths};
+pub use paths::{CostedPath, Paths};
 pub use plan_tree::{Inner, Path, Plan, SortKey, TableSet};
 pub use space::Space;

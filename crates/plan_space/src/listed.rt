@@ -8,7 +8,7 @@ use plan_tree::Path;
 
 /// A merge that may bring a table.
 #[derive(Drop)]
-pub(crate) struct ListedMerge {
+pub(crate) struct MergeJoinPath {
     pub conjunct: usize,
     /// The table of the conjunct's other column, which the outer plan has to have.
     pub other: usize,
@@ -23,7 +23,7 @@ pub(crate) struct ListedMerge {
 
 /// A conjunct by which a table may be merged.
 #[derive(Clone, Copy)]
-pub(crate) struct MergeWay {
+pub(crate) struct MergeClause {
     pub table: usize,
     pub conjunct: usize,
     pub other: usize,

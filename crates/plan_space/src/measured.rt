@@ -7,7 +7,7 @@ use plan_tree::TableSet;
 
 /// The tables of a plan, the number of the order of its rows, and what it costs, at most 10^18.
 #[derive(Clone, Copy, Debug)]
-pub struct Measured {
+pub struct PlanSummary {
     pub tables: TableSet,
     pub order: usize,
     pub cost: u64,

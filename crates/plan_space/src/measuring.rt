@@ -14,16 +14,16 @@ ghost use Rattle.plan_space.specs.Merges.{merge_of};
 ghost use Rattle.plan_space.specs.Planned.{space_in};
 ghost use Rattle.plan_space.specs.Measures.{IsMeasured, Measures, IsPathFound, IsMergeFound};
 
-use crate::measured::Measured;
-use crate::merge_joins::MergeItem;
-use crate::paths::PathItem;
+use crate::measured::PlanSummary;
+use crate::merge_joins::CostedMerge;
+use crate::paths::CostedPath;
 use crate::same::are_one;
 use crate::space::Space;
 use estimate::saturated;
 use plan_tree::{Inner, Path, Plan, TableSet};
 
 /// What a plan comes to, if it is one of the block.
-pub(crate) fn measure(space: &Space, plan: &Plan) -> Option<Measured>
+pub(crate) fn measure(space: &Space, plan: &Plan) -> Option<PlanSummary>
     ensures { Measures (space_in space.now) (plan_of plan.now) result }
 {
     match plan {
@@ -39,11 +39,11 @@ pub(crate) fn measure(space: &Space, plan: &Plan) -> Option<Measured>
 }
 
 /// What the rows of one table come to.
-fn access(space: &Space, path: &Path) -> Option<Measured>
+fn access(space: &Space, path: &Path) -> Option<PlanSummary>
     ensures { Measures (space_in space.now) (trees.Access (path_of path.now)) result }
 {
     let item = find_path(space, TableSet::none(), path)?;
-    Some(Measured {
+    Some(PlanSummary {
         tables: TableSet::only(path.table()),
         order: item.order,
         cost: item.cost,
@@ -51,7 +51,7 @@ fn access(space: &Space, path: &Path) -> Option<Measured>
 }
 
 /// What a loop comes to, on top of a plan.
-fn looped(space: &Space, outer: Measured, path: &Path) -> Option<Measured>
+fn looped(space: &Space, outer: PlanSummary, path: &Path) -> Option<PlanSummary>
     requires { set_of outer.tables < 2 ^ (space_in space.now).table_count }
     ensures { (plan : trees.Plan) → IsMeasured (space_in space.now) plan outer → Measures (space_in space.now) (trees.Loop plan (path_of path.now)) result }
 {
@@ -61,7 +61,7 @@ fn looped(space: &Space, outer: Measured, path: &Path) -> Option<Measured>
     let item = find_path(space, outer.tables, path)?;
     let rows = u128::from(space.cardinality(outer.tables));
     let scans = saturated(rows * u128::from(item.cost));
-    Some(Measured {
+    Some(PlanSummary {
         tables: outer.tables.with(path.table()),
         order: outer.order,
         cost: saturated(u128::from(outer.cost) + u128::from(scans)),
@@ -69,7 +69,7 @@ fn looped(space: &Space, outer: Measured, path: &Path) -> Option<Measured>
 }
 
 /// What a merge comes to, on top of a plan.
-fn merged(space: &Space, outer: Measured, conjunct: usize, inner: &Inner) -> Option<Measured>
+fn merged(space: &Space, outer: PlanSummary, conjunct: usize, inner: &Inner) -> Option<PlanSummary>
     requires { set_of outer.tables < 2 ^ (space_in space.now).table_count }
     ensures { (plan : trees.Plan) → IsMeasured (space_in space.now) plan outer → Measures (space_in space.now) (trees.Merge plan conjunct (inner_of inner.now)) result }
 {
@@ -81,7 +81,7 @@ fn merged(space: &Space, outer: Measured, conjunct: usize, inner: &Inner) -> Opt
         return None;
     }
     let item = find_merge(space, outer.tables, conjunct, inner)?;
-    Some(Measured {
+    Some(PlanSummary {
         tables: outer.tables.with(table),
         order: outer.order,
         cost: saturated(u128::from(outer.cost) + u128::from(item.cost)),
@@ -89,7 +89,7 @@ fn merged(space: &Space, outer: Measured, conjunct: usize, inner: &Inner) -> Opt
 }
 
 /// What a sort comes to, on top of a plan.
-fn sorted(space: &Space, input: Measured, order: usize) -> Option<Measured>
+fn sorted(space: &Space, input: PlanSummary, order: usize) -> Option<PlanSummary>
     requires { set_of input.tables < 2 ^ (space_in space.now).table_count }
     ensures { (plan : trees.Plan) → IsMeasured (space_in space.now) plan input → Measures (space_in space.now) (trees.Sort plan order) result }
 {
@@ -97,7 +97,7 @@ fn sorted(space: &Space, input: Measured, order: usize) -> Option<Measured>
         return None;
     }
     let sort_cost = space.sort_cost(input.tables);
-    Some(Measured {
+    Some(PlanSummary {
         tables: input.tables,
         order,
         cost: saturated(u128::from(input.cost) + u128::from(sort_cost)),
@@ -110,11 +110,11 @@ fn follows(space: &Space, tables: TableSet, table: usize) -> bool
     ensures few { result ≡ true → table < most_from_tables }
     ensures exact { Decides result (MayFollow (space_in space.now) (set_of tables) table) }
 {
-    table < space.table_count() && space.may_follow(tables, table)
+    table < space.table_count() && space.can_join_next(tables, table)
 }
 
 /// A path among those where the rows of a set of tables are known.
-fn find_path<'s>(space: &'s Space<'_>, known: TableSet, path: &Path) -> Option<PathItem<'s>>
+fn find_path<'s>(space: &'s Space<'_>, known: TableSet, path: &Path) -> Option<CostedPath<'s>>
     ensures within { IfSome result (λ _. table_of (path_of path.now) < (space_in space.now).table_count) }
     ensures few { IfSome result (λ _. table_of (path_of path.now) < most_from_tables) }
     ensures exact { IsPathFound (space_in space.now) (set_of known) (path_of path.now) (option_map item_of result) }
@@ -137,7 +137,7 @@ fn find_merge<'s>(
     tables: TableSet,
     conjunct: usize,
     inner: &Inner,
-) -> Option<MergeItem<'s>>
+) -> Option<CostedMerge<'s>>
     requires set { set_of tables < 2 ^ (space_in space.now).table_count }
     requires table { table_of (path_of inner.now.path) < (space_in space.now).table_count }
     ensures { IsMergeFound (space_in space.now) (set_of tables) conjunct (inner_of inner.now) (option_map merge_of result) }
@@ -152,7 +152,7 @@ fn find_merge<'s>(
 }
 
 /// Whether a merge is by a conjunct, with an inner side.
-fn is_it(item: MergeItem<'_>, conjunct: usize, inner: &Inner) -> bool
+fn is_it(item: CostedMerge<'_>, conjunct: usize, inner: &Inner) -> bool
     ensures { Decides result (((merge_of item.entry).conjunct ≡ conjunct) × ((merge_of item.entry).inner ≡ inner_of inner.now)) }
 {
     item.conjunct == conjunct && item.sorted == inner.sorted && are_one(item.path, &inner.path)

@@ -7,7 +7,7 @@ ghost use Rattle.plan_tree.specs.Sets.{set_of};
 ghost use Rattle.plan_space.specs.MergeListed.{merge_told};
 ghost use Rattle.plan_space.specs.Merge.{open_merges, with_pairs};
 
-use crate::listed::ListedMerge;
+use crate::listed::MergeJoinPath;
 use estimate::{saturated, share};
 use plan_tree::{Path, TableSet};
 use std::marker::Model;
@@ -15,7 +15,7 @@ use std::marker::Model;
 /// A merge with one more table: its conjunct, the path of its inner side and whether the rows of that are sorted, and what it adds
 /// to the cost of the outer plan.
 #[derive(Clone, Copy)]
-pub struct MergeItem<'a> {
+pub struct CostedMerge<'a> {
     pub conjunct: usize,
     pub path: &'a Path,
     pub sorted: bool,
@@ -25,7 +25,7 @@ pub struct MergeItem<'a> {
 /// The merges with a table that are still to come, on top of plans on a set of tables. It takes no memory.
 #[derive(Drop)]
 pub struct Merges<'a> {
-    rest: &'a [ListedMerge],
+    rest: &'a [MergeJoinPath],
     tables: TableSet,
     // of rows of both sides
     pairs: u64,
@@ -46,7 +46,7 @@ impl<'a> Model for Merges<'a> {
 }
 
 impl<'a> Merges<'a> {
-    pub(crate) fn new(rest: &'a [ListedMerge], tables: TableSet, pairs: u64) -> Merges<'a>
+    pub(crate) fn new(rest: &'a [MergeJoinPath], tables: TableSet, pairs: u64) -> Merges<'a>
         ensures { result ≡ open_merges (set_of tables) pairs (map merge_told rest.now) }
     {
         Merges {
@@ -58,7 +58,7 @@ impl<'a> Merges<'a> {
 }
 
 impl<'a> Iterator for Merges<'a> {
-    type Item = MergeItem<'a>;
+    type Item = CostedMerge<'a>;
 
     ghost use Rattle.std.specs.Iterator.{YieldsFirstBy, item_count};
     ghost use Rattle.plan_space.specs.Merges.{merge_of};
@@ -67,11 +67,11 @@ impl<'a> Iterator for Merges<'a> {
 
     ghost remaining = { item_count (λ s. s) };
 
-    fn next(&mut self) -> Option<MergeItem<'a>> {
+    fn next(&mut self) -> Option<CostedMerge<'a>> {
         'merges: while let Some((first, others)) = self.rest.split_first() {
             self.rest = others;
             if self.tables.has(first.other) {
-                return Some(MergeItem {
+                return Some(CostedMerge {
                     conjunct: first.conjunct,
                     path: &first.path,
                     sorted: first.sorted,
@@ -85,7 +85,7 @@ impl<'a> Iterator for Merges<'a> {
 
 /// What a merge adds to the cost of the outer plan: what its inner side costs, and the pairs of rows that its conjunct is taken to
 /// leave.
-fn cost(merge: &ListedMerge, pairs: u64) -> u64
+fn cost(merge: &MergeJoinPath, pairs: u64) -> u64
     ensures { result ≡ (with_pairs pairs (merge_told merge.now)).cost }
 {
     saturated(u128::from(merge.cost) + u128::from(share(pairs, merge.selectivity)))

@@ -23,19 +23,19 @@ ghost use Rattle.plan_space.specs.PathLists as block_paths;
 ghost use Rattle.plan_space.specs.Merge.{AddsMerges, AddsPath, AreMerges};
 ghost use Rattle.plan_space.specs.MergeListed.{merge_told, AreMergesOf, IsWay};
 
-use crate::listed::{ListedMerge, MergeWay};
+use crate::listed::{MergeJoinPath, MergeClause};
 use crate::merge_joins::Merges;
 use crate::path_lists::BlockPaths;
-use crate::paths::{PathItem, Paths};
+use crate::paths::{CostedPath, Paths};
 use estimate::{Estimate, SetEstimates, saturated};
-use interesting_orders::OrderUses;
+use interesting_orders::InterestingOrders;
 use plan_tree::{Path, TableSet};
 use std::alloc::{AllocError, Global};
 
 /// The merges that may bring each table of a block, on top of plans on any set of tables.
 #[derive(Drop)]
 pub struct BlockMerges {
-    tables: Vec<Vec<ListedMerge>>,
+    tables: Vec<Vec<MergeJoinPath>>,
 }
 
 impl BlockMerges {
@@ -46,7 +46,7 @@ impl BlockMerges {
         alloc: Global,
         estimate: &Estimate,
         paths: &BlockPaths,
-        uses: &OrderUses,
+        uses: &InterestingOrders,
         estimates: &SetEstimates,
     ) -> Result<BlockMerges, AllocError>
         requires paths { block_paths.tables_in paths.now ≡ length (block_of estimate.now.block).tables }
@@ -78,10 +78,10 @@ fn table_merges(
     alloc: Global,
     estimate: &Estimate,
     paths: &BlockPaths,
-    uses: &OrderUses,
+    uses: &InterestingOrders,
     table: usize,
     sort_cost: u64,
-) -> Result<Vec<ListedMerge>, AllocError>
+) -> Result<Vec<MergeJoinPath>, AllocError>
     requires table { table < length (block_of estimate.now.block).tables }
     requires few { table < most_from_tables }
     requires paths { block_paths.tables_in paths.now ≡ length (block_of estimate.now.block).tables }
@@ -105,18 +105,18 @@ fn table_merges(
 /// How a conjunct may merge a table, if it does.
 fn merge_way(
     estimate: &Estimate,
-    uses: &OrderUses,
+    uses: &InterestingOrders,
     table: usize,
     conjunct: usize,
     sort_cost: u64,
-) -> Option<MergeWay>
+) -> Option<MergeClause>
     requires table { table < most_from_tables }
     requires conjunct { conjunct < length (plans.plan_conjuncts estimate.now.database (block_of estimate.now.block)) }
     ensures table { IfSome result (λ way. way.table ≡ table) }
     ensures exact { (space : Space) → space.conjuncts ≡ plans.plan_conjuncts estimate.now.database (block_of estimate.now.block) → AreUses space uses.now → sort_cost ≡ space.sort_cost (only table) → IsWay space table conjunct result }
 {
     let other = uses.merged_with(conjunct, table)?;
-    Some(MergeWay {
+    Some(MergeClause {
         table,
         conjunct,
         other,
@@ -127,9 +127,9 @@ fn merge_way(
 
 /// Adds the merges of a conjunct: each path of the table that needs no rows of others, sorted, and as it is where its order serves.
 fn add_merges(
-    merges: &mut Vec<ListedMerge>,
-    uses: &OrderUses,
-    way: MergeWay,
+    merges: &mut Vec<MergeJoinPath>,
+    uses: &InterestingOrders,
+    way: MergeClause,
     paths: Paths<'_>,
 ) -> Result<(), AllocError>
     requires { only way.table < order_uses.sets_in uses.now }
@@ -144,10 +144,10 @@ fn add_merges(
 
 /// Adds the merges of a conjunct with a path.
 fn add_path(
-    merges: &mut Vec<ListedMerge>,
-    uses: &OrderUses,
-    way: MergeWay,
-    item: PathItem<'_>,
+    merges: &mut Vec<MergeJoinPath>,
+    uses: &InterestingOrders,
+    way: MergeClause,
+    item: CostedPath<'_>,
 ) -> Result<(), AllocError>
     requires { only way.table < order_uses.sets_in uses.now }
     ensures { (space : Space) → AreUses space uses.now → IsWay space way.table way.conjunct (Some way) → IsItem space no_tables way.table (item_of item.entry) → IsPath space no_tables (path_of item.entry.path.now) → OnOk result (AddsPath space way.table way.conjunct (path_of item.entry.path.now) (map merge_told merges.old.items) (map merge_told merges.new.items)) }
@@ -166,10 +166,10 @@ fn add_path(
 }
 
 /// A merge of a conjunct with a path, whose inner side costs so much.
-fn listed(way: MergeWay, path: &Path, sorted: bool, cost: u64) -> Result<ListedMerge, AllocError>
+fn listed(way: MergeClause, path: &Path, sorted: bool, cost: u64) -> Result<MergeJoinPath, AllocError>
     ensures { IfOk result (λ merge. merge_told merge ≡ record { conjunct = way.conjunct; other = way.other; inner = record { path = path_of path.now; sorted = sorted }; cost = cost; selectivity = way.selectivity }) }
 {
-    Ok(ListedMerge {
+    Ok(MergeJoinPath {
         conjunct: way.conjunct,
         other: way.other,
         path: path.clone()?,

@@ -17,16 +17,16 @@ ghost use Rattle.plan_space.specs.Item.{AreItems};
 use crate::paths::Paths;
 use access_paths::{ScanCost, TablePath, table_paths};
 use estimate::Estimate;
-use interesting_orders::{PlanOrders, Version, known_indexes};
+use interesting_orders::{SortOrders, Version, known_indexes};
 use plan_tree::{Path, TableSet};
 use std::alloc::{AllocError, Global};
 
 /// A path of a table with the number of its order.
 #[derive(Drop)]
-pub(crate) struct ListedPath {
+pub(crate) struct NumberedPath {
     pub path: Path,
     /// The tables whose rows have to be known.
-    pub needs: TableSet,
+    pub required_outer: TableSet,
     pub cost: ScanCost,
     pub order: usize,
 }
@@ -34,7 +34,7 @@ pub(crate) struct ListedPath {
 /// The paths of all tables of a block, for every set of tables whose rows are known.
 #[derive(Drop)]
 pub struct BlockPaths {
-    tables: Vec<Vec<ListedPath>>,
+    tables: Vec<Vec<NumberedPath>>,
 }
 
 impl BlockPaths {
@@ -45,7 +45,7 @@ impl BlockPaths {
         alloc: Global,
         estimate: &Estimate,
         version: Version,
-        orders: &PlanOrders,
+        orders: &SortOrders,
     ) -> Result<BlockPaths, AllocError>
         requires orders { orders.now ≡ spec.orders_of (version_of version) estimate.now.database (block_of estimate.now.block) }
         ensures tables { IfOk result (λ p. tables_in p ≡ length (block_of estimate.now.block).tables) }
@@ -74,9 +74,9 @@ fn listed_paths(
     alloc: Global,
     estimate: &Estimate,
     version: Version,
-    orders: &PlanOrders,
+    orders: &SortOrders,
     table: usize,
-) -> Result<Vec<ListedPath>, AllocError>
+) -> Result<Vec<NumberedPath>, AllocError>
     requires table { table < length (block_of estimate.now.block).tables }
     requires orders { orders.now ≡ spec.orders_of (version_of version) estimate.now.database (block_of estimate.now.block) }
     ensures { IfOk result (λ paths. AreListed (version_of version) estimate.now.database (block_of estimate.now.block) table (map listed_told paths.items)) }
@@ -90,10 +90,10 @@ fn listed_paths(
 fn with_orders(
     alloc: Global,
     estimate: &Estimate,
-    orders: &PlanOrders,
+    orders: &SortOrders,
     table: usize,
     found: Vec<TablePath>,
-) -> Result<Vec<ListedPath>, AllocError>
+) -> Result<Vec<NumberedPath>, AllocError>
     requires table { table < length (block_of estimate.now.block).tables }
     requires reads { AllByRecursion (λ (x : FoundPath). Reads estimate.now.database (block_of estimate.now.block) table x.path) (map path_told found.items) }
     ensures { IfOk result (λ paths. map listed_told paths.items ≡ map (with_number estimate.now.database (block_of estimate.now.block) orders.now) (map path_told found.items)) }
@@ -101,8 +101,8 @@ fn with_orders(
     let mut paths = Vec::new(alloc);
     let mut rest = found.into_iter();
     'paths: while let Some(path) = rest.next() {
-        paths.push(ListedPath {
-            needs: path.needs,
+        paths.push(NumberedPath {
+            required_outer: path.required_outer,
             cost: path.cost,
             order: order_number(estimate, orders, table, &path.path),
             path: path.path,
@@ -112,7 +112,7 @@ fn with_orders(
 }
 
 /// The number of the order of a path's rows.
-fn order_number(estimate: &Estimate, orders: &PlanOrders, table: usize, path: &Path) -> usize
+fn order_number(estimate: &Estimate, orders: &SortOrders, table: usize, path: &Path) -> usize
     requires table { table < length (block_of estimate.now.block).tables }
     requires reads { Reads estimate.now.database (block_of estimate.now.block) table (path_of path.now) }
     ensures { result ≡ number_of orders.now (spec.order_of_path estimate.now.database (block_of estimate.now.block) (path_of path.now)) }

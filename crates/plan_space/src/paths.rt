@@ -5,13 +5,13 @@ ghost use Rattle.plan_tree.specs.Sets.{set_of};
 ghost use Rattle.plan_space.specs.PathListed.{listed_told};
 ghost use Rattle.plan_space.specs.Item.{open_items};
 
-use crate::path_lists::ListedPath;
+use crate::path_lists::NumberedPath;
 use plan_tree::{Path, TableSet};
 use std::marker::Model;
 
 /// A path, the number of the order in which it gives its rows, and what one scan of it costs.
 #[derive(Clone, Copy)]
-pub struct PathItem<'a> {
+pub struct CostedPath<'a> {
     pub path: &'a Path,
     pub order: usize,
     pub cost: u64,
@@ -20,7 +20,7 @@ pub struct PathItem<'a> {
 /// The paths of a table that are still to come, where the rows of a set of tables are known. It takes no memory.
 #[derive(Drop)]
 pub struct Paths<'a> {
-    rest: &'a [ListedPath],
+    rest: &'a [NumberedPath],
     known: TableSet,
     // that a scan of each hands on
     rows: u64,
@@ -41,7 +41,7 @@ impl<'a> Model for Paths<'a> {
 }
 
 impl<'a> Paths<'a> {
-    pub(crate) fn new(rest: &'a [ListedPath], known: TableSet, rows: u64) -> Paths<'a>
+    pub(crate) fn new(rest: &'a [NumberedPath], known: TableSet, rows: u64) -> Paths<'a>
         ensures { result ≡ open_items (set_of known) rows (map listed_told rest.now) }
     {
         Paths { rest, known, rows }
@@ -49,7 +49,7 @@ impl<'a> Paths<'a> {
 }
 
 impl<'a> Iterator for Paths<'a> {
-    type Item = PathItem<'a>;
+    type Item = CostedPath<'a>;
 
     ghost use Rattle.std.specs.Iterator.{YieldsFirstBy, item_count};
     ghost use Rattle.plan_space.specs.Items.{item_of};
@@ -58,11 +58,11 @@ impl<'a> Iterator for Paths<'a> {
 
     ghost remaining = { item_count (λ s. s) };
 
-    fn next(&mut self) -> Option<PathItem<'a>> {
+    fn next(&mut self) -> Option<CostedPath<'a>> {
         'paths: while let Some((first, others)) = self.rest.split_first() {
             self.rest = others;
-            if first.needs.is_within(self.known) {
-                return Some(PathItem {
+            if first.required_outer.is_within(self.known) {
+                return Some(CostedPath {
                     path: &first.path,
                     order: first.order,
                     cost: first.cost.cost(self.rows),

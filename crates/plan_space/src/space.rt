@@ -24,15 +24,15 @@ ghost use Rattle.definitions.specs.Plans.Search.{IsComplete};
 ghost use Rattle.plan_space.specs.Links.{LinksSay};
 ghost use Rattle.plan_space.specs.Measures.{Measures};
 
-use crate::join_graph::TableLinks;
-use crate::measured::Measured;
+use crate::join_graph::JoinGraph;
+use crate::measured::PlanSummary;
 use crate::measuring::measure;
 use crate::merge_joins::Merges;
 use crate::merge_lists::BlockMerges;
 use crate::path_lists::BlockPaths;
 use crate::paths::Paths;
 use estimate::{Estimate, SetEstimates, saturated};
-use interesting_orders::{OrderUses, PlanOrders, Sorts, Version, required_order};
+use interesting_orders::{InterestingOrders, SortOrders, Sorts, Version, required_order};
 use plan_tree::{Plan, SortKey, TableSet};
 use std::alloc::{AllocError, Global};
 use std::marker::Model;
@@ -43,13 +43,13 @@ use std::marker::Model;
 pub struct Space<'a> {
     estimate: Estimate<'a>,
     version: Version,
-    orders: PlanOrders,
+    orders: SortOrders,
     paths: BlockPaths,
     merges: BlockMerges,
     estimates: SetEstimates,
-    uses: OrderUses,
+    uses: InterestingOrders,
     // none where products are free
-    links: Option<TableLinks>,
+    links: Option<JoinGraph>,
 }
 
 impl<'a> Model for Space<'a> {
@@ -83,10 +83,10 @@ impl<'a> Space<'a> {
     {
         let tables = estimate.table_count();
         let required = required_order(alloc, estimate.block())?;
-        let orders = PlanOrders::new(alloc, &estimate, version, &required)?;
+        let orders = SortOrders::new(alloc, &estimate, version, &required)?;
         let paths = BlockPaths::new(alloc, &estimate, version, &orders)?;
         let estimates = SetEstimates::new(alloc, &estimate)?;
-        let uses = OrderUses::new(alloc, estimate.conjuncts(), orders.all(), &required, tables)?;
+        let uses = InterestingOrders::new(alloc, estimate.conjuncts(), orders.all(), &required, tables)?;
         let merges = BlockMerges::new(alloc, &estimate, &paths, &uses, &estimates)?;
         let links = table_links(alloc, &estimate, version)?;
         Ok(Space {
@@ -135,13 +135,13 @@ impl<'a> Space<'a> {
 
     /// Whether a table may come next after a set of tables. This and the calls below, but those that say otherwise, take constant
     /// time.
-    pub fn may_follow(&self, tables: TableSet, table: usize) -> bool
+    pub fn can_join_next(&self, tables: TableSet, table: usize) -> bool
         requires set { set_of tables < 2 ^ (space_in self.now).table_count }
         requires table { table < (space_in self.now).table_count }
         ensures { Decides result (MayFollow (space_in self.now) (set_of tables) table) }
     {
         match &self.links {
-            Some(links) => links.may_follow(tables, table),
+            Some(links) => links.can_join_next(tables, table),
             None => !tables.has(table),
         }
     }
@@ -252,7 +252,7 @@ impl<'a> Space<'a> {
 
     /// What a plan comes to, or none where it is no plan of the block, on whichever of its tables. It looks at all paths or merges of
     /// a table for each step of the plan.
-    pub fn measured(&self, plan: &Plan) -> Option<Measured>
+    pub fn measured(&self, plan: &Plan) -> Option<PlanSummary>
         ensures { Measures (space_in self.now) (plan_of plan.now) result }
     {
         measure(self, plan)
@@ -286,12 +286,12 @@ fn table_links(
     alloc: Global,
     estimate: &Estimate,
     version: Version,
-) -> Result<Option<TableLinks>, AllocError>
+) -> Result<Option<JoinGraph>, AllocError>
     ensures { IfOk result (λ links. LinksSay (space_of (version_of version) estimate.now.database (block_of estimate.now.block)) links) }
 {
     if version.has_free_products() {
         return Ok(None);
     }
-    let links = TableLinks::new(alloc, estimate.conjuncts(), estimate.table_count())?;
+    let links = JoinGraph::new(alloc, estimate.conjuncts(), estimate.table_count())?;
     Ok(Some(links))
 }

@@ -16,12 +16,12 @@ use Rattle.definitions.specs.Binding.BoundForm.{bound_column}
 use Rattle.definitions.specs.Binding.Faults.{IsNoColumn, IsOuter, IsUngroupedColumn}
 use Rattle.definitions.specs.Queries.BoundBlock.{ValueExpr}
 use Rattle.query_rules.proofs.ResolvedColumns.{resolved_in, HasColumnIn}
-use Rattle.query_rules.specs.Judging.{Place, PartFaulty, too_fine, no_column, mixed_kinds, wrong_operand, many_members, misplaced_function, outer_column, ungrouped}
+use Rattle.query_rules.specs.Judging.{ClauseKind, PartFaulty, too_fine, no_column, mixed_kinds, wrong_operand, many_members, misplaced_function, outer_column, ungrouped}
 use Rattle.query_rules.specs.Judging.{IsFine}
 use Rattle.query_rules.specs.Leaves.{InSight, BindsLeaf, MayStand, MayNotStand}
 use Rattle.query_rules.specs.Leaves as l
 
-module _ (db : Database) (scopes : Scopes) (place : Place) (reference : ColumnReference) where
+module _ (db : Database) (scopes : Scopes) (place : ClauseKind) (reference : ColumnReference) where
   pub not_there : NotThere ≡ resolve scopes reference → PartFaulty db scopes place (Column reference) UnknownColumn
   not_there e = no_column (subst (IsNoColumn db scopes) e tt)
 
@@ -79,7 +79,7 @@ has_fine db tables f valid (n, t, column, h, k, c, same) =
     let type = at (λ (x : table.Column). IsType x.type) t.columns f.column.number column whole.types c in
     fine_type f.type (subst IsType same type)
 
-pub binds_column : (db : Database) (scopes : Scopes) (place : Place) (reference : ColumnReference) (level : ℕ) (f : Found) (value : ValueExpr) (type : ValueType) → InSight db scopes
+pub binds_column : (db : Database) (scopes : Scopes) (place : ClauseKind) (reference : ColumnReference) (level : ℕ) (f : Found) (value : ValueExpr) (type : ValueType) → InSight db scopes
     → Named level f ≡ resolve scopes reference → MayStand place level f.column → value ≡ bound_column (Named level f) → type ≡ type_of f.type → BindsLeaf db scopes place (Column reference) value type
 binds_column db scopes place reference level f value type sight e m v t =
     let found = resolved_in db sight.froms reference level f (ap (λ s. resolve s reference) (sym sight.are) ∙ sym e) in

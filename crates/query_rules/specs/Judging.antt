@@ -13,20 +13,20 @@ use Rattle.definitions.specs.Binding.Parts.{PlacedBlock, is_function, parts, mem
 use Rattle.definitions.specs.Binding.BoundForm.{Next, bound_value, bound_condition, bound_members, bound_function, bound_blocks}
 use Rattle.definitions.specs.Binding.Faults.{IsTooFine, NamesNoColumn, MixesKinds, takes_right, is_condition, HasManyMembers, SomeMemberDiffers, members_are_values, IsOuterColumn, IsUngroupedColumn, argument_parts, block_is_there, column_count, NotOneColumn, BlockFaulty}
 use Rattle.definitions.specs.Queries.BoundBlock as b
-use Rattle.definitions.specs.Queries.BoundBlock.{BoundFunction, Blocks}
+use Rattle.definitions.specs.Queries.BoundBlock.{Aggregate, Blocks}
 
 -- where an expression stands in its block: in WHERE, where blocks may stand in it; in a result column or HAVING, where set functions may,
 -- and where columns have to be those of GROUP BY if the block is grouped; or in the argument of a set function
-pub data Place : Type 0 where
-  InWhere : Place
-  InShown : (grouped : Bool) (columns : List BlockColumn) → Place
-  InArgument : Place
+pub data ClauseKind : Type 0 where
+  InWhere : ClauseKind
+  InShown : (grouped : Bool) (columns : List BlockColumn) → ClauseKind
+  InArgument : ClauseKind
 
-abbrev pub is_where : Place → Bool
+abbrev pub is_where : ClauseKind → Bool
 is_where InWhere = true
 is_where _ = false
 
-abbrev pub takes_functions : Place → Bool
+abbrev pub takes_functions : ClauseKind → Bool
 takes_functions (InShown grouped columns) = true
 takes_functions _ = false
 
@@ -36,7 +36,7 @@ module _ (db : Database) (scopes : Scopes) where
   IsUngroupedIn columns _ = ⊥
 
   -- a fault of one part
-  pub data PartFaulty (place : Place) (e : Expr) : Refusal → Type 0 where
+  pub data PartFaulty (place : ClauseKind) (e : Expr) : Refusal → Type 0 where
     too_fine : IsTooFine db scopes e → PartFaulty place e ScaleTooGreat
     no_column : NamesNoColumn db scopes e → PartFaulty place e UnknownColumn
     mixed_kinds : MixesKinds db scopes e → PartFaulty place e MixedKinds
@@ -47,20 +47,20 @@ module _ (db : Database) (scopes : Scopes) where
     ungrouped : (columns : List BlockColumn) → place ≡ InShown true columns → IsUngroupedIn columns e → PartFaulty place e UngroupedColumn
 
   -- a fault of some parts, of arguments of set functions among them, or of the blocks inside them, before which there are so many
-  pub data Refuses (place : Place) (count : ℕ) (ps : List Expr) (bs : List PlacedBlock) : Refusal → Type 0 where
+  pub data Refuses (place : ClauseKind) (count : ℕ) (ps : List Expr) (bs : List PlacedBlock) : Refusal → Type 0 where
     part : (r : Refusal) → AnyOf (λ p. PartFaulty place p r) ps → Refuses place count ps bs r
     argument : (r : Refusal) → IsTrue (takes_functions place) → AnyOf (λ p. PartFaulty InArgument p r) (flat_map argument_parts ps) → Refuses place count ps bs r
     inner : (r : Refusal) → AnyOf (λ p. BlockFaulty db p r) bs → Refuses place count ps bs r
     misplaced : IsFalse (is_where place) → bs ≢ [] → Refuses place count ps bs OverQueryLimit
     many : most_blocks < count + length bs → Refuses place count ps bs OverQueryLimit
 
-  abbrev pub IsClean : Place → ℕ → List Expr → List PlacedBlock → Type 0
+  abbrev pub IsClean : ClauseKind → ℕ → List Expr → List PlacedBlock → Type 0
   IsClean place count ps bs = (r : Refusal) → Refuses place count ps bs r → ⊥
 
 -- what is bound so far: the blocks of the statement, and the set functions of the block
 pub record Progress : Type 0 where
   pub blocks : Blocks
-  pub functions : List BoundFunction
+  pub functions : List Aggregate
 
 abbrev pub next_of : Progress → Next
 next_of s = record { block = length s.blocks; function = length s.functions }
@@ -69,7 +69,7 @@ next_of s = record { block = length s.blocks; function = length s.functions }
 abbrev pub IsFine : ValueType → Type 0
 IsFine type = type_scale type ≤ greatest_scale
 
-module _ (db : Database) (scopes : Scopes) (place : Place) where
+module _ (db : Database) (scopes : Scopes) (place : ClauseKind) where
   -- parts and the blocks inside them have no fault, and what is to be bound of them is bound
   pub record Adds (old new : Progress) (ps : List Expr) (bs : List PlacedBlock) : Type 0 where
     pub blocks : new.blocks ≡ old.blocks ++ bound_blocks db (length old.blocks) bs []

@@ -7,8 +7,8 @@ use Rattle.query_rules.specs.declared.fault.QueryFault.{QueryFault}
 use Rattle.query_rules.specs.declared.fault.QueryFault.TheVariants as q
 use Rattle.query_rules.specs.declared.fault.BindFault.{BindFault}
 use Rattle.query_rules.specs.declared.fault.BindFault.TheVariants as f
-use Rattle.query_rules.specs.declared.clause.Place.{Place}
-use Rattle.query_rules.specs.declared.clause.Place.TheVariants as p
+use Rattle.query_rules.specs.declared.clause.ClauseKind.{ClauseKind}
+use Rattle.query_rules.specs.declared.clause.ClauseKind.TheVariants as p
 use Rattle.query_rules.specs.Judging as j
 
 abbrev pub query_refusal : QueryFault → Refusal
@@ -45,7 +45,7 @@ abbrev pub bind_refusal : BindFault → Option Refusal
 bind_refusal (f.Refused fault) = Some (query_refusal fault)
 bind_refusal f.Memory = None
 
-abbrev pub place_of : Place → j.Place
+abbrev pub place_of : ClauseKind → j.ClauseKind
 place_of p.Where = j.InWhere
 place_of p.Shown = j.InShown false []
 place_of (p.Grouped columns) = j.InShown true (map column_of columns.now)

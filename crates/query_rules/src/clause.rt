@@ -8,7 +8,7 @@ use std::alloc::Global;
 /// Where an expression stands in its block: in WHERE, where blocks may stand in it; in a result column or HAVING, where set
 /// functions may, and where columns are those of GROUP BY if the block is grouped; or in the argument of a set function.
 #[derive(Clone, Copy)]
-pub enum Place<'s> {
+pub enum ClauseKind<'s> {
     Where,
     Shown,
     Grouped(&'s [BlockColumn]),
@@ -21,5 +21,5 @@ pub struct Clause<'s, 'g, 'd> {
     pub alloc: Global,
     pub database: &'d Database,
     pub scopes: &'s Scopes<'d>,
-    pub place: Place<'g>,
+    pub place: ClauseKind<'g>,
 }

@@ -13,7 +13,7 @@ ghost use Rattle.parse_tree.specs.Trees.{block_of as query_of, column_of as refe
 ghost use Rattle.query_rules.specs.Groups.{own_columns, shown_in, SomeNotOwn};
 ghost use Rattle.query_rules.specs.Meaning.{bind_refusal, place_of};
 
-use crate::clause::Place;
+use crate::clause::ClauseKind;
 use crate::fault::{BindFault, QueryFault};
 use crate::function::list_holds_function;
 use crate::resolution::Resolution;
@@ -65,12 +65,12 @@ fn own_column(resolution: Resolution) -> Option<BlockColumn>
 }
 
 /// Where the result columns and HAVING of a block stand.
-pub fn shown_place(grouped: bool, columns: &[BlockColumn]) -> Place<'_>
+pub fn shown_place(grouped: bool, columns: &[BlockColumn]) -> ClauseKind<'_>
     ensures { place_of result ≡ shown_in grouped (map column_of columns.now) }
 {
     if grouped {
-        Place::Grouped(columns)
+        ClauseKind::Grouped(columns)
     } else {
-        Place::Shown
+        ClauseKind::Shown
     }
 }

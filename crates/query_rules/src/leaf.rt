@@ -18,7 +18,7 @@ ghost use Rattle.query_rules.specs.Judging.{PartFaulty};
 ghost use Rattle.query_rules.specs.Leaves.{BindsLeaf, InSight, MayStand, MayNotStand};
 ghost use Rattle.query_rules.specs.Meaning.{bind_refusal, query_refusal, place_of};
 
-use crate::clause::{Clause, Place};
+use crate::clause::{Clause, ClauseKind};
 use crate::fault::{BindFault, QueryFault};
 use crate::resolution::{Found, Resolution};
 use parse_tree::{ColumnReference, Numeral, StringLiteral};
@@ -54,7 +54,7 @@ pub fn column<'q>(clause: &Clause, reference: &'q ColumnReference) -> Result<Typ
 }
 
 fn judge_place<'a>(
-    place: Place,
+    place: ClauseKind,
     level: usize,
     column: BlockColumn,
     reference: &'a ColumnReference,
@@ -63,8 +63,8 @@ fn judge_place<'a>(
     ensures refused { IfErr result (λ f. MayNotStand (place_of place.entry) level (block_column_of column) (query_refusal f)) }
 {
     match place {
-        Place::Argument if level > 0 => Err(QueryFault::OuterInFunction(reference)),
-        Place::Grouped(columns) if level == 0 && !has_column(columns, column) => {
+        ClauseKind::Argument if level > 0 => Err(QueryFault::OuterInFunction(reference)),
+        ClauseKind::Grouped(columns) if level == 0 && !has_column(columns, column) => {
             Err(QueryFault::Ungrouped(reference))
         }
         _ => Ok(()),
@@ -107,8 +107,8 @@ fn found_column(level: usize, found: Found) -> Typed
 
 /// A number as it is written (ISO/IEC 9075:1992, 5.3; the limit is own).
 pub fn number(numeral: &Numeral) -> Result<Typed, QueryFault<'_>>
-    ensures ok { IfOk result (λ t. (db : Tables) (scopes : spec.Scopes) (place : judging.Place) → BindsLeaf db scopes place (numeral_of numeral.now) (value_of t.value) (value_type_of t.value_type)) }
-    ensures refused { IfErr result (λ f. (db : Tables) (scopes : spec.Scopes) (place : judging.Place) → PartFaulty db scopes place (numeral_of numeral.now) (query_refusal f)) }
+    ensures ok { IfOk result (λ t. (db : Tables) (scopes : spec.Scopes) (place : judging.ClauseKind) → BindsLeaf db scopes place (numeral_of numeral.now) (value_of t.value) (value_type_of t.value_type)) }
+    ensures refused { IfErr result (λ f. (db : Tables) (scopes : spec.Scopes) (place : judging.ClauseKind) → PartFaulty db scopes place (numeral_of numeral.now) (query_refusal f)) }
 {
     if numeral.scale > MAX_SCALE {
         return Err(QueryFault::GreatScale(numeral));
@@ -127,7 +127,7 @@ pub fn number(numeral: &Numeral) -> Result<Typed, QueryFault<'_>>
 
 /// A string (ISO/IEC 9075:1992, 5.3).
 pub fn string(alloc: Global, literal: &StringLiteral) -> Result<Typed, AllocError>
-    ensures { IfOk result (λ t. (db : Tables) (scopes : spec.Scopes) (place : judging.Place) → BindsLeaf db scopes place (String (text_of literal.now)) (value_of t.value) (value_type_of t.value_type)) }
+    ensures { IfOk result (λ t. (db : Tables) (scopes : spec.Scopes) (place : judging.ClauseKind) → BindsLeaf db scopes place (String (text_of literal.now)) (value_of t.value) (value_type_of t.value_type)) }
 {
     Ok(Typed {
         value: ValueExpr::Text(String::from_str(alloc, literal.text.as_str())?),

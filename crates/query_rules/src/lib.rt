@@ -16,7 +16,7 @@ mod scope_fault;
 mod scopes;
 mod table_columns;
 
-pub use clause::{Clause, Place};
+pub use clause::{Clause, ClauseKind};
 pub use fault::{BindFault, QueryFault};
 pub use group::{group_columns, is_grouped, shown_place};
 pub use key::{MAX_KEYS, bound_order};

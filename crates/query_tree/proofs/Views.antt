@@ -39,8 +39,8 @@ of_signed m a = ap value_of (sym (w.rolls-Signed m a)) ∙ folds.fold-roll-Value
 pub of_chain : (a xs : _) → value_of (v.Chain a xs) ≡ spec.Chain (value_of a.value) (operands (map operand_of xs.items))
 of_chain a xs = ap value_of (sym (w.rolls-Chain a xs)) ∙ folds.fold-roll-ValueExpr spec.ValueExpr OperandTree value_layer operand_layer (o.Chain a xs)
 
-pub of_set_value : (n t : _) → value_of (e.SetValue n t) ≡ spec.SetValue n (value_type_of t)
-of_set_value n t = ap value_of (sym (w.rolls-SetValue n t)) ∙ folds.fold-roll-ValueExpr spec.ValueExpr OperandTree value_layer operand_layer (o.SetValue n t)
+pub of_set_value : (n t : _) → value_of (e.AggregateValue n t) ≡ spec.AggregateValue n (value_type_of t)
+of_set_value n t = ap value_of (sym (w.rolls-AggregateValue n t)) ∙ folds.fold-roll-ValueExpr spec.ValueExpr OperandTree value_layer operand_layer (o.AggregateValue n t)
 
 pub of_subquery : (b t : _) → value_of (e.Subquery b t) ≡ spec.Subquery b (value_type_of t)
 of_subquery b t = ap value_of (sym (w.rolls-Subquery b t)) ∙ folds.fold-roll-ValueExpr spec.ValueExpr OperandTree value_layer operand_layer (o.Subquery b t)

@@ -20,8 +20,8 @@ use Rattle.query_tree.specs.declared.condition.Condition.{Condition}
 use Rattle.query_tree.specs.declared.condition.Condition.TheOpen.{Condition-F}
 use Rattle.query_tree.specs.declared.condition.Condition.TheOpen as c
 use Rattle.query_tree.specs.declared.condition.Condition.TheFolds.{fold-Condition}
-use Rattle.query_tree.specs.declared.block.BoundFunction.{BoundFunction}
-use Rattle.query_tree.specs.declared.block.BoundFunction.TheVariants as f
+use Rattle.query_tree.specs.declared.block.Aggregate.{Aggregate}
+use Rattle.query_tree.specs.declared.block.Aggregate.TheVariants as f
 use Rattle.query_tree.specs.declared.block.Item.{Item}
 use Rattle.query_tree.specs.declared.block.Key.{Key}
 use Rattle.query_tree.specs.declared.block.Block.{Block}
@@ -58,7 +58,7 @@ value_layer (e.Number n) = literal_of n
 value_layer (e.Text t) = spec.String (string_bytes t)
 value_layer (e.Signed minus a) = spec.Signed minus a.value
 value_layer (e.Chain first others) = spec.Chain first.value (operands others.items)
-value_layer (e.SetValue number type) = spec.SetValue number (value_type_of type)
+value_layer (e.AggregateValue number type) = spec.AggregateValue number (value_type_of type)
 value_layer (e.Subquery block type) = spec.Subquery block (value_type_of type)
 
 abbrev pub operand_layer : Operand-F spec.ValueExpr OperandTree → OperandTree
@@ -97,7 +97,7 @@ condition_of = fold-Condition spec.Condition condition_layer
 
 -- ---- blocks
 
-abbrev pub bound_function_of : BoundFunction → spec.BoundFunction
+abbrev pub bound_function_of : Aggregate → spec.Aggregate
 bound_function_of f.CountRows = spec.CountRows
 bound_function_of (f.OfValues function distinct argument) = spec.OfValues (function_of function) distinct (value_of argument)
 

@@ -7,7 +7,7 @@ use parse_tree::SetFunction;
 
 /// `COUNT(*)`, or a set function of an argument's values (ISO/IEC 9075:1992, 6.5).
 #[derive(Drop)]
-pub enum BoundFunction {
+pub enum Aggregate {
     CountRows,
     OfValues {
         function: SetFunction,
@@ -40,6 +40,6 @@ pub struct Block {
     pub condition: Option<Condition>,
     pub groups: Vec<BlockColumn>,
     pub having: Option<Condition>,
-    pub functions: Vec<BoundFunction>,
+    pub functions: Vec<Aggregate>,
     pub order: Vec<Key>,
 }

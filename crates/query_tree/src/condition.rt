@@ -2,19 +2,19 @@
 
 use crate::value::ValueExpr;
 use parse_tree::Quantifier;
-use sqlvalue::Op;
+use sqlvalue::ComparisonOperator;
 
 /// A condition (ISO/IEC 9075:1992, 8.1 to 8.12). Inner blocks go by number.
 #[derive(Drop)]
 pub enum Condition {
     Compare {
-        op: Op,
+        op: ComparisonOperator,
         left: ValueExpr,
         right: ValueExpr,
     },
     /// `value op ALL (query)`.
     Quantified {
-        op: Op,
+        op: ComparisonOperator,
         quantifier: Quantifier,
         value: ValueExpr,
         block: usize,

@@ -31,7 +31,7 @@ pub enum ValueExpr {
         others: Vec<Operand>,
     },
     /// The value of a set function of the block, by its number there.
-    SetValue {
+    AggregateValue {
         number: usize,
         value_type: ValueType,
     },

@@ -7,7 +7,7 @@
 ghost use Rattle.std.specs.Prelude.{◌≡◌, length, IfOk};
 
 use columns::NumberColumn;
-use sqlvalue::{Num, Op, SqlType, Value};
+use sqlvalue::{Num, ComparisonOperator, SqlType, Value};
 use std::alloc::{AllocError, Global};
 use std::rt::Runtime;
 use std::{env, io};
@@ -67,7 +67,7 @@ fn scanned(column: &NumberColumn, wanted: u32) -> usize
     });
     let mut kept = 0usize;
     for word in 0..ROWS / 64 {
-        let (met, _) = column.scan(Op::Equals, &value, 64 * word, 64);
+        let (met, _) = column.scan(ComparisonOperator::Equals, &value, 64 * word, 64);
         kept = kept.saturating_add(met.count_ones() as usize);
     }
     kept

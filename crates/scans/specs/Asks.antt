@@ -9,10 +9,10 @@ use Rattle.sqlvalue.specs.Meaning.{value_of}
 use Rattle.columns.specs.Starts.{limit_of}
 use Rattle.expr.specs.Answers.{IsTyped}
 use Rattle.definitions_execution.specs.Asking as spec
-use Rattle.scans.specs.declared.scan_key.Asked.{Asked}
-use Rattle.scans.specs.declared.scan_key.Asked.TheVariants as a
+use Rattle.scans.specs.declared.scan_key.ScanKey.{ScanKey}
+use Rattle.scans.specs.declared.scan_key.ScanKey.TheVariants as a
 
-abbrev pub asked_told : Asked → spec.Asked
+abbrev pub asked_told : ScanKey → spec.ScanKey
 asked_told (a.EqualTo value) = spec.EqualTo (value_of value)
 asked_told (a.InRange low high) = spec.InRange (limit_of low) (limit_of high)
 

@@ -19,34 +19,34 @@ use Rattle.definitions_execution.specs.Stored.{Composite, Stored}
 use Rattle.definitions_execution.specs.OfBlock.{combination_of, stored_of}
 use Rattle.definitions_execution.specs.TypedCombinations.{AreTypedAround}
 
-pub record Source : Type 0 where
+pub record BlockSource : Type 0 where
   pub database : Database
   pub block : Block
 
-abbrev pub block_in : Source → spec.Block
+abbrev pub block_in : BlockSource → spec.Block
 block_in source = block_of source.block
 
 -- the block is formed in blocks whose rows have types
-abbrev pub IsSurrounded : Source → List Combination → Type 0
+abbrev pub IsSurrounded : BlockSource → List Combination → Type 0
 IsSurrounded source outer =
     (blocks : Blocks) × (around : Blocks) × (n : ℕ) × IsFormedBlock source.database blocks around n (block_in source) × AreTypedAround source.database around outer
 
 -- an index of a table of the block, by number
-abbrev pub IsIndexOf : Source → ℕ → ℕ → Type 0
+abbrev pub IsIndexOf : BlockSource → ℕ → ℕ → Type 0
 IsIndexOf source table number = (i : Index) × (index_at source.database (block_in source) table number ≡ Some i)
 
 -- what early conjuncts are evaluated in: they ask for no inner block
-abbrev pub context_in : Source → List Combination → Context
+abbrev pub context_in : BlockSource → List Combination → Context
 context_in source outer = record { database = source.database; outer = outer; inner = λ block combinations. Is [] }
 
-abbrev pub environment_at : Source → List Combination → Composite → Environment
+abbrev pub environment_at : BlockSource → List Combination → Composite → Environment
 environment_at source outer composite = at (context_in source outer) (combination_of source.database (block_in source) composite)
 
-abbrev pub stored_in : Source → List Combination → Stored
+abbrev pub stored_in : BlockSource → List Combination → Stored
 stored_in source outer = stored_of (context_in source outer) (block_in source)
 
 -- a path of a table of the block, in some version of its plan space, where the rows of some tables are known
-pub record IsPathOf (source : Source) (path : Path) : Type 0 where
+pub record IsPathOf (source : BlockSource) (path : Path) : Type 0 where
   pub version : Version
   pub tables : TableSet
   pub table : table_of path < length (block_in source).tables

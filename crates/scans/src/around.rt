@@ -9,7 +9,7 @@ use query_tree::BlockColumn;
 use sqlvalue::Value;
 
 /// The rows of the blocks around a block, in which it is evaluated (own).
-pub trait Around {
+pub trait OuterRows {
     /// A combination of rows of each, the nearest first.
     ghost combinations: { Self → List Combination };
 
@@ -20,9 +20,9 @@ pub trait Around {
 
 /// There is no block around.
 #[derive(Clone, Copy)]
-pub struct Outermost;
+pub struct NoOuterRows;
 
-impl Around for Outermost {
+impl OuterRows for NoOuterRows {
     ghost combinations = { λ _. [] };
 
     fn cell(&self, _between: usize, _column: BlockColumn) -> Value<'_> {

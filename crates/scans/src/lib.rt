@@ -10,10 +10,10 @@ mod run;
 mod scan_key;
 mod source;
 
-pub use around::{Around, Outermost};
+pub use around::{OuterRows, NoOuterRows};
 pub use composite::Composite;
-pub use looking::path_run;
-pub use place::Place;
-pub use pull::Pull;
-pub use run::Run;
-pub use source::Source;
+pub use looking::rows_of_path;
+pub use place::RowContext;
+pub use pull::TupleSource;
+pub use run::ScanRows;
+pub use source::BlockSource;

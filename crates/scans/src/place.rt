@@ -11,22 +11,22 @@ ghost use Rattle.expr.specs.Answers.{answer_of, values_answer_of};
 ghost use Rattle.scans.specs.Sources.{environment_at};
 ghost use Rattle.definitions_execution.specs.Stored.{row_number as number_in};
 
-use crate::around::Around;
-use crate::source::Source;
-use expr::Surroundings;
+use crate::around::OuterRows;
+use crate::source::BlockSource;
+use expr::Environment;
 use query_tree::BlockColumn;
 use sqlvalue::{Raise, Value};
 
 /// A composite of rows of a block's tables, which go by their numbers, in the rows of the blocks around it. Of a table that is not
 /// there yet it has the first row.
 #[derive(Drop)]
-pub struct Place<'s, 'a, A: Around> {
-    pub source: &'s Source<'s>,
+pub struct RowContext<'s, 'a, A: OuterRows> {
+    pub source: &'s BlockSource<'s>,
     pub rows: &'a [u32],
     pub around: &'a A,
 }
 
-impl<'s, 'a, A: Around> Surroundings for Place<'s, 'a, A> {
+impl<'s, 'a, A: OuterRows> Environment for RowContext<'s, 'a, A> {
     ghost environment = { λ p. environment_at p.source.now (A.combinations p.around.now) p.rows.now };
 
     fn cell(&self, column: BlockColumn) -> Value<'_> {
@@ -38,7 +38,7 @@ impl<'s, 'a, A: Around> Surroundings for Place<'s, 'a, A> {
         self.around.cell(between, column)
     }
 
-    fn set_value(&self, _number: usize) -> Result<Value<'_>, Raise> {
+    fn aggregate_value(&self, _number: usize) -> Result<Value<'_>, Raise> {
         Ok(Value::Null)
     }
 

@@ -25,19 +25,19 @@ use std::marker::Model;
 
 /// A block of a database, whose rows are read.
 #[derive(Drop)]
-pub struct Source<'a> {
+pub struct BlockSource<'a> {
     database: &'a Database,
     block: &'a Block,
     tables: Vec<&'a Table>,
     conjuncts: Vec<Conjunct<'a>>,
 }
 
-impl<'a> Model for Source<'a> {
+impl<'a> Model for BlockSource<'a> {
     ghost use Rattle.std.specs.Coded.{codes};
     ghost use Rattle.query_tree.specs.contracts.block.Block as b;
-    ghost use Rattle.scans.specs.Sources.{Source};
+    ghost use Rattle.scans.specs.Sources.{BlockSource};
 
-    ghost Value = { Source };
+    ghost Value = { BlockSource };
 
     ghost coded = { Prim.hlevel (codes, b.the_row.coded) };
 
@@ -48,13 +48,13 @@ impl<'a> Model for Source<'a> {
     ghost invariant = { IsSource };
 }
 
-impl<'a> Source<'a> {
+impl<'a> BlockSource<'a> {
     /// The rows that a block of a database reads.
     pub fn new(
         alloc: Global,
         database: &'a Database,
         block: &'a Block,
-    ) -> Result<Source<'a>, AllocError>
+    ) -> Result<BlockSource<'a>, AllocError>
         requires formed { IsFormedSomewhere database.now (block_of block.now) }
         ensures database { IfOk result (λ s. s.database ≡ database.now) }
         ensures block { IfOk result (λ s. s.block ≡ block.now) }
@@ -63,7 +63,7 @@ impl<'a> Source<'a> {
         let _tables = database.tables();
         let tables = block_tables(alloc, database, block)?;
         let conjuncts = conjuncts(alloc, &block.condition)?;
-        Ok(Source {
+        Ok(BlockSource {
             database,
             block,
             tables,

@@ -41,8 +41,8 @@ abbrev is_change : Statement → Bool
 is_change (tree.CreateTable name columns) = true
 is_change (tree.CreateIndex unique table columns) = true
 is_change (tree.Load name file) = false
-is_change (tree.SetTable table rows pages) = true
-is_change (tree.SetIndex table columns statistics) = true
+is_change (tree.SetTableStatistics table rows pages) = true
+is_change (tree.SetIndexStatistics table columns statistics) = true
 is_change (tree.Query q) = false
 is_change (tree.Explain q) = false
 
@@ -50,8 +50,8 @@ abbrev kind : Statement → ℕ
 kind (tree.CreateTable name columns) = 3
 kind (tree.CreateIndex unique table columns) = 3
 kind (tree.Load name file) = 0
-kind (tree.SetTable table rows pages) = 3
-kind (tree.SetIndex table columns statistics) = 3
+kind (tree.SetTableStatistics table rows pages) = 3
+kind (tree.SetIndexStatistics table columns statistics) = 3
 kind (tree.Query q) = 1
 kind (tree.Explain q) = 2
 
@@ -102,10 +102,10 @@ created_is name name' columns columns' e = (cc, cc)
 indexed_is : (u u' : Bool) (name name' : Name) (columns columns' : List Name) → tree.CreateIndex u name columns ≡ tree.CreateIndex u' name' columns' → (u ≡ u') × (name ≡ name') × (columns ≡ columns')
 indexed_is u u' name name' columns columns' e = (cc, cc, cc)
 
-table_set_is : (name name' : Name) (rows rows' pages pages' : ℕ) → tree.SetTable name rows pages ≡ tree.SetTable name' rows' pages' → (name ≡ name') × (rows ≡ rows') × (pages ≡ pages')
+table_set_is : (name name' : Name) (rows rows' pages pages' : ℕ) → tree.SetTableStatistics name rows pages ≡ tree.SetTableStatistics name' rows' pages' → (name ≡ name') × (rows ≡ rows') × (pages ≡ pages')
 table_set_is name name' rows rows' pages pages' e = (cc, cc, cc)
 
-index_set_is : (name name' : Name) (columns columns' : List Name) (given given' : Given) → tree.SetIndex name columns given ≡ tree.SetIndex name' columns' given' → (name ≡ name') × (columns ≡ columns') × (given ≡ given')
+index_set_is : (name name' : Name) (columns columns' : List Name) (given given' : Given) → tree.SetIndexStatistics name columns given ≡ tree.SetIndexStatistics name' columns' given' → (name ≡ name') × (columns ≡ columns') × (given ≡ given')
 index_set_is name name' columns columns' given given' e = (cc, cc, cc)
 
 -- ---- refusals

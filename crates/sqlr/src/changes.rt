@@ -56,19 +56,19 @@ pub fn create_index<'a>(
 }
 
 /// SET STATISTICS of a table.
-pub fn set_table<'a>(
+pub fn set_table_statistics<'a>(
     alloc: Global,
     database: &mut Database,
     table: &'a Name,
     rows: Count,
     pages: Count,
 ) -> Result<Printed<'a>, StepFault>
-    ensures changes { IfOk result (Changes database.old (tree.SetTable (name_of table.now) rows.units pages.units) database.new) }
+    ensures changes { IfOk result (Changes database.old (tree.SetTableStatistics (name_of table.now) rows.units pages.units) database.new) }
     ensures kept { OnErr result (database.new ≡ database.old) }
     ensures memory { IfErr result (λ f. f ≡ fault.Memory) }
 {
     let text = Vec::from_slice(alloc, b"OK\n")?;
-    let fault = match database.set_table(table.text.as_str(), rows.units, pages.units) {
+    let fault = match database.set_table_statistics(table.text.as_str(), rows.units, pages.units) {
         Ok(()) => return Ok(done(text)),
         Err(fault) => fault,
     };
@@ -82,19 +82,19 @@ pub fn set_table<'a>(
 }
 
 /// SET STATISTICS of an index.
-pub fn set_index<'a>(
+pub fn set_index_statistics<'a>(
     alloc: Global,
     database: &mut Database,
     table: &'a Name,
     columns: &'a [Name],
     statistics: &'a IndexStatistics,
 ) -> Result<Printed<'a>, StepFault>
-    ensures changes { IfOk result (Changes database.old (tree.SetIndex (name_of table.now) (map name_of columns.now) (statistics_of statistics.now)) database.new) }
+    ensures changes { IfOk result (Changes database.old (tree.SetIndexStatistics (name_of table.now) (map name_of columns.now) (statistics_of statistics.now)) database.new) }
     ensures kept { OnErr result (database.new ≡ database.old) }
     ensures memory { IfErr result (λ f. f ≡ fault.Memory) }
 {
     let text = Vec::from_slice(alloc, b"OK\n")?;
-    let fault = match database.set_index(table.text.as_str(), columns, statistics) {
+    let fault = match database.set_index_statistics(table.text.as_str(), columns, statistics) {
         Ok(()) => return Ok(done(text)),
         Err(fault) => fault,
     };

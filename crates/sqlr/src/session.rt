@@ -11,7 +11,7 @@ ghost use Rattle.sqlr.specs.declared.outcome.StepFault.TheVariants as fault;
 ghost use Rattle.sqlr.specs.Sessions.{BreaksAt, BreaksIn, BreaksLine, BreaksOff, IsBoth, IsLibraryBlamed, IsSinkBlamed, IsStepBlamed, Prints, Runs, RunsAll, Takes, TakesBytes};
 
 use crate::cause::{Cause, FileLoad, Refused};
-use crate::changes::{create_index, create_table, set_index, set_table};
+use crate::changes::{create_index, create_table, set_index_statistics, set_table_statistics};
 use crate::ended::{Ended, RunFault};
 use crate::explaining::explain;
 use crate::library::{FetchFault, Fetched, Library};
@@ -161,14 +161,14 @@ impl<L: Library> Session<L> {
                 columns,
             } => create_index(alloc, &mut self.database, *unique, table, columns),
             Statement::Load { table, file } => self.load(table, file),
-            Statement::SetTable { table, rows, pages } => {
-                set_table(alloc, &mut self.database, table, *rows, *pages)
+            Statement::SetTableStatistics { table, rows, pages } => {
+                set_table_statistics(alloc, &mut self.database, table, *rows, *pages)
             }
-            Statement::SetIndex {
+            Statement::SetIndexStatistics {
                 table,
                 columns,
                 statistics,
-            } => set_index(alloc, &mut self.database, table, columns, statistics),
+            } => set_index_statistics(alloc, &mut self.database, table, columns, statistics),
             Statement::Query(query) => self.query(query),
             Statement::Explain(query) => explain(alloc, &self.database, query),
         }
@@ -251,8 +251,8 @@ pub(crate) fn place_of(statement: &Statement) -> usize {
     match statement {
         Statement::CreateTable { name: table, .. }
         | Statement::CreateIndex { table, .. }
-        | Statement::SetTable { table, .. }
-        | Statement::SetIndex { table, .. } => table.start,
+        | Statement::SetTableStatistics { table, .. }
+        | Statement::SetIndexStatistics { table, .. } => table.start,
         Statement::Load { file, .. } => file.start,
         Statement::Query(query) | Statement::Explain(query) => match query
             .block

@@ -8,7 +8,7 @@ mod standard_error;
 ghost use Rattle.std.specs.Prelude.{◌≡◌, ◌<◌};
 
 use folder::{FileFault, Folder};
-use messages_statements::{Lines, Place, Reporter};
+use messages_statements::{Lines, LineColumn, Reporter};
 use output::Output;
 use sqlr::requests::{Request, Script};
 use sqlr::{Failures, RunFault, Session, request, status};
@@ -244,7 +244,7 @@ fn tell_broken_off<R: Runtime + AllocGlobal>(
     let (RunFault::Memory { offset } | RunFault::Library { offset }) = fault else {
         return;
     };
-    let Place { line, column } = Lines::new(script).locate(offset);
+    let LineColumn { line, column } = Lines::new(script).locate(offset);
     match file {
         Some(file) => {
             let file_name = file.name.as_str();

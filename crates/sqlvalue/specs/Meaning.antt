@@ -6,8 +6,8 @@ use Rattle.definitions.specs.Statement as tree
 use Rattle.sqlvalue.specs.declared.number.Num.{Num}
 use Rattle.sqlvalue.specs.declared.value.Value.{Value}
 use Rattle.sqlvalue.specs.declared.value.Value.TheVariants as v
-use Rattle.sqlvalue.specs.declared.op.Op.{Op}
-use Rattle.sqlvalue.specs.declared.op.Op.TheVariants as o
+use Rattle.sqlvalue.specs.declared.op.ComparisonOperator.{ComparisonOperator}
+use Rattle.sqlvalue.specs.declared.op.ComparisonOperator.TheVariants as o
 use Rattle.sqlvalue.specs.declared.sql_type.DeclaredType.{DeclaredType}
 use Rattle.sqlvalue.specs.declared.sql_type.DeclaredType.TheVariants as d
 use Rattle.sqlvalue.specs.declared.sql_type.TypeFault.{TypeFault}
@@ -23,7 +23,7 @@ value_of v.Null = spec.Null
 value_of (v.Num n) = number_of n
 value_of (v.Text text) = spec.Text text.now
 
-abbrev pub op_of : Op → tree.Op
+abbrev pub op_of : ComparisonOperator → tree.ComparisonOperator
 op_of o.Equals = tree.Equals
 op_of o.NotEquals = tree.NotEquals
 op_of o.LessThan = tree.LessThan

@@ -22,7 +22,7 @@ pub use lines::{
     LOADED_ROOM, write_exception, write_fault, write_loaded, write_record_refusal, write_refusal,
 };
 pub use number::Num;
-pub use op::Op;
+pub use op::ComparisonOperator;
 pub use pattern::like;
 pub use refusal::Refusal;
 pub use sql_type::{DeclaredType, MAX_LENGTH, MAX_PRECISION, SqlType, TypeFault};

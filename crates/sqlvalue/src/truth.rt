@@ -6,7 +6,7 @@ ghost use Rattle.sqlvalue.specs.Meaning.{op_of, value_of};
 ghost use Rattle.sqlvalue.specs.Truths.{truth_of};
 
 use crate::comparison::compare;
-use crate::op::Op;
+use crate::op::ComparisonOperator;
 use crate::value::Value;
 
 /// A truth value (ISO/IEC 9075:1992, 8.12).
@@ -70,7 +70,7 @@ impl From<bool> for Tri {
     }
 }
 
-impl Op {
+impl ComparisonOperator {
     /// The truth of a comparison, which is unknown with a null, and of values of two kinds (ISO/IEC 9075:1992, 8.2).
     pub fn compared(self, a: &Value, b: &Value) -> Tri
         ensures { truth_of result ≡ spec.compared (op_of self) (value_of a.now) (value_of b.now) }

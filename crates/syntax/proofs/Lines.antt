@@ -13,7 +13,7 @@ use Rattle.definitions.specs.Statement.{Expr, LineOperator}
 use Rattle.parse_tree.specs.Trees.{operand_of}
 use Rattle.definitions.proofs.Alike.{Alike, then_alike, gives_alike}
 use Rattle.definitions.proofs.Grammar.{within_alike, conjunction_alike, negation_alike, product_alike, sign_alike}
-use Rattle.syntax_cursor.specs.declared.stop.Stop.{Stop}
+use Rattle.syntax_cursor.specs.declared.stop.ParseStop.{ParseStop}
 use Rattle.syntax_cursor.specs.Reading.{Place, IsNext, Outcome, viewed}
 use Rattle.syntax.specs.Reading.{LineAt, OperandAt}
 use Rattle.syntax_cursor.specs.Reading as r
@@ -33,7 +33,7 @@ operand_alike g.Conjunction n m = negation_alike (within_alike n m)
 operand_alike g.Sum n m = product_alike (within_alike n m)
 operand_alike g.Product n m = sign_alike (within_alike n m)
 
-pub is_line : {levels least : ℕ} {p q : Place} {o : Result Expr Stop} (kind : LineKind) → Outcome (λ m. LineOf kind (OperandAt kind m)) levels least p q o → Outcome (LineAt kind) levels least p q o
+pub is_line : {levels least : ℕ} {p q : Place} {o : Result Expr ParseStop} (kind : LineKind) → Outcome (λ m. LineOf kind (OperandAt kind m)) levels least p q o → Outcome (LineAt kind) levels least p q o
 unfolding g.ExprOf g.ConjunctionOf g.SumOf g.ProductOf
 is_line g.Disjunction out = out
 is_line g.Conjunction out = out
@@ -59,7 +59,7 @@ module _ (kind : LineKind) (levels least : ℕ) where
       → Outcome (OperandAt kind) levels k q' t (Ok e) → Lines kind levels least p t x (xs ++ (operator, e) ∷ [])
   line_goes_on p q q' t x xs operator e k inv at d = joined (operator_in kind) (Joint kind) (λ m. LineOf kind (OperandAt kind m)) levels least (λ m op. joint_alike kind levels m op) p q q' t (λ ys. line x (operands ys)) xs operator (operator, e) k inv at (mapped (λ y. (operator, y)) (Ok e) d)
 
-  pub line_fails : (p q q' t : Place) (x : Expr) (xs : List (LineOperator × Expr)) (operator : LineOperator) (stop : Stop) → Lines kind levels least p q x xs → (operator_in kind (slice_get q.tokens q.at) ≡ Some operator) × IsNext q q'
+  pub line_fails : (p q q' t : Place) (x : Expr) (xs : List (LineOperator × Expr)) (operator : LineOperator) (stop : ParseStop) → Lines kind levels least p q x xs → (operator_in kind (slice_get q.tokens q.at) ≡ Some operator) × IsNext q q'
       → Outcome (OperandAt kind) levels least q' t (Err stop) → Outcome (LineAt kind) levels least p t (Err stop)
   line_fails p q q' t x xs operator stop inv at d = is_line kind (joined_fails (operator_in kind) (Joint kind) (λ m. LineOf kind (OperandAt kind m)) levels least p q q' t (λ ys. line x (operands ys)) xs operator stop inv at (then_fails d))
 

@@ -128,7 +128,7 @@ of_block b =
 
 -- ---- operators
 
-pub op_says : (o : Option TokenKind) (op : spec.Op) → op_in o ≡ Some op → option_map leaf_in o ≡ Some (op_leaf op)
+pub op_says : (o : Option TokenKind) (op : spec.ComparisonOperator) → op_in o ≡ Some op → option_map leaf_in o ≡ Some (op_leaf op)
 op_says (Some (t.Mark t.Equals)) op e = ap (λ x. option_map op_leaf x) e
 op_says (Some (t.Mark t.NotEquals)) op e = ap (λ x. option_map op_leaf x) e
 op_says (Some (t.Mark t.LessThan)) op e = ap (λ x. option_map op_leaf x) e

@@ -11,8 +11,8 @@ use Rattle.definitions.specs.Grammar.{within}
 use Rattle.definitions.proofs.Grammar.{statement_alike, within_alike, no_token_there}
 use Rattle.lexer.specs.declared.token.Token.{Token}
 use Rattle.lexer.specs.Meaning.{token_of, tokens_of}
-use Rattle.syntax_cursor.specs.declared.stop.Stop.{Stop}
-use Rattle.syntax_cursor.specs.declared.stop.Stop.TheVariants as s
+use Rattle.syntax_cursor.specs.declared.stop.ParseStop.{ParseStop}
+use Rattle.syntax_cursor.specs.declared.stop.ParseStop.TheVariants as s
 use Rattle.syntax.specs.declared.fault.SyntaxFault.{SyntaxFault}
 use Rattle.syntax.specs.declared.fault.SyntaxFault.TheVariants as f
 use Rattle.lexer.specs.Meaning.{kinds_of}
@@ -62,7 +62,7 @@ too_deep ts end n None k e h c nw = absurd (let q = sym (got_none ts n e) ∙ h 
 moved : (tokens : _) (end at at' : ℕ) (x : refusal.Refusal) → at' ≡ at → g.SyntaxFails tokens end x at → g.SyntaxFails tokens end x at'
 moved tokens end at at' x e h = rw e h
 
-pub script_fails : (ts : List Token) (end : ℕ) (stop : Stop) (fault : SyntaxFault) → Stops ScriptIn (kinds_of ts) most_levels most_levels 0 stop → TellsStop ts end stop fault → IsSyntaxFault (tokens_of ts) end fault
+pub script_fails : (ts : List Token) (end : ℕ) (stop : ParseStop) (fault : SyntaxFault) → Stops ScriptIn (kinds_of ts) most_levels most_levels 0 stop → TellsStop ts end stop fault → IsSyntaxFault (tokens_of ts) end fault
 script_fails ts end (s.Token n) (f.Unexpected u) (r.at_token n' l nw) e = moved _ _ _ _ _ e (unexpected ts end n (slice_get ts n) refl nw)
 script_fails ts end (s.Deep n) (f.TooDeep offset) (r.too_deep n' k l y c nw) e = moved _ _ _ _ _ e (too_deep ts end n (slice_get ts n) k refl y c nw)
 script_fails ts end s.Memory f.Memory r.for_memory e = tt
@@ -104,12 +104,12 @@ nowhere_script ts us n at end p l m k x a h i b t d nw to xs (e, g.next p' j y r
 
 -- the statements so far, and behind them whatever the rest comes to
 abbrev pub Scripts : (p q : Place) → List Statement → Type 0
-Scripts p q xs = (q.tokens ≡ p.tokens) × ((o : Result (List Statement) Stop) → ParsesScript q o → ParsesScript p (viewed (λ ys. xs ++ ys) o))
+Scripts p q xs = (q.tokens ≡ p.tokens) × ((o : Result (List Statement) ParseStop) → ParsesScript q o → ParsesScript p (viewed (λ ys. xs ++ ys) o))
 
 pub script_begins : (p : Place) → Scripts p p []
 script_begins p = (refl, λ o rest. same o rest)
   where
-    same : (o : Result (List Statement) Stop) → ParsesScript p o → ParsesScript p (viewed (λ ys. [] ++ ys) o)
+    same : (o : Result (List Statement) ParseStop) → ParsesScript p o → ParsesScript p (viewed (λ ys. [] ++ ys) o)
     same (Ok ys) h = h
     same (Err stop) h = h
 
@@ -119,18 +119,18 @@ kind_there (t ∷ ts) zero l = (t, refl)
 kind_there (t ∷ ts) (suc at) l = kind_there ts at (omega (arith, l))
 
 -- the statement at a place is stopped
-pub statement_fails : (p q : Place) (stop : Stop) → p.at < length p.tokens → Outcome (λ m. g.StatementOf (within m)) most_levels most_levels p q (Err stop) → ParsesScript p (Err stop)
+pub statement_fails : (p q : Place) (stop : ParseStop) → p.at < length p.tokens → Outcome (λ m. g.StatementOf (within m)) most_levels most_levels p q (Err stop) → ParsesScript p (Err stop)
 statement_fails p q stop l (r.stopped x st) =
     let k = kind_there p.tokens p.at l in
     stops_script (λ m us n h ag nw. nowhere_statement p.tokens us n p.at m k.0 ag h k.1 nw) stop st
   where
-    stops_script : ((m : ℕ) (us : List TokenKind) (n : ℕ) → p.at ≤ n → Agree p.tokens us n → Nowhere (g.StatementOf (within m)) us p.at → Nowhere (ScriptIn m) us p.at) → (stop : Stop) → Stops (λ m. g.StatementOf (within m)) p.tokens most_levels most_levels p.at stop → Stops ScriptIn p.tokens most_levels most_levels p.at stop
+    stops_script : ((m : ℕ) (us : List TokenKind) (n : ℕ) → p.at ≤ n → Agree p.tokens us n → Nowhere (g.StatementOf (within m)) us p.at → Nowhere (ScriptIn m) us p.at) → (stop : ParseStop) → Stops (λ m. g.StatementOf (within m)) p.tokens most_levels most_levels p.at stop → Stops ScriptIn p.tokens most_levels most_levels p.at stop
     stops_script needs (s.Token n) (r.at_token n' h nw) = r.at_token n h (λ us ag m. needs m us n h ag (nw us ag m))
     stops_script needs (s.Deep n) (r.too_deep n' k h y c nw) = r.too_deep n k h y c (λ us ag. needs most_levels us n h ag (nw us ag))
     stops_script needs s.Memory r.for_memory = r.for_memory
 
 -- no semicolon stands behind it
-pub semicolon_fails : (p q t : Place) (x : Statement) (stop : Stop) → p.at < length p.tokens → Outcome (λ m. g.StatementOf (within m)) most_levels most_levels p q (Ok x) → NotAt q.tokens q.at (Mark Semicolon) × (stop ≡ s.Token q.at) → ParsesScript p (Err stop)
+pub semicolon_fails : (p q t : Place) (x : Statement) (stop : ParseStop) → p.at < length p.tokens → Outcome (λ m. g.StatementOf (within m)) most_levels most_levels p q (Ok x) → NotAt q.tokens q.at (Mark Semicolon) × (stop ≡ s.Token q.at) → ParsesScript p (Err stop)
 semicolon_fails p q t x stop l (r.read y e d) h =
     let k = kind_there p.tokens p.at l in
     let rises : p.at ≤ q.at = (statement_alike (within_alike most_levels most_levels)).rises p.tokens p.at q.at x d in
@@ -138,7 +138,7 @@ semicolon_fails p q t x stop l (r.read y e d) h =
     subst (λ z. ParsesScript p (Err z)) (sym h.1) (r.at_token q.at rises (λ us ag m. nowhere_semicolon p.tokens us q.at p.at q.at most_levels m k.0 x ag rises (omega arith) k.1 d gone))
 
 -- a statement with its semicolon, and the script behind it
-next_script : (p q t : Place) (x : Statement) → p.at < length p.tokens → Outcome (λ m. g.StatementOf (within m)) most_levels most_levels p q (Ok x) → At q.tokens q.at (Mark Semicolon) × IsNext q t → (o : Result (List Statement) Stop) → ParsesScript t o → ParsesScript p (viewed (λ ys. x ∷ ys) o)
+next_script : (p q t : Place) (x : Statement) → p.at < length p.tokens → Outcome (λ m. g.StatementOf (within m)) most_levels most_levels p q (Ok x) → At q.tokens q.at (Mark Semicolon) × IsNext q t → (o : Result (List Statement) ParseStop) → ParsesScript t o → ParsesScript p (viewed (λ ys. x ∷ ys) o)
 next_script p q t x l (r.read y e d) at (Ok ys) rest =
     let d₁ : g.ScriptAt most_levels p.tokens (q.at + 1) ys = subst (λ i. g.ScriptAt most_levels p.tokens i ys) at.1.at (subst (λ ts. g.ScriptAt most_levels ts t.at ys) (at.1.tokens ∙ e) rest) in
     g.next p.at q.at x ys d (subst (λ ts. At ts q.at (Mark Semicolon)) e at.0) d₁
@@ -149,7 +149,7 @@ next_script p q t x l (r.read y e d) at (Err stop) rest =
     (λ m us n h ag nw. nowhere_script p.tokens us n p.at q.at t.at most_levels m k.0 x ag (omega (arith, h, rises, at.1.at)) (omega (arith, h, at.1.at)) at.1.at k.1 d nw)
     (subst (λ ts. Stops ScriptIn ts most_levels most_levels t.at stop) (at.1.tokens ∙ e) rest)
 
-assoc : (xs : List Statement) (x : Statement) (o : Result (List Statement) Stop) → viewed (λ ys. xs ++ ys) (viewed (λ ys. x ∷ ys) o) ≡ viewed (λ ys. (xs ++ x ∷ []) ++ ys) o
+assoc : (xs : List Statement) (x : Statement) (o : Result (List Statement) ParseStop) → viewed (λ ys. xs ++ ys) (viewed (λ ys. x ∷ ys) o) ≡ viewed (λ ys. (xs ++ x ∷ []) ++ ys) o
 assoc xs x (Ok ys) = ap Ok (sym (append_assoc xs (x ∷ []) ys))
 assoc xs x (Err stop) = refl
 
@@ -168,11 +168,11 @@ fewer q q' t x l (r.read y e d) at =
     omega (arith, rises, n, at.1.at, l)
 
 -- where a statement of the rest fails, the script does
-pub script_fails_at : (p q : Place) (xs : List Statement) (stop : Stop) → Scripts p q xs → ParsesScript q (Err stop) → ParsesScript p (Err stop)
+pub script_fails_at : (p q : Place) (xs : List Statement) (stop : ParseStop) → Scripts p q xs → ParsesScript q (Err stop) → ParsesScript p (Err stop)
 script_fails_at p q xs stop inv h = inv.1 (Err stop) h
 
-pub answered : {A : Type 0} (p : Place) (f : A → List Statement) (result : Result A Stop) (stop : Stop) → result ≡ Err stop → ParsesScript p (Err stop) → ParsesScript p (viewed f result)
+pub answered : {A : Type 0} (p : Place) (f : A → List Statement) (result : Result A ParseStop) (stop : ParseStop) → result ≡ Err stop → ParsesScript p (Err stop) → ParsesScript p (viewed f result)
 answered p f result stop e h = subst (λ x. ParsesScript p (viewed f x)) (sym e) h
 
-pub for_memory : (p : Place) (stop : Stop) → stop ≡ s.Memory → ParsesScript p (Err stop)
+pub for_memory : (p : Place) (stop : ParseStop) → stop ≡ s.Memory → ParsesScript p (Err stop)
 for_memory p stop e = subst (λ x. ParsesScript p (Err x)) (sym e) r.for_memory

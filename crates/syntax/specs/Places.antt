@@ -33,7 +33,7 @@ abbrev pub sign_leaf : (minus : Bool) → Leaf
 sign_leaf true = Mark t.Minus
 sign_leaf false = Mark t.Plus
 
-abbrev pub op_leaf : spec.Op → Leaf
+abbrev pub op_leaf : spec.ComparisonOperator → Leaf
 op_leaf spec.Equals = Mark t.Equals
 op_leaf spec.NotEquals = Mark t.NotEquals
 op_leaf spec.LessThan = Mark t.LessThan
@@ -151,7 +151,7 @@ abbrev pub statement_leaves : Statement → List Placed
 statement_leaves (s.CreateTable name columns) = name_leaves name ++ all definition_leaves columns.items
 statement_leaves (s.CreateIndex unique table columns) = name_leaves table ++ all name_leaves columns.items
 statement_leaves (s.Load table file) = name_leaves table ++ string_leaves file
-statement_leaves (s.SetTable table rows pages) = (name_leaves table ++ count_leaves rows) ++ count_leaves pages
-statement_leaves (s.SetIndex table columns statistics) = (name_leaves table ++ all name_leaves columns.items) ++ statistics_leaves statistics
+statement_leaves (s.SetTableStatistics table rows pages) = (name_leaves table ++ count_leaves rows) ++ count_leaves pages
+statement_leaves (s.SetIndexStatistics table columns statistics) = (name_leaves table ++ all name_leaves columns.items) ++ statistics_leaves statistics
 statement_leaves (s.Query q) = select_leaves q
 statement_leaves (s.Explain q) = select_leaves q

@@ -8,8 +8,8 @@ use Rattle.definitions.specs.Grammar as grammar
 use Rattle.definitions.specs.Grammar.{within, LineKind, ScriptAt, SyntaxFails}
 use Rattle.definitions.specs.Statement.{Expr, Statement}
 use Rattle.lexer.specs.declared.token.Token.{Token}
-use Rattle.syntax_cursor.specs.declared.stop.Stop.{Stop}
-use Rattle.syntax_cursor.specs.declared.stop.Stop.TheVariants as s
+use Rattle.syntax_cursor.specs.declared.stop.ParseStop.{ParseStop}
+use Rattle.syntax_cursor.specs.declared.stop.ParseStop.TheVariants as s
 use Rattle.syntax_cursor.specs.Reading.{Place, Stops}
 use Rattle.syntax.specs.declared.fault.SyntaxFault.{SyntaxFault}
 use Rattle.syntax.specs.declared.fault.SyntaxFault.TheVariants as f
@@ -34,7 +34,7 @@ abbrev pub ScriptIn : ℕ → Rule (List Statement)
 ScriptIn m ts at to xs = (to ≡ length ts) × ScriptAt m ts at xs
 
 -- a script is read from a place on, or stopped
-abbrev pub ParsesScript : Place → Result (List Statement) Stop → Type 0
+abbrev pub ParsesScript : Place → Result (List Statement) ParseStop → Type 0
 ParsesScript p (Ok xs) = ScriptAt most_levels p.tokens p.at xs
 ParsesScript p (Err stop) = Stops ScriptIn p.tokens most_levels most_levels p.at stop
 
@@ -44,7 +44,7 @@ start_or end (Some t) = t.start
 start_or end None = end
 
 -- the fault that a stop is, in a text of so many bytes
-abbrev pub TellsStop : List Token → (end : ℕ) → Stop → SyntaxFault → Type 0
+abbrev pub TellsStop : List Token → (end : ℕ) → ParseStop → SyntaxFault → Type 0
 TellsStop tokens end (s.Token n) (f.Unexpected u) = u.offset ≡ start_or end (slice_get tokens n)
 TellsStop tokens end (s.Deep n) (f.TooDeep offset) = offset ≡ start_or end (slice_get tokens n)
 TellsStop tokens end s.Memory f.Memory = ⊤

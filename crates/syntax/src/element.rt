@@ -7,7 +7,7 @@ ghost use Rattle.syntax_cursor.specs.Reading.{ParsesFlat, viewed};
 ghost use Rattle.syntax.specs.Places.{all};
 
 use lexer::Symbol;
-use syntax_cursor::{Cursor, Stop};
+use syntax_cursor::{Cursor, ParseStop};
 
 /// What stands between commas.
 pub trait Element: Drop {
@@ -28,13 +28,13 @@ pub trait Element: Drop {
     ghost leaves: { Self → List Placed };
 
     /// One element.
-    fn read(cursor: &mut Cursor) -> Result<Self, Stop>
+    fn read(cursor: &mut Cursor) -> Result<Self, ParseStop>
         ensures reads { ParsesFlat rule cursor.old cursor.new (viewed tree_of result) }
         ensures placed { IfOk result (λ x. Stands cursor.old cursor.new (leaves x)) };
 }
 
 /// `element { "," element }`.
-pub fn comma_list<T: Element>(cursor: &mut Cursor) -> Result<Vec<T>, Stop>
+pub fn comma_list<T: Element>(cursor: &mut Cursor) -> Result<Vec<T>, ParseStop>
     ensures reads { ParsesFlat (ListOf T.rule) cursor.old cursor.new (viewed (λ (xs : _). map T.tree_of xs.items) result) }
     ensures some { IfOk result (λ xs. 0 < length xs.items) }
     ensures placed { IfOk result (λ xs. Stands cursor.old cursor.new (all T.leaves xs.items)) }

@@ -17,12 +17,12 @@ ghost use Rattle.syntax.specs.Reading.{LineAt, OperandAt};
 
 use crate::query;
 use lexer::{Symbol, Word};
-use parse_tree::{Block, ColumnReference, Expr, Op, Operand, SetFunction};
-use syntax_cursor::{Cursor, LineKind, Stop, TokenClass};
+use parse_tree::{Block, ColumnReference, Expr, ComparisonOperator, Operand, SetFunction};
+use syntax_cursor::{Cursor, LineKind, ParseStop, TokenClass};
 
 /// `operand { operator operand }`, of one of the four kinds (ISO/IEC 9075:1992, 8.12 and 6.12).
 #[cycle(expressions)]
-pub fn line(cursor: &mut Cursor, kind: LineKind, levels: u8) -> Result<Expr, Stop>
+pub fn line(cursor: &mut Cursor, kind: LineKind, levels: u8) -> Result<Expr, ParseStop>
     ensures reads { Parses (LineAt (line_kind kind)) levels cursor.old cursor.new (viewed expr_of result) }
     ensures placed { IfOk result (λ expr. Stands cursor.old cursor.new (expr_leaves expr)) }
 {
@@ -48,7 +48,7 @@ pub fn line(cursor: &mut Cursor, kind: LineKind, levels: u8) -> Result<Expr, Sto
 }
 
 #[cycle(expressions)]
-fn operand(cursor: &mut Cursor, kind: LineKind, levels: u8) -> Result<Expr, Stop>
+fn operand(cursor: &mut Cursor, kind: LineKind, levels: u8) -> Result<Expr, ParseStop>
     ensures reads { Parses (OperandAt (line_kind kind)) levels cursor.old cursor.new (viewed expr_of result) }
     ensures placed { IfOk result (λ expr. Stands cursor.old cursor.new (expr_leaves expr)) }
 {
@@ -62,7 +62,7 @@ fn operand(cursor: &mut Cursor, kind: LineKind, levels: u8) -> Result<Expr, Stop
 
 /// `NOT negation | test` (ISO/IEC 9075:1992, 8.12).
 #[cycle(expressions)]
-fn negation(cursor: &mut Cursor, levels: u8) -> Result<Expr, Stop>
+fn negation(cursor: &mut Cursor, levels: u8) -> Result<Expr, ParseStop>
     ensures reads { Parses (λ m. grammar.NegationOf (within m)) levels cursor.old cursor.new (viewed expr_of result) }
     ensures placed { IfOk result (λ expr. Stands cursor.old cursor.new (expr_leaves expr)) }
 {
@@ -78,7 +78,7 @@ fn negation(cursor: &mut Cursor, levels: u8) -> Result<Expr, Stop>
 
 /// `sum [ tail ]` (ISO/IEC 9075:1992, 8.1).
 #[cycle(expressions)]
-fn test(cursor: &mut Cursor, levels: u8) -> Result<Expr, Stop>
+fn test(cursor: &mut Cursor, levels: u8) -> Result<Expr, ParseStop>
     ensures reads { Parses (λ m. grammar.TestOf (within m)) levels cursor.old cursor.new (viewed expr_of result) }
     ensures placed { IfOk result (λ expr. Stands cursor.old cursor.new (expr_leaves expr)) }
 {
@@ -88,7 +88,7 @@ fn test(cursor: &mut Cursor, levels: u8) -> Result<Expr, Stop>
 
 /// What stands behind a value.
 #[cycle(expressions)]
-fn tail(cursor: &mut Cursor, value: Expr, levels: u8) -> Result<Expr, Stop>
+fn tail(cursor: &mut Cursor, value: Expr, levels: u8) -> Result<Expr, ParseStop>
     ensures reads { Parses (λ m. grammar.TailOf (within m) (expr_of value)) levels cursor.old cursor.new (viewed expr_of result) }
     ensures placed { IfOk result (λ expr. GoesOn (expr_leaves value) cursor.old cursor.new (expr_leaves expr)) }
 {
@@ -109,10 +109,10 @@ fn tail(cursor: &mut Cursor, value: Expr, levels: u8) -> Result<Expr, Stop>
 fn compared(
     cursor: &mut Cursor,
     start: usize,
-    op: Op,
+    op: ComparisonOperator,
     value: Expr,
     levels: u8,
-) -> Result<Expr, Stop>
+) -> Result<Expr, ParseStop>
     ensures reads { Parses (λ m. grammar.ComparedOf (within m) (op_of op) (expr_of value)) levels cursor.old cursor.new (viewed expr_of result) }
     ensures placed { IfOk result (λ expr. GoesOn (expr_leaves value ++ one (op_leaf (op_of op)) start) cursor.old cursor.new (expr_leaves expr)) }
 {
@@ -140,7 +140,7 @@ fn compared(
 }
 
 /// `[ NOT ] NULL` behind IS (ISO/IEC 9075:1992, 8.6).
-fn null_test(cursor: &mut Cursor, start: usize, value: Expr) -> Result<Expr, Stop>
+fn null_test(cursor: &mut Cursor, start: usize, value: Expr) -> Result<Expr, ParseStop>
     ensures reads { ParsesFlat (grammar.NullOf (expr_of value)) cursor.old cursor.new (viewed expr_of result) }
     ensures placed { IfOk result (λ expr. GoesOn (expr_leaves value ++ one (leaf.Reserved words.Is) start) cursor.old cursor.new (expr_leaves expr)) }
 {
@@ -156,7 +156,7 @@ fn null_test(cursor: &mut Cursor, start: usize, value: Expr) -> Result<Expr, Sto
 
 /// `BETWEEN .. | LIKE .. | IN ..`; or, but not behind NOT, nothing.
 #[cycle(expressions)]
-fn predicate(cursor: &mut Cursor, negated: bool, value: Expr, levels: u8) -> Result<Expr, Stop>
+fn predicate(cursor: &mut Cursor, negated: bool, value: Expr, levels: u8) -> Result<Expr, ParseStop>
     ensures reads { Parses (λ m. grammar.PredicateOf (within m) negated (expr_of value)) levels cursor.old cursor.new (viewed expr_of result) }
     ensures placed { IfOk result (λ expr. GoesOn (expr_leaves value) cursor.old cursor.new (expr_leaves expr)) }
 {
@@ -196,7 +196,7 @@ fn between(
     negated: bool,
     value: Expr,
     levels: u8,
-) -> Result<Expr, Stop>
+) -> Result<Expr, ParseStop>
     ensures reads { Parses (λ m. grammar.BetweenOf (within m) negated (expr_of value)) levels cursor.old cursor.new (viewed expr_of result) }
     ensures placed { IfOk result (λ expr. GoesOn (expr_leaves value ++ one (leaf.Reserved words.Between) start) cursor.old cursor.new (expr_leaves expr)) }
 {
@@ -216,7 +216,7 @@ fn between(
 }
 
 /// The pattern behind LIKE (ISO/IEC 9075:1992, 8.5).
-fn like(cursor: &mut Cursor, start: usize, negated: bool, value: Expr) -> Result<Expr, Stop>
+fn like(cursor: &mut Cursor, start: usize, negated: bool, value: Expr) -> Result<Expr, ParseStop>
     ensures reads { ParsesFlat (grammar.LikeOf negated (expr_of value)) cursor.old cursor.new (viewed expr_of result) }
     ensures placed { IfOk result (λ expr. GoesOn (expr_leaves value ++ one (leaf.Reserved words.Like) start) cursor.old cursor.new (expr_leaves expr)) }
 {
@@ -238,7 +238,7 @@ fn in_list(
     negated: bool,
     value: Expr,
     levels: u8,
-) -> Result<Expr, Stop>
+) -> Result<Expr, ParseStop>
     ensures reads { Parses (λ m. grammar.InListOf (within m) negated (expr_of value)) levels cursor.old cursor.new (viewed expr_of result) }
     ensures placed { IfOk result (λ expr. GoesOn (expr_leaves value ++ one (leaf.Reserved words.In) start) cursor.old cursor.new (expr_leaves expr)) }
 {
@@ -264,7 +264,7 @@ fn in_list(
 
 /// `member { "," member }`.
 #[cycle(expressions)]
-fn members(cursor: &mut Cursor, levels: u8) -> Result<Vec<Option<Expr>>, Stop>
+fn members(cursor: &mut Cursor, levels: u8) -> Result<Vec<Option<Expr>>, ParseStop>
     ensures reads { Parses (λ m. grammar.ListOf (grammar.MemberOf (within m))) levels cursor.old cursor.new (viewed (λ (xs : _). map member_of xs.items) result) }
     ensures placed { IfOk result (λ xs. Stands cursor.old cursor.new (all (if_there expr_leaves) xs.items)) }
 {
@@ -283,7 +283,7 @@ fn members(cursor: &mut Cursor, levels: u8) -> Result<Vec<Option<Expr>>, Stop>
 
 /// `sum | NULL`; NULL is none.
 #[cycle(expressions)]
-fn member(cursor: &mut Cursor, levels: u8) -> Result<Option<Expr>, Stop>
+fn member(cursor: &mut Cursor, levels: u8) -> Result<Option<Expr>, ParseStop>
     ensures reads { Parses (λ m. grammar.MemberOf (within m)) levels cursor.old cursor.new (viewed member_of result) }
     ensures placed { IfOk result (λ member. Stands cursor.old cursor.new (if_there expr_leaves member)) }
 {
@@ -296,7 +296,7 @@ fn member(cursor: &mut Cursor, levels: u8) -> Result<Option<Expr>, Stop>
 
 /// `( "+" | "-" ) signed | primary` (ISO/IEC 9075:1992, 6.12).
 #[cycle(expressions)]
-fn signed(cursor: &mut Cursor, levels: u8) -> Result<Expr, Stop>
+fn signed(cursor: &mut Cursor, levels: u8) -> Result<Expr, ParseStop>
     ensures reads { Parses (λ m. grammar.SignOf (within m)) levels cursor.old cursor.new (viewed expr_of result) }
     ensures placed { IfOk result (λ expr. Stands cursor.old cursor.new (expr_leaves expr)) }
 {
@@ -316,7 +316,7 @@ fn signed(cursor: &mut Cursor, levels: u8) -> Result<Expr, Stop>
 
 /// A number, a string, a function, EXISTS, a parenthesis or a column.
 #[cycle(expressions)]
-fn primary(cursor: &mut Cursor, levels: u8) -> Result<Expr, Stop>
+fn primary(cursor: &mut Cursor, levels: u8) -> Result<Expr, ParseStop>
     ensures reads { Parses (λ m. grammar.PrimaryOf (within m)) levels cursor.old cursor.new (viewed expr_of result) }
     ensures placed { IfOk result (λ expr. Stands cursor.old cursor.new (expr_leaves expr)) }
 {
@@ -336,7 +336,7 @@ fn primary(cursor: &mut Cursor, levels: u8) -> Result<Expr, Stop>
 
 /// EXISTS, a parenthesis or a column.
 #[cycle(expressions)]
-fn other_primary(cursor: &mut Cursor, levels: u8) -> Result<Expr, Stop>
+fn other_primary(cursor: &mut Cursor, levels: u8) -> Result<Expr, ParseStop>
     ensures reads { Parses (λ m. grammar.OtherPrimaryOf (within m)) levels cursor.old cursor.new (viewed expr_of result) }
     ensures placed { IfOk result (λ expr. Stands cursor.old cursor.new (expr_leaves expr)) }
 {
@@ -362,7 +362,7 @@ fn argument(
     start: usize,
     function: SetFunction,
     levels: u8,
-) -> Result<Expr, Stop>
+) -> Result<Expr, ParseStop>
     ensures reads { Parses (λ m. grammar.ArgumentOf (within m) (function_of function)) levels cursor.old cursor.new (viewed expr_of result) }
     ensures placed { IfOk result (λ expr. GoesOn (one (function_leaf (function_of function)) start) cursor.old cursor.new (expr_leaves expr)) }
 {
@@ -394,7 +394,7 @@ fn eat_asterisk(cursor: &mut Cursor, function: SetFunction) -> bool
 
 /// What stands behind `(`, with the parenthesis that closes it (ISO/IEC 9075:1992, 6.11 and 7.11).
 #[cycle(expressions)]
-fn parenthesis(cursor: &mut Cursor, start: usize, levels: u8) -> Result<Expr, Stop>
+fn parenthesis(cursor: &mut Cursor, start: usize, levels: u8) -> Result<Expr, ParseStop>
     ensures reads { Parses (λ m. grammar.ParenthesisOf (within m)) levels cursor.old cursor.new (viewed expr_of result) }
     ensures placed { IfOk result (λ expr. (from : Place) → Stands from cursor.old [] → Stands from cursor.old (one (leaf.Mark OpenParen) start) → Stands from cursor.new (expr_leaves expr)) }
 {
@@ -409,7 +409,7 @@ fn parenthesis(cursor: &mut Cursor, start: usize, levels: u8) -> Result<Expr, St
 
 /// A query block, and the parenthesis that closes it (ISO/IEC 9075:1992, 7.11).
 #[cycle(expressions)]
-fn subquery(cursor: &mut Cursor, levels: u8) -> Result<Box<Block>, Stop>
+fn subquery(cursor: &mut Cursor, levels: u8) -> Result<Box<Block>, ParseStop>
     ensures reads { Parses (λ m. grammar.SubqueryOf (within m)) levels cursor.old cursor.new (viewed (λ (b : _). block_of b.value) result) }
     ensures placed { IfOk result (λ query. Stands cursor.old cursor.new (block_leaves query.value)) }
 {
@@ -420,7 +420,7 @@ fn subquery(cursor: &mut Cursor, levels: u8) -> Result<Box<Block>, Stop>
 }
 
 /// `name [ "." name ]`, where a rule looks for a class of tokens (ISO/IEC 9075:1992, 6.4).
-pub fn column_reference(cursor: &mut Cursor, class: TokenClass) -> Result<ColumnReference, Stop>
+pub fn column_reference(cursor: &mut Cursor, class: TokenClass) -> Result<ColumnReference, ParseStop>
     ensures reads { ParsesFlat grammar.ReferenceAt cursor.old cursor.new (viewed column_of result) }
     ensures placed { IfOk result (λ reference. Stands cursor.old cursor.new (reference_leaves reference)) }
 {

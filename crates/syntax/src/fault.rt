@@ -5,7 +5,7 @@ ghost use Rattle.syntax.specs.Reading.{TellsStop, start_or};
 
 use lexer::{Token, TokenKind};
 use std::fmt;
-use syntax_cursor::{Stop, Wanted};
+use syntax_cursor::{ParseStop, Wanted};
 use thiserror::Error;
 
 /// Why tokens are no script.
@@ -46,15 +46,15 @@ impl fmt::Debug for Unexpected {
 
 /// The fault that a stop in some tokens is, in a script of `end` bytes, where the rules looked for some
 /// classes of tokens.
-pub fn fault_of(tokens: &[Token], end: usize, stop: Stop, wanted: Wanted) -> SyntaxFault
+pub fn fault_of(tokens: &[Token], end: usize, stop: ParseStop, wanted: Wanted) -> SyntaxFault
     ensures { TellsStop tokens.now end stop result }
 {
     match stop {
-        Stop::Token(at) => SyntaxFault::Unexpected(unexpected_at(tokens, end, at, wanted)),
-        Stop::Deep(at) => SyntaxFault::TooDeep {
+        ParseStop::Token(at) => SyntaxFault::Unexpected(unexpected_at(tokens, end, at, wanted)),
+        ParseStop::Deep(at) => SyntaxFault::TooDeep {
             offset: offset_at(tokens, end, at),
         },
-        Stop::Memory => SyntaxFault::Memory,
+        ParseStop::Memory => SyntaxFault::Memory,
     }
 }
 

@@ -11,7 +11,7 @@ mod statement;
 pub use fault::{SyntaxFault, Unexpected};
 pub use parse_tree::{
     Block, Bound, ColumnDefinition, ColumnReference, Constraint, Count, Expr, IndexStatistics, Item,
-    Key, KeyName, LineOperator, Name, Numeral, Op, Operand, Quantifier, Range, Select, SelectList,
+    Key, KeyName, LineOperator, Name, Numeral, ComparisonOperator, Operand, Quantifier, Range, Select, SelectList,
     SetFunction, Source, Statement, StringLiteral,
 };
 pub use parser::{MAX_LEVELS, parse};

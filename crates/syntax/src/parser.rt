@@ -14,7 +14,7 @@ use crate::statement::statement;
 use lexer::{Symbol, Token, TokenKind};
 use parse_tree::Statement;
 use std::alloc::Global;
-use syntax_cursor::{Cursor, Stop, Wanted};
+use syntax_cursor::{Cursor, ParseStop, Wanted};
 
 /// The levels that parentheses, signs and NOTs may open (own).
 pub const MAX_LEVELS: u8 = 64;
@@ -34,8 +34,8 @@ pub fn parse(alloc: Global, tokens: &[Token], end: usize) -> Result<Vec<Statemen
 }
 
 /// What the rules look for where nothing goes on with a token: its statement is read once more, up to it.
-fn wanted_at(alloc: Global, tokens: &[Token], stop: Stop) -> Wanted {
-    let Stop::Token(at) = stop else {
+fn wanted_at(alloc: Global, tokens: &[Token], stop: ParseStop) -> Wanted {
+    let ParseStop::Token(at) = stop else {
         return Wanted::nothing();
     };
     let begun = tokens
@@ -57,7 +57,7 @@ fn behind_semicolon(tokens: &[Token]) -> usize {
 }
 
 /// `{ statement ";" }`, up to the end of the tokens.
-fn script(alloc: Global, cursor: &mut Cursor) -> Result<Vec<Statement>, Stop>
+fn script(alloc: Global, cursor: &mut Cursor) -> Result<Vec<Statement>, ParseStop>
     ensures reads { ParsesScript cursor.old (viewed (λ (xs : _). statements_of xs.items) result) }
     ensures placed { IfOk result (λ xs. Stand (left_at cursor.old) (all statement_leaves xs.items) []) }
 {

@@ -18,11 +18,11 @@ use lexer::{Symbol, Word};
 use parse_tree::{
     Block, ColumnReference, Expr, Item, Key, KeyName, Name, Select, SelectList, Source, Sources,
 };
-use syntax_cursor::{Cursor, LineKind, Stop, TokenClass};
+use syntax_cursor::{Cursor, LineKind, ParseStop, TokenClass};
 
 /// A query block (ISO/IEC 9075:1992, 7.9).
 #[cycle(expressions)]
-pub fn block(cursor: &mut Cursor, levels: u8) -> Result<Block, Stop>
+pub fn block(cursor: &mut Cursor, levels: u8) -> Result<Block, ParseStop>
     ensures reads { Parses (λ m. grammar.BlockOf (within m)) levels cursor.old cursor.new (viewed block_of result) }
     ensures placed { IfOk result (λ block. Stands cursor.old cursor.new (block_leaves block)) }
 {
@@ -59,7 +59,7 @@ pub fn distinct(cursor: &mut Cursor) -> bool
 
 /// `"*" | item { "," item }` (ISO/IEC 9075:1992, 7.9).
 #[cycle(expressions)]
-fn select_list(cursor: &mut Cursor, levels: u8) -> Result<SelectList, Stop>
+fn select_list(cursor: &mut Cursor, levels: u8) -> Result<SelectList, ParseStop>
     ensures reads { Parses (λ m. grammar.SelectListOf (within m)) levels cursor.old cursor.new (viewed list_of result) }
     ensures placed { IfOk result (λ list. Stands cursor.old cursor.new (list_leaves list)) }
 {
@@ -72,7 +72,7 @@ fn select_list(cursor: &mut Cursor, levels: u8) -> Result<SelectList, Stop>
 }
 
 #[cycle(expressions)]
-fn items(cursor: &mut Cursor, levels: u8) -> Result<Vec<Item>, Stop>
+fn items(cursor: &mut Cursor, levels: u8) -> Result<Vec<Item>, ParseStop>
     ensures reads { Parses (λ m. grammar.ListOf (grammar.ItemOf (within m))) levels cursor.old cursor.new (viewed (λ (xs : _). map item_of xs.items) result) }
     ensures placed { IfOk result (λ xs. Stands cursor.old cursor.new (all item_leaves xs.items)) }
 {
@@ -91,7 +91,7 @@ fn items(cursor: &mut Cursor, levels: u8) -> Result<Vec<Item>, Stop>
 
 /// `expr [ AS name ]` (ISO/IEC 9075:1992, 7.9).
 #[cycle(expressions)]
-fn item(cursor: &mut Cursor, levels: u8) -> Result<Item, Stop>
+fn item(cursor: &mut Cursor, levels: u8) -> Result<Item, ParseStop>
     ensures reads { Parses (λ m. grammar.ItemOf (within m)) levels cursor.old cursor.new (viewed item_of result) }
     ensures placed { IfOk result (λ item. Stands cursor.old cursor.new (item_leaves item)) }
 {
@@ -101,7 +101,7 @@ fn item(cursor: &mut Cursor, levels: u8) -> Result<Item, Stop>
 }
 
 /// `[ AS name ]`.
-fn alias(cursor: &mut Cursor) -> Result<Option<Name>, Stop>
+fn alias(cursor: &mut Cursor) -> Result<Option<Name>, ParseStop>
     ensures reads { ParsesFlat (grammar.Optional (Reserved spec.As) grammar.NameAt) cursor.old cursor.new (viewed (option_map name_of) result) }
     ensures placed { IfOk result (λ alias. Stands cursor.old cursor.new (if_there name_leaves alias)) }
 {
@@ -114,7 +114,7 @@ fn alias(cursor: &mut Cursor) -> Result<Option<Name>, Stop>
 
 /// `[ word expr ]`, the word being WHERE or HAVING (ISO/IEC 9075:1992, 7.6 and 7.8).
 #[cycle(expressions)]
-fn condition_behind(cursor: &mut Cursor, word: Word, levels: u8) -> Result<Option<Expr>, Stop>
+fn condition_behind(cursor: &mut Cursor, word: Word, levels: u8) -> Result<Option<Expr>, ParseStop>
     ensures reads { Parses (λ m. grammar.ConditionOf (within m) (word_of word)) levels cursor.old cursor.new (viewed condition_of result) }
     ensures placed { has_leaf (leaf.Reserved (word_of word)) ≡ false → IfOk result (λ condition. Stands cursor.old cursor.new (if_there expr_leaves condition)) }
 {
@@ -126,7 +126,7 @@ fn condition_behind(cursor: &mut Cursor, word: Word, levels: u8) -> Result<Optio
 }
 
 /// `[ GROUP BY column { "," column } ]` (ISO/IEC 9075:1992, 7.7).
-fn groups(cursor: &mut Cursor) -> Result<Vec<ColumnReference>, Stop>
+fn groups(cursor: &mut Cursor) -> Result<Vec<ColumnReference>, ParseStop>
     ensures reads { ParsesFlat grammar.GroupsAt cursor.old cursor.new (viewed (λ (xs : _). map column_of xs.items) result) }
     ensures placed { IfOk result (λ xs. Stands cursor.old cursor.new (all reference_leaves xs.items)) }
 {
@@ -138,7 +138,7 @@ fn groups(cursor: &mut Cursor) -> Result<Vec<ColumnReference>, Stop>
 }
 
 /// A query: `block [ ORDER BY key { "," key } ]` (ISO/IEC 9075:1992, 13.1).
-pub fn select(cursor: &mut Cursor, levels: u8) -> Result<Select, Stop>
+pub fn select(cursor: &mut Cursor, levels: u8) -> Result<Select, ParseStop>
     ensures reads { Parses (λ m. grammar.SelectOf (within m)) levels cursor.old cursor.new (viewed select_of result) }
     ensures placed { IfOk result (λ select. Stands cursor.old cursor.new (select_leaves select)) }
 {
@@ -147,7 +147,7 @@ pub fn select(cursor: &mut Cursor, levels: u8) -> Result<Select, Stop>
     Ok(Select { block, order })
 }
 
-fn order(cursor: &mut Cursor) -> Result<Vec<Key>, Stop>
+fn order(cursor: &mut Cursor) -> Result<Vec<Key>, ParseStop>
     ensures reads { ParsesFlat grammar.OrderAt cursor.old cursor.new (viewed (λ (xs : _). map key_of xs.items) result) }
     ensures placed { IfOk result (λ xs. Stands cursor.old cursor.new (all key_leaves xs.items)) }
 {
@@ -159,7 +159,7 @@ fn order(cursor: &mut Cursor) -> Result<Vec<Key>, Stop>
 }
 
 /// `name | count`.
-fn key_name(cursor: &mut Cursor) -> Result<KeyName, Stop>
+fn key_name(cursor: &mut Cursor) -> Result<KeyName, ParseStop>
     ensures reads { ParsesFlat grammar.KeyNameAt cursor.old cursor.new (viewed key_name_of result) }
     ensures placed { IfOk result (λ name. Stands cursor.old cursor.new (key_name_leaves name)) }
 {
@@ -199,7 +199,7 @@ impl Element for Source {
     ghost leaves = { source_leaves };
 
     /// `name [ name ]` (ISO/IEC 9075:1992, 6.3).
-    fn read(cursor: &mut Cursor) -> Result<Source, Stop> {
+    fn read(cursor: &mut Cursor) -> Result<Source, ParseStop> {
         let table = cursor.name(TokenClass::Name)?;
         let correlation = cursor.take_name(TokenClass::Name)?;
         Ok(Source { table, correlation })
@@ -223,7 +223,7 @@ impl Element for ColumnReference {
 
     ghost leaves = { reference_leaves };
 
-    fn read(cursor: &mut Cursor) -> Result<ColumnReference, Stop> {
+    fn read(cursor: &mut Cursor) -> Result<ColumnReference, ParseStop> {
         expr::column_reference(cursor, TokenClass::Name)
     }
 }
@@ -246,7 +246,7 @@ impl Element for Key {
     ghost leaves = { key_leaves };
 
     /// `(name | count) [ ASC | DESC ]` (ISO/IEC 9075:1992, 13.1).
-    fn read(cursor: &mut Cursor) -> Result<Key, Stop> {
+    fn read(cursor: &mut Cursor) -> Result<Key, ParseStop> {
         let name = key_name(cursor)?;
         let descending = descending(cursor);
         Ok(Key { name, descending })

@@ -14,9 +14,9 @@ use crate::query;
 use lexer::{Symbol, Word};
 use parse_tree::{Bound, ColumnDefinition, Constraint, IndexStatistics, Name, Range, Statement};
 use sqlvalue::DeclaredType;
-use syntax_cursor::{Cursor, Stop, TokenClass, TypeWord};
+use syntax_cursor::{Cursor, ParseStop, TokenClass, TypeWord};
 
-pub fn statement(cursor: &mut Cursor, levels: u8) -> Result<Statement, Stop>
+pub fn statement(cursor: &mut Cursor, levels: u8) -> Result<Statement, ParseStop>
     ensures reads { Parses (λ m. grammar.StatementOf (within m)) levels cursor.old cursor.new (viewed statement_of result) }
     ensures placed { IfOk result (λ statement. Stands cursor.old cursor.new (statement_leaves statement)) }
 {
@@ -36,7 +36,7 @@ pub fn statement(cursor: &mut Cursor, levels: u8) -> Result<Statement, Stop>
 }
 
 /// What stands behind CREATE.
-fn create(cursor: &mut Cursor) -> Result<Statement, Stop>
+fn create(cursor: &mut Cursor) -> Result<Statement, ParseStop>
     ensures reads { ParsesFlat grammar.CreateAt cursor.old cursor.new (viewed statement_of result) }
     ensures placed { IfOk result (λ statement. Stands cursor.old cursor.new (statement_leaves statement)) }
 {
@@ -48,7 +48,7 @@ fn create(cursor: &mut Cursor) -> Result<Statement, Stop>
 }
 
 /// `name "(" column { "," column } ")"` (ISO/IEC 9075:1992, 11.3).
-fn create_table(cursor: &mut Cursor) -> Result<Statement, Stop>
+fn create_table(cursor: &mut Cursor) -> Result<Statement, ParseStop>
     ensures reads { ParsesFlat grammar.TableAt cursor.old cursor.new (viewed statement_of result) }
     ensures placed { IfOk result (λ statement. Stands cursor.old cursor.new (statement_leaves statement)) }
 {
@@ -60,7 +60,7 @@ fn create_table(cursor: &mut Cursor) -> Result<Statement, Stop>
 }
 
 /// `[ UNIQUE ] INDEX ON name names` (own).
-fn create_index(cursor: &mut Cursor) -> Result<Statement, Stop>
+fn create_index(cursor: &mut Cursor) -> Result<Statement, ParseStop>
     ensures reads { ParsesFlat grammar.IndexAt cursor.old cursor.new (viewed statement_of result) }
     ensures placed { IfOk result (λ statement. Stands cursor.old cursor.new (statement_leaves statement)) }
 {
@@ -77,7 +77,7 @@ fn create_index(cursor: &mut Cursor) -> Result<Statement, Stop>
 }
 
 /// `"(" name { "," name } ")"`.
-fn names(cursor: &mut Cursor) -> Result<Vec<Name>, Stop>
+fn names(cursor: &mut Cursor) -> Result<Vec<Name>, ParseStop>
     ensures reads { ParsesFlat grammar.NamesAt cursor.old cursor.new (viewed (λ (xs : _). map name_of xs.items) result) }
     ensures placed { IfOk result (λ xs. Stands cursor.old cursor.new (all name_leaves xs.items)) }
 {
@@ -88,7 +88,7 @@ fn names(cursor: &mut Cursor) -> Result<Vec<Name>, Stop>
 }
 
 /// A type (ISO/IEC 9075:1992, 6.1).
-fn declared_type(cursor: &mut Cursor) -> Result<DeclaredType, Stop>
+fn declared_type(cursor: &mut Cursor) -> Result<DeclaredType, ParseStop>
     ensures reads { ParsesFlat grammar.TypeAt cursor.old cursor.new (viewed declared_of result) }
     ensures placed { IfOk result (λ declared. Stands cursor.old cursor.new []) }
 {
@@ -104,7 +104,7 @@ fn declared_type(cursor: &mut Cursor) -> Result<DeclaredType, Stop>
 }
 
 /// `"(" count [ "," count ] ")"`; the scale is 0 if none is written.
-fn numeric_parameters(cursor: &mut Cursor) -> Result<DeclaredType, Stop>
+fn numeric_parameters(cursor: &mut Cursor) -> Result<DeclaredType, ParseStop>
     ensures reads { ParsesFlat grammar.ParametersAt cursor.old cursor.new (viewed declared_of result) }
     ensures placed { IfOk result (λ declared. Stands cursor.old cursor.new []) }
 {
@@ -119,7 +119,7 @@ fn numeric_parameters(cursor: &mut Cursor) -> Result<DeclaredType, Stop>
 }
 
 /// `[ "," count ]`, or 0.
-fn scale(cursor: &mut Cursor) -> Result<u128, Stop>
+fn scale(cursor: &mut Cursor) -> Result<u128, ParseStop>
     ensures reads { ParsesFlat grammar.ScaleAt cursor.old cursor.new (viewed (λ scale. scale) result) }
     ensures placed { IfOk result (λ scale. Stands cursor.old cursor.new []) }
 {
@@ -131,7 +131,7 @@ fn scale(cursor: &mut Cursor) -> Result<u128, Stop>
 }
 
 /// `[ "(" count ")" ]`; the length is 1 if none is written.
-fn char_length(cursor: &mut Cursor) -> Result<DeclaredType, Stop>
+fn char_length(cursor: &mut Cursor) -> Result<DeclaredType, ParseStop>
     ensures reads { ParsesFlat grammar.LengthAt cursor.old cursor.new (viewed declared_of result) }
     ensures placed { IfOk result (λ declared. Stands cursor.old cursor.new []) }
 {
@@ -146,7 +146,7 @@ fn char_length(cursor: &mut Cursor) -> Result<DeclaredType, Stop>
 }
 
 /// `[ NOT NULL [ UNIQUE | PRIMARY KEY ] ]` (ISO/IEC 9075:1992, 11.4 and 11.7).
-fn constraint(cursor: &mut Cursor) -> Result<Constraint, Stop>
+fn constraint(cursor: &mut Cursor) -> Result<Constraint, ParseStop>
     ensures reads { ParsesFlat grammar.ConstraintAt cursor.old cursor.new (viewed constraint_of result) }
     ensures placed { IfOk result (λ constraint. Stands cursor.old cursor.new []) }
 {
@@ -165,7 +165,7 @@ fn constraint(cursor: &mut Cursor) -> Result<Constraint, Stop>
 }
 
 /// `name FROM string` (own).
-fn load(cursor: &mut Cursor) -> Result<Statement, Stop>
+fn load(cursor: &mut Cursor) -> Result<Statement, ParseStop>
     ensures reads { ParsesFlat grammar.LoadAt cursor.old cursor.new (viewed statement_of result) }
     ensures placed { IfOk result (λ statement. Stands cursor.old cursor.new (statement_leaves statement)) }
 {
@@ -176,7 +176,7 @@ fn load(cursor: &mut Cursor) -> Result<Statement, Stop>
 }
 
 /// What stands behind SET (own).
-fn set_statistics(cursor: &mut Cursor) -> Result<Statement, Stop>
+fn set_statistics(cursor: &mut Cursor) -> Result<Statement, ParseStop>
     ensures reads { ParsesFlat grammar.SetAt cursor.old cursor.new (viewed statement_of result) }
     ensures placed { IfOk result (λ statement. Stands cursor.old cursor.new (statement_leaves statement)) }
 {
@@ -186,11 +186,11 @@ fn set_statistics(cursor: &mut Cursor) -> Result<Statement, Stop>
         let rows = cursor.count()?;
         cursor.expect_word(Word::Pages)?;
         let pages = cursor.count()?;
-        return Ok(Statement::SetTable { table, rows, pages });
+        return Ok(Statement::SetTableStatistics { table, rows, pages });
     }
     let columns = names(cursor)?;
     let statistics = index_statistics(cursor)?;
-    Ok(Statement::SetIndex {
+    Ok(Statement::SetIndexStatistics {
         table,
         columns,
         statistics,
@@ -198,7 +198,7 @@ fn set_statistics(cursor: &mut Cursor) -> Result<Statement, Stop>
 }
 
 /// `KEYS count PAGES count [ CLUSTERED ] [ LOW bound HIGH bound ]`.
-fn index_statistics(cursor: &mut Cursor) -> Result<IndexStatistics, Stop>
+fn index_statistics(cursor: &mut Cursor) -> Result<IndexStatistics, ParseStop>
     ensures reads { ParsesFlat grammar.StatisticsAt cursor.old cursor.new (viewed statistics_of result) }
     ensures placed { IfOk result (λ statistics. Stands cursor.old cursor.new (statistics_leaves statistics)) }
 {
@@ -216,7 +216,7 @@ fn index_statistics(cursor: &mut Cursor) -> Result<IndexStatistics, Stop>
     })
 }
 
-fn range(cursor: &mut Cursor) -> Result<Option<Range>, Stop>
+fn range(cursor: &mut Cursor) -> Result<Option<Range>, ParseStop>
     ensures reads { ParsesFlat grammar.RangeAt cursor.old cursor.new (viewed (option_map range_of) result) }
     ensures placed { IfOk result (λ range. Stands cursor.old cursor.new (if_there range_leaves range)) }
 {
@@ -230,7 +230,7 @@ fn range(cursor: &mut Cursor) -> Result<Option<Range>, Stop>
 }
 
 /// `[ "+" | "-" ] number` (ISO/IEC 9075:1992, 5.3).
-fn bound(cursor: &mut Cursor) -> Result<Bound, Stop>
+fn bound(cursor: &mut Cursor) -> Result<Bound, ParseStop>
     ensures reads { ParsesFlat grammar.BoundAt cursor.old cursor.new (viewed bound_of result) }
     ensures placed { IfOk result (λ bound. Stands cursor.old cursor.new (bound_leaves bound)) }
 {
@@ -258,7 +258,7 @@ impl Element for Name {
 
     ghost leaves = { name_leaves };
 
-    fn read(cursor: &mut Cursor) -> Result<Name, Stop> {
+    fn read(cursor: &mut Cursor) -> Result<Name, ParseStop> {
         cursor.name(TokenClass::Name)
     }
 }
@@ -281,7 +281,7 @@ impl Element for ColumnDefinition {
     ghost leaves = { definition_leaves };
 
     /// `name type [ constraint ]` (ISO/IEC 9075:1992, 11.4).
-    fn read(cursor: &mut Cursor) -> Result<ColumnDefinition, Stop> {
+    fn read(cursor: &mut Cursor) -> Result<ColumnDefinition, ParseStop> {
         let name = cursor.name(TokenClass::Name)?;
         let declared = declared_type(cursor)?;
         let constraint = constraint(cursor)?;

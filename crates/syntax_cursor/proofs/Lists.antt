@@ -6,7 +6,7 @@ use Rattle.definitions.specs.Rule.{Rule, At, NotAt, Gives, Then, Repeats}
 use Rattle.definitions.specs.Rule as g
 use Rattle.definitions.specs.Grammar.{ListOf, comma_in}
 use Rattle.definitions.proofs.Alike.{Alike}
-use Rattle.syntax_cursor.specs.declared.stop.Stop.{Stop}
+use Rattle.syntax_cursor.specs.declared.stop.ParseStop.{ParseStop}
 use Rattle.syntax_cursor.specs.Reading.{Place, IsNext, Agree, Nowhere, Outcome, viewed}
 use Rattle.syntax_cursor.specs.Reading as r
 use Rattle.syntax_cursor.proofs.Stopping.{nowhere_first, nowhere_joined, nowhere_repeats, stops_as, gives_here}
@@ -14,7 +14,7 @@ use Rattle.syntax_cursor.proofs.Tokens.{inside}
 use Rattle.syntax_cursor.proofs.Outcomes.{then_on}
 
 -- a tree is made of what a rule reads
-pub mapped : {X Y : Type 0} {a : ℕ → Rule X} {levels least : ℕ} {p q : Place} (f : X → Y) (o : Result X Stop) → Outcome a levels least p q o → Outcome (λ m. Then (a m) (λ x. Gives (f x))) levels least p q (viewed f o)
+pub mapped : {X Y : Type 0} {a : ℕ → Rule X} {levels least : ℕ} {p q : Place} (f : X → Y) (o : Result X ParseStop) → Outcome a levels least p q o → Outcome (λ m. Then (a m) (λ x. Gives (f x))) levels least p q (viewed f o)
 mapped {q = q} f (Ok x) (r.read y e d) = r.read (f x) e (g.then _ _ _ _ _ d (gives_here _ q.at (f x)))
 mapped {a = a} {levels = levels} {least = least} {p = p} f (Err stop) (r.stopped s st) =
     r.stopped stop (stops_as (λ m. Then (a m) (λ x. Gives (f x))) a p.tokens levels least p.at p.at stop (omega arith) (λ m us n h ag nw. nowhere_first us p.at nw) st)
@@ -22,11 +22,11 @@ mapped {a = a} {levels = levels} {least = least} {p = p} f (Err stop) (r.stopped
 module _ {A X Y : Type 0} (says : Option TokenKind → Option A) (element : ℕ → A → Rule X) (whole : ℕ → Rule Y) (levels least : ℕ) where
   -- what the elements behind a place come to, the whole comes to with those before it
   abbrev pub Joined : (p q : Place) → (List X → Y) → List X → Type 0
-  Joined p q h xs = (t : Place) (o : Result (List X) Stop) → Outcome (λ m. Repeats says (element m)) levels least q t o → Outcome whole levels least p t (viewed (λ ys. h (xs ++ ys)) o)
+  Joined p q h xs = (t : Place) (o : Result (List X) ParseStop) → Outcome (λ m. Repeats says (element m)) levels least q t o → Outcome whole levels least p t (viewed (λ ys. h (xs ++ ys)) o)
 
   -- an element and those behind it
   repeats_on : (al : (m : ℕ) (a : A) → Alike (element levels a) (element m a)) (p q t u : Place) (a : A) (x : X) (k : ℕ) → (says (slice_get p.tokens p.at) ≡ Some a) × IsNext p q → Outcome (λ m. element m a) levels k q t (Ok x)
-      → (o : Result (List X) Stop) → Outcome (λ m. Repeats says (element m)) levels least t u o → Outcome (λ m. Repeats says (element m)) levels least p u (viewed (λ ys. x ∷ ys) o)
+      → (o : Result (List X) ParseStop) → Outcome (λ m. Repeats says (element m)) levels least t u o → Outcome (λ m. Repeats says (element m)) levels least p u (viewed (λ ys. x ∷ ys) o)
   repeats_on al p q t u a x k at (r.read y e d) (Ok ys) (r.read zs f d') =
       let d₁ : element levels a p.tokens q.at t.at x = subst (λ ts. element levels a ts q.at t.at x) at.1.tokens d in
       let d₂ : Repeats says (element levels) p.tokens t.at u.at ys = subst (λ ts. Repeats says (element levels) ts t.at u.at ys) (e ∙ at.1.tokens) d' in
@@ -38,13 +38,13 @@ module _ {A X Y : Type 0} (says : Option TokenKind → Option A) (element : ℕ 
       r.stopped stop (stops_as (λ m. Repeats says (element m)) (λ m. Repeats says (element m)) p.tokens levels least p.at t.at stop (omega (arith, rises, at.1.at))
       (λ m us n h ag nw. nowhere_repeats p.tokens us n p.at q.at t.at a x at.1.at ag (omega (arith, h, rises, at.1.at)) h at.0 (al m a) d₁ nw) st')
 
-  repeats_fails : (p q t : Place) (a : A) (stop : Stop) → (says (slice_get p.tokens p.at) ≡ Some a) × IsNext p q → Outcome (λ m. element m a) levels least q t (Err stop) → Outcome (λ m. Repeats says (element m)) levels least p t (Err stop)
+  repeats_fails : (p q t : Place) (a : A) (stop : ParseStop) → (says (slice_get p.tokens p.at) ≡ Some a) × IsNext p q → Outcome (λ m. element m a) levels least q t (Err stop) → Outcome (λ m. Repeats says (element m)) levels least p t (Err stop)
   repeats_fails p q t a stop at (r.stopped s st) =
       r.stopped stop (stops_as (λ m. Repeats says (element m)) (λ m. element m a) p.tokens levels least p.at q.at stop (omega (arith, at.1.at))
       (λ m us n h ag nw. nowhere_joined p.tokens us n p.at q.at a at.1.at ag (omega (arith, h, at.1.at)) at.0 nw)
       (subst (λ ts. r.Stops (λ m. element m a) ts levels least q.at stop) at.1.tokens st))
 
-  assoc : (h : List X → Y) (xs : List X) (x : X) (o : Result (List X) Stop) → viewed (λ ys. h (xs ++ ys)) (viewed (λ ys. x ∷ ys) o) ≡ viewed (λ ys. h ((xs ++ x ∷ []) ++ ys)) o
+  assoc : (h : List X → Y) (xs : List X) (x : X) (o : Result (List X) ParseStop) → viewed (λ ys. h (xs ++ ys)) (viewed (λ ys. x ∷ ys) o) ≡ viewed (λ ys. h ((xs ++ x ∷ []) ++ ys)) o
   assoc h xs x (Ok ys) = ap (λ zs. Ok (h zs)) (sym (append_assoc xs (x ∷ []) ys))
   assoc h xs x (Err stop) = refl
 
@@ -52,7 +52,7 @@ module _ {A X Y : Type 0} (says : Option TokenKind → Option A) (element : ℕ 
       → Outcome (λ m. element m a) levels k q' t (Ok x) → Joined p t h (xs ++ x ∷ [])
   joined al p q q' t h xs a x k inv at d u o rest = subst (λ z. Outcome whole levels least p u z) (assoc h xs x o) (inv u (viewed (λ ys. x ∷ ys) o) (repeats_on al q q' t u a x k at d o rest))
 
-  pub joined_fails : (p q q' t : Place) (h : List X → Y) (xs : List X) (a : A) (stop : Stop) → Joined p q h xs → (says (slice_get q.tokens q.at) ≡ Some a) × IsNext q q' → Outcome (λ m. element m a) levels least q' t (Err stop) → Outcome whole levels least p t (Err stop)
+  pub joined_fails : (p q q' t : Place) (h : List X → Y) (xs : List X) (a : A) (stop : ParseStop) → Joined p q h xs → (says (slice_get q.tokens q.at) ≡ Some a) × IsNext q q' → Outcome (λ m. element m a) levels least q' t (Err stop) → Outcome whole levels least p t (Err stop)
   joined_fails p q q' t h xs a stop inv at d = inv t (Err stop) (repeats_fails q q' t a stop at d)
 
   pub joined_ends : (p q : Place) (h : List X → Y) (xs : List X) → Joined p q h xs → says (slice_get q.tokens q.at) ≡ None → Outcome whole levels least p q (Ok (h xs))
@@ -76,7 +76,7 @@ module _ {X : Type 0} (rule : ℕ → Rule X) (levels least : ℕ) where
     pub list_goes_on : (p q q' t : Place) (xs : List X) (x : X) (k : ℕ) → Lists p q xs → At q.tokens q.at (Mark Comma) × IsNext q q' → Outcome rule levels k q' t (Ok x) → Lists p t (xs ++ x ∷ [])
     list_goes_on p q q' t xs x k inv at d = joined comma_in (λ m comma. rule m) (λ m. ListOf (rule m)) levels least (λ m comma. al m) p q q' t (λ ys. ys) xs (Mark Comma) x k inv (ap comma_in at.0, at.1) d
 
-    pub list_fails : (p q q' t : Place) (xs : List X) (stop : Stop) → Lists p q xs → At q.tokens q.at (Mark Comma) × IsNext q q' → Outcome rule levels least q' t (Err stop) → Outcome (λ m. ListOf (rule m)) levels least p t (Err stop)
+    pub list_fails : (p q q' t : Place) (xs : List X) (stop : ParseStop) → Lists p q xs → At q.tokens q.at (Mark Comma) × IsNext q q' → Outcome rule levels least q' t (Err stop) → Outcome (λ m. ListOf (rule m)) levels least p t (Err stop)
     list_fails p q q' t xs stop inv at d = joined_fails comma_in (λ m comma. rule m) (λ m. ListOf (rule m)) levels least p q q' t (λ ys. ys) xs (Mark Comma) stop inv (ap comma_in at.0, at.1) d
 
     pub list_ends : (p q t : Place) (xs : List X) → Lists p q xs → NotAt q.tokens q.at (Mark Comma) × (t ≡ q) → Outcome (λ m. ListOf (rule m)) levels least p t (Ok xs)

@@ -6,7 +6,7 @@ use Rattle.definitions.specs.Rule.{Rule, At, NotAt, Never, Gives, Past, Sees, If
 use Rattle.definitions.specs.Rule as g
 use Rattle.definitions.specs.Grammar.{opens}
 use Rattle.definitions.proofs.Alike.{Alike, moved}
-use Rattle.syntax_cursor.specs.declared.stop.Stop.{Stop}
+use Rattle.syntax_cursor.specs.declared.stop.ParseStop.{ParseStop}
 use Rattle.syntax_cursor.specs.Reading.{Agree, Nowhere, Stops, opened}
 use Rattle.syntax_cursor.specs.Reading as r
 
@@ -91,7 +91,7 @@ nowhere_repeats {says = says} {a' = a'} ts us n at p mid v y q e l l' h same d n
 
 -- ---- the step from a part that stops to the whole
 
-pub stops_as : {X Y : Type 0} (whole : ℕ → Rule X) (part : ℕ → Rule Y) (ts : List TokenKind) (levels least at p : ℕ) (stop : Stop) → at ≤ p
+pub stops_as : {X Y : Type 0} (whole : ℕ → Rule X) (part : ℕ → Rule Y) (ts : List TokenKind) (levels least at p : ℕ) (stop : ParseStop) → at ≤ p
     → ((m : ℕ) (us : List TokenKind) (n : ℕ) → p ≤ n → Agree ts us n → Nowhere (part m) us p → Nowhere (whole m) us at)
     → Stops part ts levels least p stop → Stops whole ts levels least at stop
 stops_as whole part ts levels least at p stop h needs (r.at_token n l nw) = r.at_token n (omega (arith, h, l)) (λ us agree m. needs m us n l agree (nw us agree m))
@@ -99,7 +99,7 @@ stops_as whole part ts levels least at p stop h needs (r.too_deep n v l y c nw) 
 stops_as whole part ts levels least at p stop h needs r.for_memory = r.for_memory
 
 -- the part takes the levels below, from the same place
-pub stops_lower : {X Y : Type 0} (whole : ℕ → Rule X) (part : ℕ → Rule Y) (ts : List TokenKind) (below at : ℕ) (stop : Stop)
+pub stops_lower : {X Y : Type 0} (whole : ℕ → Rule X) (part : ℕ → Rule Y) (ts : List TokenKind) (below at : ℕ) (stop : ParseStop)
     → ((us : List TokenKind) (n : ℕ) → at ≤ n → Agree ts us n → Nowhere (whole zero) us at)
     → ((m : ℕ) (us : List TokenKind) (n : ℕ) → at ≤ n → Agree ts us n → Nowhere (part m) us at → Nowhere (whole (suc m)) us at)
     → Stops part ts below below at stop → Stops whole ts (suc below) below at stop

@@ -5,8 +5,8 @@ use Rattle.definitions.specs.Token.{TokenKind}
 use Rattle.definitions.specs.Rule.{Rule, At, NotAt}
 use Rattle.definitions.specs.Grammar.{openers, numeral_in}
 use Rattle.definitions.specs.Statement.{SetFunction, Count, Numeral}
-use Rattle.syntax_cursor.specs.declared.stop.Stop.{Stop}
-use Rattle.syntax_cursor.specs.declared.stop.Stop.TheVariants as s
+use Rattle.syntax_cursor.specs.declared.stop.ParseStop.{ParseStop}
+use Rattle.syntax_cursor.specs.declared.stop.ParseStop.TheVariants as s
 use Rattle.parse_tree.specs.declared.leaf.Numeral as tree
 use Rattle.parse_tree.specs.Trees.{numeral_of}
 use Rattle.lexer.specs.declared.token.Token.{Token}
@@ -40,7 +40,7 @@ EatsAsterisk Count p q b = Eats (token.Mark token.Asterisk) p q b
 EatsAsterisk _ p q b = (b ≡ false) × (q ≡ p)
 
 -- a token of a kind is passed, which must stand there
-abbrev pub Expects : TokenKind → Place → Place → Result Unit Stop → Type 0
+abbrev pub Expects : TokenKind → Place → Place → Result Unit ParseStop → Type 0
 Expects kind p q (Ok done) = At p.tokens p.at kind × IsNext p q
 Expects kind p q (Err stop) = NotAt p.tokens p.at kind × (stop ≡ s.Token p.at)
 
@@ -71,22 +71,22 @@ opened ts n = openers (take n ts)
 
 -- a rule that begins at a place is stopped there or behind, whatever follows the place of the stop: within no levels does it read anything;
 -- or it does not within so many, though more than a number of tokens from where it begins could have opened one
-pub data Stops {X : Type 0} (rule : ℕ → Rule X) (ts : List TokenKind) (levels least at : ℕ) : Stop → Type 0 where
+pub data Stops {X : Type 0} (rule : ℕ → Rule X) (ts : List TokenKind) (levels least at : ℕ) : ParseStop → Type 0 where
   at_token : (n : ℕ) → at ≤ n → ((us : List TokenKind) → Agree ts us n → (m : ℕ) → Nowhere (rule m) us at) → Stops rule ts levels least at (s.Token n)
   too_deep : (n : ℕ) (k : TokenKind) → at ≤ n → slice_get ts n ≡ Some k → opened ts at + least < opened ts (n + 1) → ((us : List TokenKind) → Agree ts us n → Nowhere (rule levels) us at) → Stops rule ts levels least at (s.Deep n)
   for_memory : Stops rule ts levels least at s.Memory
 
 -- a rule is read from a place to another, or stopped
-pub data Outcome {X : Type 0} (rule : ℕ → Rule X) (levels least : ℕ) (p q : Place) : Result X Stop → Type 0 where
+pub data Outcome {X : Type 0} (rule : ℕ → Rule X) (levels least : ℕ) (p q : Place) : Result X ParseStop → Type 0 where
   read : (x : X) → q.tokens ≡ p.tokens → rule levels p.tokens p.at q.at x → Outcome rule levels least p q (Ok x)
-  stopped : (stop : Stop) → Stops rule p.tokens levels least p.at stop → Outcome rule levels least p q (Err stop)
+  stopped : (stop : ParseStop) → Stops rule p.tokens levels least p.at stop → Outcome rule levels least p q (Err stop)
 
 -- the same within so many levels
-abbrev pub Parses : {X : Type 0} → (ℕ → Rule X) → ℕ → Place → Place → Result X Stop → Type 0
+abbrev pub Parses : {X : Type 0} → (ℕ → Rule X) → ℕ → Place → Place → Result X ParseStop → Type 0
 Parses rule levels p q o = Outcome rule levels levels p q o
 
 -- the same of a rule in which no token opens a level
-abbrev pub ParsesFlat : {X : Type 0} → Rule X → Place → Place → Result X Stop → Type 0
+abbrev pub ParsesFlat : {X : Type 0} → Rule X → Place → Place → Result X ParseStop → Type 0
 ParsesFlat rule p q o = (levels least : ℕ) → Outcome (λ m. rule) levels least p q o
 
 -- the same of a rule that is never stopped
@@ -94,6 +94,6 @@ abbrev pub Given : {X : Type 0} → Rule X → Place → Place → X → Type 0
 Given rule p q x = ParsesFlat rule p q (Ok x)
 
 -- what was read, by its meaning
-abbrev pub viewed : {A B : Type 0} → (A → B) → Result A Stop → Result B Stop
+abbrev pub viewed : {A B : Type 0} → (A → B) → Result A ParseStop → Result B ParseStop
 viewed meaning (Ok a) = Ok (meaning a)
 viewed meaning (Err stop) = Err stop

@@ -8,13 +8,13 @@ ghost use Rattle.definitions.specs.Rule.{At};
 ghost use Rattle.definitions.specs.Grammar.{NameAt, CountAt, StringAt, name_in, count_in, string_in, numeral_in};
 ghost use Rattle.lexer.specs.Meaning.{kind_of, kinds_of, symbol_of, word_of};
 ghost use Rattle.lexer.specs.Quoted.{quoted_text};
-ghost use Rattle.syntax_cursor.specs.declared.stop.Stop.TheVariants as stop;
+ghost use Rattle.syntax_cursor.specs.declared.stop.ParseStop.TheVariants as stop;
 ghost use Rattle.parse_tree.specs.Trees.{count_of, name_of, text_of};
 ghost use Rattle.syntax_cursor.specs.Places.{Stands, count_leaves, if_there, name_leaves, numeral_leaves, start_at, string_leaves};
 ghost use Rattle.syntax_cursor.specs.Reading.{IsNext, Eats, Expects, Takes, TakesNumber, ParsesFlat, starts_of, viewed};
 
 use crate::class::{TokenClass, Wanted};
-use crate::stop::Stop;
+use crate::stop::ParseStop;
 use crate::text::{in_upper_case, without_quotes};
 use lexer::{Symbol, Token, TokenKind, Word};
 use parse_tree::{Count, Name, Numeral, StringLiteral};
@@ -108,20 +108,20 @@ impl<'t, 's> Cursor<'t, 's> {
     }
 
     /// That nothing goes on with the token that stands here.
-    pub fn stop(&self) -> Stop
+    pub fn stop(&self) -> ParseStop
         ensures { result ≡ stop.Token self.now.at }
     {
-        Stop::Token(self.at)
+        ParseStop::Token(self.at)
     }
 
     /// The levels within a token that was just passed, of the levels around it.
-    pub fn below(&self, levels: u8) -> Result<u8, Stop>
+    pub fn below(&self, levels: u8) -> Result<u8, ParseStop>
         ensures ok { IfOk result (λ below. levels ≡ suc below) }
         ensures deep { IfErr result (λ fault. (levels ≡ 0) × (fault ≡ stop.Deep (self.now.at - 1))) }
     {
         match levels.checked_sub(1) {
             Some(below) => Ok(below),
-            None => Err(Stop::Deep(self.at.saturating_sub(1))),
+            None => Err(ParseStop::Deep(self.at.saturating_sub(1))),
         }
     }
 
@@ -192,7 +192,7 @@ impl<'t, 's> Cursor<'t, 's> {
     }
 
     /// Passes a reserved word, which must stand here.
-    pub fn expect_word(&mut self, word: Word) -> Result<(), Stop>
+    pub fn expect_word(&mut self, word: Word) -> Result<(), ParseStop>
         ensures { Expects (Reserved (word_of word)) self.old self.new result }
     {
         if self.eat_word(word) {
@@ -203,7 +203,7 @@ impl<'t, 's> Cursor<'t, 's> {
     }
 
     /// Passes a symbol, which must stand here.
-    pub fn expect_symbol(&mut self, symbol: Symbol) -> Result<(), Stop>
+    pub fn expect_symbol(&mut self, symbol: Symbol) -> Result<(), ParseStop>
         ensures { Expects (Mark (symbol_of symbol)) self.old self.new result }
     {
         if self.eat_symbol(symbol) {
@@ -214,7 +214,7 @@ impl<'t, 's> Cursor<'t, 's> {
     }
 
     /// Passes a name if one stands here (ISO/IEC 9075:1992, 5.4), where a rule looks for a class of tokens.
-    pub fn take_name(&mut self, class: TokenClass) -> Result<Option<Name>, Stop>
+    pub fn take_name(&mut self, class: TokenClass) -> Result<Option<Name>, ParseStop>
         ensures ok { IfOk result (Takes name_in name_of self.old self.new) }
         ensures placed { IfOk result (λ name. Stands self.old self.new (if_there name_leaves name)) }
         ensures memory { IfErr result (λ fault. fault ≡ stop.Memory) }
@@ -232,7 +232,7 @@ impl<'t, 's> Cursor<'t, 's> {
     }
 
     /// A name (ISO/IEC 9075:1992, 5.4), where a rule looks for a class of tokens.
-    pub fn name(&mut self, class: TokenClass) -> Result<Name, Stop>
+    pub fn name(&mut self, class: TokenClass) -> Result<Name, ParseStop>
         ensures reads { ParsesFlat NameAt self.old self.new (viewed name_of result) }
         ensures placed { IfOk result (λ name. Stands self.old self.new (name_leaves name)) }
     {
@@ -243,7 +243,7 @@ impl<'t, 's> Cursor<'t, 's> {
     }
 
     /// A number without a point (ISO/IEC 9075:1992, 5.3, unsigned integer).
-    pub fn count(&mut self) -> Result<Count, Stop>
+    pub fn count(&mut self) -> Result<Count, ParseStop>
         ensures reads { ParsesFlat CountAt self.old self.new (viewed count_of result) }
         ensures placed { IfOk result (λ count. Stands self.old self.new (count_leaves count)) }
     {
@@ -277,7 +277,7 @@ impl<'t, 's> Cursor<'t, 's> {
 
     /// Passes a character string literal if one stands here (ISO/IEC 9075:1992, 5.3), where a rule looks for a
     /// class of tokens.
-    pub fn take_string(&mut self, class: TokenClass) -> Result<Option<StringLiteral>, Stop>
+    pub fn take_string(&mut self, class: TokenClass) -> Result<Option<StringLiteral>, ParseStop>
         ensures ok { IfOk result (Takes string_in text_of self.old self.new) }
         ensures placed { IfOk result (λ string. Stands self.old self.new (if_there string_leaves string)) }
         ensures memory { IfErr result (λ fault. fault ≡ stop.Memory) }
@@ -295,7 +295,7 @@ impl<'t, 's> Cursor<'t, 's> {
     }
 
     /// A character string literal (ISO/IEC 9075:1992, 5.3).
-    pub fn string(&mut self) -> Result<StringLiteral, Stop>
+    pub fn string(&mut self) -> Result<StringLiteral, ParseStop>
         ensures reads { ParsesFlat StringAt self.old self.new (viewed text_of result) }
         ensures placed { IfOk result (λ string. Stands self.old self.new (string_leaves string)) }
     {

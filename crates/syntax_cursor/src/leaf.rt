@@ -11,7 +11,7 @@ ghost use Rattle.syntax_cursor.specs.Reading.{Takes};
 use crate::class::TokenClass;
 use crate::cursor::Cursor;
 use lexer::{Symbol, TokenKind, Word};
-use parse_tree::{LineOperator, Op, Quantifier, SetFunction};
+use parse_tree::{LineOperator, ComparisonOperator, Quantifier, SetFunction};
 
 /// The four kinds of line, the loosest first (ISO/IEC 9075:1992, 8.12 and 6.12).
 #[derive(Clone, Copy)]
@@ -43,7 +43,7 @@ impl Cursor<'_, '_> {
     }
 
     /// Passes a comparison operator, if one stands here (ISO/IEC 9075:1992, 8.2).
-    pub fn take_comparison(&mut self) -> Option<Op>
+    pub fn take_comparison(&mut self) -> Option<ComparisonOperator>
         ensures { Takes grammar.op_in op_of self.old self.new result }
     {
         let token = self.look(TokenClass::Operator)?;
@@ -116,16 +116,16 @@ fn line_operator(kind: LineKind, token: TokenKind) -> Option<LineOperator>
     }
 }
 
-fn comparison(token: TokenKind) -> Option<Op>
+fn comparison(token: TokenKind) -> Option<ComparisonOperator>
     ensures { (text : _) → grammar.op_in (Some (kind_of text token)) ≡ option_map op_of result }
 {
     match token {
-        TokenKind::Mark(Symbol::Equals) => Some(Op::Equals),
-        TokenKind::Mark(Symbol::NotEquals) => Some(Op::NotEquals),
-        TokenKind::Mark(Symbol::LessThan) => Some(Op::LessThan),
-        TokenKind::Mark(Symbol::GreaterThan) => Some(Op::GreaterThan),
-        TokenKind::Mark(Symbol::LessOrEquals) => Some(Op::LessOrEquals),
-        TokenKind::Mark(Symbol::GreaterOrEquals) => Some(Op::GreaterOrEquals),
+        TokenKind::Mark(Symbol::Equals) => Some(ComparisonOperator::Equals),
+        TokenKind::Mark(Symbol::NotEquals) => Some(ComparisonOperator::NotEquals),
+        TokenKind::Mark(Symbol::LessThan) => Some(ComparisonOperator::LessThan),
+        TokenKind::Mark(Symbol::GreaterThan) => Some(ComparisonOperator::GreaterThan),
+        TokenKind::Mark(Symbol::LessOrEquals) => Some(ComparisonOperator::LessOrEquals),
+        TokenKind::Mark(Symbol::GreaterOrEquals) => Some(ComparisonOperator::GreaterOrEquals),
         _ => None,
     }
 }

@@ -10,4 +10,4 @@ mod text;
 pub use class::{TokenClass, Wanted};
 pub use cursor::Cursor;
 pub use leaf::{LineKind, TypeWord};
-pub use stop::Stop;
+pub use stop::ParseStop;

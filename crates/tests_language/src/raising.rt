@@ -8,7 +8,7 @@ ghost use Rattle.conjuncts.specs.Naming.{AreFew, NamesFew};
 use conjuncts::conjuncts;
 use expr::can_raise;
 use query_tree::{BlockColumn, Condition, NumberLiteral, Operand, Operator, ValueExpr, ValueType};
-use sqlvalue::{Op, SqlType};
+use sqlvalue::{ComparisonOperator, SqlType};
 use std::alloc::{AllocError, Global};
 use std::test::Fail;
 
@@ -67,7 +67,7 @@ fn equal(left: ValueExpr, right: ValueExpr) -> Condition
     ensures { AreFew (tables_named (value_of left)) → AreFew (tables_named (value_of right)) → NamesFew (condition_of result) }
 {
     Condition::Compare {
-        op: Op::Equals,
+        op: ComparisonOperator::Equals,
         left,
         right,
     }
@@ -114,7 +114,7 @@ fn values_of_39_digits_can_raise(rt: HostRuntime) -> Result<(), Fail> {
     let apart = joined(alloc, numeric(18, 0), Operator::Plus, numeric(18, 18))?;
     assert!(rt; !can_raise(&apart), "37 digits");
     assert!(rt;
-        can_raise(&ValueExpr::SetValue {
+        can_raise(&ValueExpr::AggregateValue {
             number: 0,
             value_type: ValueType::Text
         })

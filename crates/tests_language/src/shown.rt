@@ -6,7 +6,7 @@ use sqlvalue::DeclaredType;
 use std::alloc::{AllocError, Global};
 use syntax::{
     Block, Bound, ColumnDefinition, ColumnReference, Constraint, Count, Expr, IndexStatistics, Item,
-    Key, KeyName, LineOperator, Name, Numeral, Op, Operand, Quantifier, Select, SelectList,
+    Key, KeyName, LineOperator, Name, Numeral, ComparisonOperator, Operand, Quantifier, Select, SelectList,
     SetFunction, Source, Statement, StringLiteral,
 };
 
@@ -41,12 +41,12 @@ impl Writer {
                 self.put(" FROM ");
                 self.string(file);
             }
-            Statement::SetTable { table, rows, pages } => {
+            Statement::SetTableStatistics { table, rows, pages } => {
                 self.behind("SET STATISTICS ", table);
                 self.count(" ROWS ", *rows);
                 self.count(" PAGES ", *pages);
             }
-            Statement::SetIndex {
+            Statement::SetIndexStatistics {
                 table,
                 columns,
                 statistics,
@@ -359,14 +359,14 @@ fn quantifier_word(quantifier: Quantifier) -> &'static str {
     }
 }
 
-fn op_mark(op: Op) -> &'static str {
+fn op_mark(op: ComparisonOperator) -> &'static str {
     match op {
-        Op::Equals => "=",
-        Op::NotEquals => "<>",
-        Op::LessThan => "<",
-        Op::GreaterThan => ">",
-        Op::LessOrEquals => "<=",
-        Op::GreaterOrEquals => ">=",
+        ComparisonOperator::Equals => "=",
+        ComparisonOperator::NotEquals => "<>",
+        ComparisonOperator::LessThan => "<",
+        ComparisonOperator::GreaterThan => ">",
+        ComparisonOperator::LessOrEquals => "<=",
+        ComparisonOperator::GreaterOrEquals => ">=",
     }
 }
 

@@ -13,7 +13,7 @@ use Rattle.query_tree.specs.Bound.{block_of}
 use Rattle.query_tree.specs.declared.block.Block.{Block}
 use Rattle.estimate.specs.Estimated.{IsFormed}
 use Rattle.plan_space.specs.Planned.{Planned, space_in}
-use Rattle.scans.specs.Sources.{Source, block_in}
+use Rattle.scans.specs.Sources.{BlockSource, block_in}
 use Rattle.operators.specs.Running.{IsPlanOf}
 
 of_formed : (db : Database) (block : spec.Block) → IsFormed db block → HasPlans block
@@ -22,12 +22,12 @@ of_formed db block (blocks, around, n, formed) = formed_has_plans db blocks arou
 pub has_plans : (db : Database) (given told : Block) → told ≡ given → IsFormed db (block_of given) → HasPlans (block_of told)
 has_plans db given told same formed = let P : Block → Type 0 = λ b. IsFormed db (block_of b) in of_formed db (block_of told) (subst P (sym same) formed)
 
-pub formed_in : (db : Database) (block : Block) (s : Source) → s.database ≡ db → s.block ≡ block → IsFormed db (block_of block) → IsFormed s.database (block_in s)
+pub formed_in : (db : Database) (block : Block) (s : BlockSource) → s.database ≡ db → s.block ≡ block → IsFormed db (block_of block) → IsFormed s.database (block_in s)
 formed_in db block s of_db of_block formed =
     let moved : IsFormed s.database (block_of block) = subst (λ x. IsFormed x (block_of block)) (sym of_db) formed in
     subst (λ b. IsFormed s.database (block_of b)) (sym of_block) moved
 
-pub is_plan_of : (p : Planned) (s : Source) (plan : Plan) (orders : List Order) → p.database ≡ s.database → p.block ≡ s.block
+pub is_plan_of : (p : Planned) (s : BlockSource) (plan : Plan) (orders : List Order) → p.database ≡ s.database → p.block ≡ s.block
     → IsPlan (space_in p) plan → orders ≡ (space_in p).orders → (version : Version) × IsPlanOf s orders version plan
 unfolding space_in
 is_plan_of p s plan orders of_db of_block is same =

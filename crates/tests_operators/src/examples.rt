@@ -5,7 +5,7 @@ use catalog::Database;
 use estimate::Estimate;
 use join_dp::optimise;
 use plan_space::{Space, Version};
-use scans::Source;
+use scans::BlockSource;
 use std::alloc::{AllocError, Global};
 use std::test::Fail;
 use tests_support::{PathPart, Step, apply, block, built};
@@ -55,7 +55,7 @@ fn told(
     };
     let estimate = Estimate::new(alloc, database, &block)?;
     let space = Space::new(alloc, estimate, Version::One)?;
-    let source = Source::new(alloc, database, &block)?;
+    let source = BlockSource::new(alloc, database, &block)?;
     let plan = built(alloc, access, steps)?;
     match run(alloc, &source, &space, &plan)? {
         Some(outcome) => spelled(alloc, &outcome),
@@ -230,7 +230,7 @@ fn tied(alloc: Global, database: &Database) -> Result<Option<[u64; 5]>, AllocErr
     };
     let estimate = Estimate::new(alloc, database, &block)?;
     let space = Space::new(alloc, estimate, Version::One)?;
-    let source = Source::new(alloc, database, &block)?;
+    let source = BlockSource::new(alloc, database, &block)?;
     let (_, certificate, _) = optimise(alloc, &space)?;
     let from_first = built(alloc, FIRST, &[Step::Loop(SECOND)])?;
     let from_second = built(alloc, SECOND, &[Step::Loop(FIRST)])?;

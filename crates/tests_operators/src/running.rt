@@ -5,14 +5,14 @@ ghost use Rattle.estimate.specs.Estimated.{IsFormed};
 ghost use Rattle.scans.specs.Sources.{block_in};
 
 use operators::open;
-use plan_space::{Measured, Plan, Space};
-use scans::{Composite, Outermost, Pull, Source};
+use plan_space::{PlanSummary, Plan, Space};
+use scans::{Composite, NoOuterRows, TupleSource, BlockSource};
 use std::alloc::{AllocError, Global};
 
 /// What a plan comes to, what it gave, and how many rows were opened for that.
 #[derive(Drop)]
 pub(crate) struct Outcome {
-    pub measured: Measured,
+    pub measured: PlanSummary,
     pub composites: Vec<Composite>,
     pub opened: u64,
 }
@@ -20,7 +20,7 @@ pub(crate) struct Outcome {
 /// Runs a plan of a block; `None` where it is no plan of the block.
 pub(crate) fn run(
     alloc: Global,
-    source: &Source<'_>,
+    source: &BlockSource<'_>,
     space: &Space<'_>,
     plan: &Plan,
 ) -> Result<Option<Outcome>, AllocError>
@@ -31,9 +31,9 @@ pub(crate) fn run(
     let Some(measured) = space.measured(plan) else {
         return Ok(None);
     };
-    let mut line = open(alloc, source, space.orders(), plan, &Outermost)?;
+    let mut line = open(alloc, source, space.orders(), plan, &NoOuterRows)?;
     let mut composites = Vec::new(alloc);
-    'composites: while let Some(composite) = line.next(&Outermost) {
+    'composites: while let Some(composite) = line.next(&NoOuterRows) {
         composites.push(composite)?;
     }
     Ok(Some(Outcome {

@@ -4,7 +4,7 @@ ghost use Rattle.std.specs.Prelude.{◌≡◌};
 
 use catalog::Database;
 use estimate::Estimate;
-use interesting_orders::{PlanOrders, Version, required_order};
+use interesting_orders::{SortOrders, Version, required_order};
 use plan_tree::SortKey;
 use query_tree::Block;
 use std::alloc::{AllocError, Global};
@@ -58,7 +58,7 @@ fn orders_of(
     requires block { estimate.now.block ≡ block.now }
 {
     let required = required_order(alloc, block)?;
-    let orders = PlanOrders::new(alloc, estimate, version, &required)?;
+    let orders = SortOrders::new(alloc, estimate, version, &required)?;
     all_spelled(alloc, orders.all())
 }
 

@@ -4,12 +4,12 @@ ghost use Rattle.std.specs.Prelude.{◌≡◌, ◌<◌, ◌≤◌, ◌^◌};
 ghost use Rattle.definitions.specs.Limits.{most_from_tables};
 ghost use Rattle.plan_tree.specs.Sets.{set_of};
 ghost use Rattle.interesting_orders.specs.Uses.{sets_in};
-ghost use Rattle.plan_space.specs.TableLinks.{tables_in};
+ghost use Rattle.plan_space.specs.JoinGraph.{tables_in};
 
 use catalog::Database;
 use estimate::Estimate;
-use interesting_orders::{OrderUses, PlanOrders, Version, required_order};
-use plan_space::TableLinks;
+use interesting_orders::{InterestingOrders, SortOrders, Version, required_order};
+use plan_space::JoinGraph;
 use plan_tree::TableSet;
 use query_tree::Block;
 use std::alloc::{AllocError, Global};
@@ -23,7 +23,7 @@ const CHAIN: &str = "CREATE TABLE A (X INTEGER); CREATE TABLE B (P INTEGER, Q IN
 /// For each order its fold at a set of tables.
 fn push_folds(
     text: &mut String,
-    uses: &OrderUses,
+    uses: &InterestingOrders,
     set: TableSet,
     orders: usize,
 ) -> Result<(), AllocError> {
@@ -36,7 +36,7 @@ fn push_folds(
 /// The orders that rows of a set of tables may be sorted into.
 fn push_sorts(
     text: &mut String,
-    uses: &OrderUses,
+    uses: &InterestingOrders,
     set: TableSet,
     orders: usize,
 ) -> Result<(), AllocError> {
@@ -49,7 +49,7 @@ fn push_sorts(
 }
 
 /// The orders that give the one that is asked for.
-fn push_giving(text: &mut String, uses: &OrderUses, orders: usize) -> Result<(), AllocError> {
+fn push_giving(text: &mut String, uses: &InterestingOrders, orders: usize) -> Result<(), AllocError> {
     for order in 0..orders {
         if uses.gives_required(order) {
             write!(text, "{order} ")?;
@@ -61,7 +61,7 @@ fn push_giving(text: &mut String, uses: &OrderUses, orders: usize) -> Result<(),
 /// The tables that come next to a set by a merge conjunct, where an order goes by its other column.
 fn push_merges(
     text: &mut String,
-    uses: &OrderUses,
+    uses: &InterestingOrders,
     set: TableSet,
     order: usize,
     conjunct: usize,
@@ -79,7 +79,7 @@ fn push_merges(
 /// The same for each order and the first two conjuncts.
 fn push_all_merges(
     text: &mut String,
-    uses: &OrderUses,
+    uses: &InterestingOrders,
     set: TableSet,
     orders: usize,
 ) -> Result<(), AllocError>
@@ -103,7 +103,7 @@ struct Served {
 
 fn serve(
     alloc: Global,
-    uses: &OrderUses,
+    uses: &InterestingOrders,
     orders: usize,
     tables: usize,
 ) -> Result<Served, AllocError>
@@ -139,9 +139,9 @@ fn uses_of(
     requires block { estimate.now.block ≡ block.now }
 {
     let required = required_order(alloc, block)?;
-    let orders = PlanOrders::new(alloc, estimate, version, &required)?;
+    let orders = SortOrders::new(alloc, estimate, version, &required)?;
     let tables = estimate.table_count();
-    let uses = OrderUses::new(alloc, estimate.conjuncts(), orders.all(), &required, tables)?;
+    let uses = InterestingOrders::new(alloc, estimate.conjuncts(), orders.all(), &required, tables)?;
     serve(alloc, &uses, orders.all().len(), tables)
 }
 
@@ -205,7 +205,7 @@ fn descending_orders_open_no_merge(rt: HostRuntime) -> Result<(), Fail> {
 /// The tables that may come next to a set.
 fn push_next(
     text: &mut String,
-    links: &TableLinks,
+    links: &JoinGraph,
     set: TableSet,
     tables: usize,
 ) -> Result<(), AllocError>
@@ -213,7 +213,7 @@ fn push_next(
     requires set { set_of set < 2 ^ tables }
 {
     for table in 0..tables {
-        if links.may_follow(set, table) {
+        if links.can_join_next(set, table) {
             write!(text, "{table} ")?;
         }
     }
@@ -221,7 +221,7 @@ fn push_next(
 }
 
 /// The tables that may come next to each set of so many tables, where products come last.
-fn next_tables(alloc: Global, links: &TableLinks, tables: usize) -> Result<String, AllocError>
+fn next_tables(alloc: Global, links: &JoinGraph, tables: usize) -> Result<String, AllocError>
     requires tables { tables ≤ most_from_tables }
     requires whole { tables ≡ tables_in links.now }
 {
@@ -237,7 +237,7 @@ fn chain_next(alloc: Global, database: &Database, query: &str) -> Option<String>
     let block = block(alloc, database, query)?;
     let estimate = Estimate::new(alloc, database, &block).ok()?;
     let tables = estimate.table_count();
-    let Ok(links) = TableLinks::new(alloc, estimate.conjuncts(), tables) else {
+    let Ok(links) = JoinGraph::new(alloc, estimate.conjuncts(), tables) else {
         return None;
     };
     next_tables(alloc, &links, tables).ok()

@@ -1,7 +1,7 @@
 //! Scans of columns of numbers.
 
 use crate::scanned::{assert_scans, assert_scans_of_parts, number, numbers};
-use sqlvalue::{Op, SqlType, Value};
+use sqlvalue::{ComparisonOperator, SqlType, Value};
 use std::test::Fail;
 
 /// The greatest size of units of a value.
@@ -18,12 +18,12 @@ fn scans_by_a_value_between_two_units(rt: HostRuntime) -> Result<(), Fail> {
     let column = numbers(rt.alloc(), NUMERIC_4_2, &cells)?;
     let value = number(1005, 3);
     for (op, words) in [
-        (Op::LessThan, (25, 2)),
-        (Op::GreaterThan, (4, 2)),
-        (Op::Equals, (0, 2)),
-        (Op::NotEquals, (29, 2)),
-        (Op::LessOrEquals, (25, 2)),
-        (Op::GreaterOrEquals, (4, 2)),
+        (ComparisonOperator::LessThan, (25, 2)),
+        (ComparisonOperator::GreaterThan, (4, 2)),
+        (ComparisonOperator::Equals, (0, 2)),
+        (ComparisonOperator::NotEquals, (29, 2)),
+        (ComparisonOperator::LessOrEquals, (25, 2)),
+        (ComparisonOperator::GreaterOrEquals, (4, 2)),
     ] {
         assert_eq!(rt; column.scan(op, &value, 0, 5), words, "{op:?}");
     }

@@ -6,7 +6,7 @@ ghost use Rattle.sqlvalue.specs.Meaning.{type_of};
 ghost use Rattle.columns.specs.Columns.{cells_of};
 
 use columns::{Column, NumberColumn, TextColumn};
-use sqlvalue::{Num, Op, SqlType, Value};
+use sqlvalue::{Num, ComparisonOperator, SqlType, Value};
 use std::alloc::{AllocError, Global};
 use std::process::Abort;
 
@@ -91,12 +91,12 @@ pub(crate) fn assert_scans(
 {
     let orders = &orders[first..first + rows];
     for (op, met) in [
-        (Op::Equals, "="),
-        (Op::NotEquals, "<>"),
-        (Op::LessThan, "<"),
-        (Op::LessOrEquals, "<="),
-        (Op::GreaterThan, ">"),
-        (Op::GreaterOrEquals, ">="),
+        (ComparisonOperator::Equals, "="),
+        (ComparisonOperator::NotEquals, "<>"),
+        (ComparisonOperator::LessThan, "<"),
+        (ComparisonOperator::LessOrEquals, "<="),
+        (ComparisonOperator::GreaterThan, ">"),
+        (ComparisonOperator::GreaterOrEquals, ">="),
     ] {
         let answer = column.scan(op, value, first, rows);
         let expected = (rows_of(orders, met), rows_of(orders, "?"));

@@ -33,15 +33,15 @@ fn changes(database: &mut Database, statement: &Statement) -> bool {
         } => database
             .create_index(*unique, table.text.as_str(), columns)
             .is_ok(),
-        Statement::SetTable { table, rows, pages } => database
-            .set_table(table.text.as_str(), rows.units, pages.units)
+        Statement::SetTableStatistics { table, rows, pages } => database
+            .set_table_statistics(table.text.as_str(), rows.units, pages.units)
             .is_ok(),
-        Statement::SetIndex {
+        Statement::SetIndexStatistics {
             table,
             columns,
             statistics,
         } => database
-            .set_index(table.text.as_str(), columns, statistics)
+            .set_index_statistics(table.text.as_str(), columns, statistics)
             .is_ok(),
         _ => false,
     }

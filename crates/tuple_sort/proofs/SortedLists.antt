@@ -12,7 +12,7 @@ use Rattle.definitions_execution.specs.RowOrder.{NotAfter}
 use Rattle.definitions_execution.specs.Stored.{Composite, Stored, row_number, value_at}
 use Rattle.definitions_execution.proofs.Members.{rises_map}
 use Rattle.definitions_execution.proofs.RowOrders.{not_after_same}
-use Rattle.scans.specs.Sources.{Source, stored_in}
+use Rattle.scans.specs.Sources.{BlockSource, stored_in}
 use Rattle.tuple_sort.specs.CompositeLists.{CompositeList, IsCompositeOf}
 use Rattle.tuple_sort.specs.Packing.{packed, tables_in, unpacked}
 use Rattle.tuple_sort.specs.Values.{value_in_composite, value_in_packed, value_in_row}
@@ -20,7 +20,7 @@ use Rattle.tuple_sort.proofs.PackedRows.{kept_whole, row_unpacked}
 
 module _ (tables : TableSet) (width : ℕ) (members : List ℕ) (are : members ≡ tables_in tables width) where
   -- what stands in order packed, stands so unpacked
-  pub rises_unpacked : (source : Source) (order : Order) (rows : List (List ℕ)) → Rises (NotAfter (value_in_packed source members) order) rows
+  pub rises_unpacked : (source : BlockSource) (order : Order) (rows : List (List ℕ)) → Rises (NotAfter (value_in_packed source members) order) rows
       → Rises (NotAfter (value_in_composite source) order) (map (unpacked width members) rows)
   rises_unpacked source order rows h =
       rises_map (NotAfter (value_in_packed source members) order) (NotAfter (value_in_composite source) order) (unpacked width members) rows
@@ -55,10 +55,10 @@ module _ (tables : TableSet) (width : ℕ) (members : List ℕ) (are : members �
       of_items k = ap {B = CompositeList} (λ xs. record { tables = tables; width = width; items = xs }) k
 
 -- the values are those that are stored, whatever the surroundings
-pub stored_in_rows : (source : Source) (outer : List Combination) → (stored_in source outer).value_in ≡ value_in_row source
+pub stored_in_rows : (source : BlockSource) (outer : List Combination) → (stored_in source outer).value_in ≡ value_in_row source
 stored_in_rows source outer = refl
 
-pub stored_in_composites : (source : Source) (outer : List Combination) → value_at (stored_in source outer) ≡ value_in_composite source
+pub stored_in_composites : (source : BlockSource) (outer : List Combination) → value_at (stored_in source outer) ≡ value_in_composite source
 stored_in_composites source outer = refl
 
 -- what a plan delivers for some tables are composites of these

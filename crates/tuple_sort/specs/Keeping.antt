@@ -1,10 +1,10 @@
 -- Packed rows as code keeps them.
 use Rattle.std.specs.Prelude.{ℕ, List, map}
 use Rattle.tuple_sort.specs.Keys.{packed_in}
-use Rattle.tuple_sort.specs.declared.kept.Kept.{Kept}
-use Rattle.tuple_sort.specs.declared.kept.Kept.TheVariants as k
+use Rattle.tuple_sort.specs.declared.kept.SortBuffer.{SortBuffer}
+use Rattle.tuple_sort.specs.declared.kept.SortBuffer.TheVariants as k
 
-abbrev pub rows_of : Kept → List (List ℕ)
+abbrev pub rows_of : SortBuffer → List (List ℕ)
 rows_of (k.One rows) = map packed_in rows.items
 rows_of (k.Two rows) = map packed_in rows.items
 rows_of (k.Four rows) = map packed_in rows.items
@@ -12,7 +12,7 @@ rows_of (k.Eight rows) = map packed_in rows.items
 rows_of (k.All rows) = map packed_in rows.items
 
 -- of how many tables they are, at most
-abbrev pub room_of : Kept → ℕ
+abbrev pub room_of : SortBuffer → ℕ
 room_of (k.One rows) = 1
 room_of (k.Two rows) = 2
 room_of (k.Four rows) = 4

@@ -8,36 +8,36 @@ ghost use Rattle.tuple_sort.specs.Keeping.{room_of, rows_of};
 ghost use Rattle.tuple_sort.specs.Packing.{packed};
 ghost use Rattle.tuple_sort.specs.Values.{value_in_packed};
 
-use crate::keyed::Keyed;
+use crate::keyed::SortTuple;
 use crate::packing::packed;
 use crate::sorting::sort_packed;
 use plan_tree::{MAX_FROM_TABLES, SortKey};
-use scans::Source;
+use scans::BlockSource;
 use std::alloc::{AllocError, Global};
 
 /// The rows of so many tables, or fewer, of each composite. With their keys those of one table or two take 16 bytes.
 #[derive(Drop)]
-pub(crate) enum Kept {
-    One(Vec<Keyed<1>>),
-    Two(Vec<Keyed<2>>),
-    Four(Vec<Keyed<4>>),
-    Eight(Vec<Keyed<8>>),
-    All(Vec<Keyed<MAX_FROM_TABLES>>),
+pub(crate) enum SortBuffer {
+    One(Vec<SortTuple<1>>),
+    Two(Vec<SortTuple<2>>),
+    Four(Vec<SortTuple<4>>),
+    Eight(Vec<SortTuple<8>>),
+    All(Vec<SortTuple<MAX_FROM_TABLES>>),
 }
 
-impl Kept {
+impl SortBuffer {
     /// Room for the rows of so many tables.
-    pub(crate) fn new(alloc: Global, tables: usize) -> Kept
+    pub(crate) fn new(alloc: Global, tables: usize) -> SortBuffer
         requires { tables ≤ 14 }
         ensures rows { rows_of result ≡ [] }
         ensures room { tables ≤ room_of result }
     {
         match tables {
-            0 | 1 => Kept::One(Vec::new(alloc)),
-            2 => Kept::Two(Vec::new(alloc)),
-            3 | 4 => Kept::Four(Vec::new(alloc)),
-            5..=8 => Kept::Eight(Vec::new(alloc)),
-            _ => Kept::All(Vec::new(alloc)),
+            0 | 1 => SortBuffer::One(Vec::new(alloc)),
+            2 => SortBuffer::Two(Vec::new(alloc)),
+            3 | 4 => SortBuffer::Four(Vec::new(alloc)),
+            5..=8 => SortBuffer::Eight(Vec::new(alloc)),
+            _ => SortBuffer::All(Vec::new(alloc)),
         }
     }
 
@@ -45,11 +45,11 @@ impl Kept {
         ensures { result ≡ length (rows_of self.now) }
     {
         match self {
-            Kept::One(rows) => rows.len(),
-            Kept::Two(rows) => rows.len(),
-            Kept::Four(rows) => rows.len(),
-            Kept::Eight(rows) => rows.len(),
-            Kept::All(rows) => rows.len(),
+            SortBuffer::One(rows) => rows.len(),
+            SortBuffer::Two(rows) => rows.len(),
+            SortBuffer::Four(rows) => rows.len(),
+            SortBuffer::Eight(rows) => rows.len(),
+            SortBuffer::All(rows) => rows.len(),
         }
     }
 
@@ -58,11 +58,11 @@ impl Kept {
         ensures { result.now ≡ get_or (rows_of self.now) place [] }
     {
         match self {
-            Kept::One(rows) => rows[place].rows.as_slice(),
-            Kept::Two(rows) => rows[place].rows.as_slice(),
-            Kept::Four(rows) => rows[place].rows.as_slice(),
-            Kept::Eight(rows) => rows[place].rows.as_slice(),
-            Kept::All(rows) => rows[place].rows.as_slice(),
+            SortBuffer::One(rows) => rows[place].rows.as_slice(),
+            SortBuffer::Two(rows) => rows[place].rows.as_slice(),
+            SortBuffer::Four(rows) => rows[place].rows.as_slice(),
+            SortBuffer::Eight(rows) => rows[place].rows.as_slice(),
+            SortBuffer::All(rows) => rows[place].rows.as_slice(),
         }
     }
 
@@ -74,27 +74,27 @@ impl Kept {
         ensures err { OnErr result (rows_of self.new ≡ rows_of self.old) }
     {
         match self {
-            Kept::One(rows) => rows.push(Keyed::new(packed(members, composite)))?,
-            Kept::Two(rows) => rows.push(Keyed::new(packed(members, composite)))?,
-            Kept::Four(rows) => rows.push(Keyed::new(packed(members, composite)))?,
-            Kept::Eight(rows) => rows.push(Keyed::new(packed(members, composite)))?,
-            Kept::All(rows) => rows.push(Keyed::new(packed(members, composite)))?,
+            SortBuffer::One(rows) => rows.push(SortTuple::new(packed(members, composite)))?,
+            SortBuffer::Two(rows) => rows.push(SortTuple::new(packed(members, composite)))?,
+            SortBuffer::Four(rows) => rows.push(SortTuple::new(packed(members, composite)))?,
+            SortBuffer::Eight(rows) => rows.push(SortTuple::new(packed(members, composite)))?,
+            SortBuffer::All(rows) => rows.push(SortTuple::new(packed(members, composite)))?,
         }
         Ok(())
     }
 
     /// Puts them in an order, in place.
-    pub(crate) fn sort(&mut self, source: &Source<'_>, order: &[SortKey], members: &[usize])
+    pub(crate) fn sort(&mut self, source: &BlockSource<'_>, order: &[SortKey], members: &[usize])
         ensures room { room_of self.new ≡ room_of self.old }
         ensures permutation { IsPermutation (rows_of self.old) (rows_of self.new) }
         ensures sorted { Rises (NotAfter (value_in_packed source.now members.now) (order_of order.now)) (rows_of self.new) }
     {
         match self {
-            Kept::One(rows) => sort_packed(rows, source, order, members),
-            Kept::Two(rows) => sort_packed(rows, source, order, members),
-            Kept::Four(rows) => sort_packed(rows, source, order, members),
-            Kept::Eight(rows) => sort_packed(rows, source, order, members),
-            Kept::All(rows) => sort_packed(rows, source, order, members),
+            SortBuffer::One(rows) => sort_packed(rows, source, order, members),
+            SortBuffer::Two(rows) => sort_packed(rows, source, order, members),
+            SortBuffer::Four(rows) => sort_packed(rows, source, order, members),
+            SortBuffer::Eight(rows) => sort_packed(rows, source, order, members),
+            SortBuffer::All(rows) => sort_packed(rows, source, order, members),
         }
     }
 }

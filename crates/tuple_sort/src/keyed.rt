@@ -7,38 +7,38 @@ ghost use Rattle.tuple_sort.specs.Keys.{packed_in, HasKey, HaveKeys};
 
 use crate::packing::row_in;
 use query_tree::BlockColumn;
-use scans::Source;
+use scans::BlockSource;
 use sqlvalue::Value;
 
 /// The rows of some tables, and what they are sorted by first.
 #[derive(Clone, Copy)]
-pub(crate) struct Keyed<const ROOM: usize> {
+pub(crate) struct SortTuple<const WIDTH: usize> {
     pub key: i64,
-    pub rows: [u32; ROOM],
+    pub rows: [u32; WIDTH],
 }
 
-impl<const ROOM: usize> Keyed<ROOM> {
+impl<const WIDTH: usize> SortTuple<WIDTH> {
     /// Rows that have no key yet.
-    pub fn new(rows: [u32; ROOM]) -> Keyed<ROOM>
+    pub fn new(rows: [u32; WIDTH]) -> SortTuple<WIDTH>
         ensures { result.rows ≡ rows.entry }
     {
-        Keyed { key: 0, rows }
+        SortTuple { key: 0, rows }
     }
 
     /// The same rows with a key.
-    fn with_key(self, key: i64) -> Keyed<ROOM>
+    fn with_key(self, key: i64) -> SortTuple<WIDTH>
         ensures key { result.key ≡ key }
         ensures rows { result.rows ≡ self.entry.rows }
     {
         let rows = self.rows;
-        Keyed { key, rows }
+        SortTuple { key, rows }
     }
 }
 
 /// Gives all rows their keys in a column: whether each value there has one.
-pub(crate) fn give_keys<const ROOM: usize>(
-    keyed: &mut Vec<Keyed<ROOM>>,
-    source: &Source<'_>,
+pub(crate) fn give_keys<const WIDTH: usize>(
+    keyed: &mut Vec<SortTuple<WIDTH>>,
+    source: &BlockSource<'_>,
     column: BlockColumn,
     members: &[usize],
 ) -> bool
@@ -58,9 +58,9 @@ pub(crate) fn give_keys<const ROOM: usize>(
 }
 
 /// The scale of the first number that rows have in a column.
-fn scale_in<const ROOM: usize>(
-    keyed: &[Keyed<ROOM>],
-    source: &Source<'_>,
+fn scale_in<const WIDTH: usize>(
+    keyed: &[SortTuple<WIDTH>],
+    source: &BlockSource<'_>,
     column: BlockColumn,
     members: &[usize],
 ) -> u8 {

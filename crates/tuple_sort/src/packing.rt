@@ -19,11 +19,11 @@ pub(crate) fn row_in(members: &[usize], rows: &[u32], table: usize) -> u32
 }
 
 /// The rows of some tables in a composite, and 0 in the room behind them.
-pub(crate) fn packed<const ROOM: usize>(members: &[usize], composite: &[u32]) -> [u32; ROOM]
-    requires room { length members.now ≤ ROOM }
-    ensures { result ≡ packed ROOM members.now composite.now }
+pub(crate) fn packed<const WIDTH: usize>(members: &[usize], composite: &[u32]) -> [u32; WIDTH]
+    requires room { length members.now ≤ WIDTH }
+    ensures { result ≡ packed WIDTH members.now composite.now }
 {
-    let mut rows = [0; ROOM];
+    let mut rows = [0; WIDTH];
     'places: for place in 0..members.len() {
         rows[place] = composite.get(members[place]).copied().unwrap_or(0);
     }

@@ -9,20 +9,20 @@ ghost use Rattle.plan_tree.specs.Plans.{order_of};
 ghost use Rattle.tuple_sort.specs.Keys.{ranked_by_keys};
 ghost use Rattle.tuple_sort.specs.Values.{value_in_packed};
 
-use crate::keyed::Keyed;
+use crate::keyed::SortTuple;
 use crate::packing::row_in;
 use plan_tree::SortKey;
-use scans::Source;
+use scans::BlockSource;
 use sqlvalue::{Value, rank};
 use std::cmp::Ordering;
 
 /// How packed rows rank by the keys of an order, where the first of these is told apart by what stands beside them.
-pub(crate) fn rank_of_keyed<const ROOM: usize>(
-    source: &Source<'_>,
+pub(crate) fn rank_of_keyed<const WIDTH: usize>(
+    source: &BlockSource<'_>,
     order: &[SortKey],
     members: &[usize],
-    a: &Keyed<ROOM>,
-    b: &Keyed<ROOM>,
+    a: &SortTuple<WIDTH>,
+    b: &SortTuple<WIDTH>,
 ) -> Ordering
     ensures { result ≡ ranked_by_keys (value_in_packed source.now members.now) (order_of order.now) a.now b.now }
 {
@@ -43,7 +43,7 @@ pub(crate) fn rank_of_keyed<const ROOM: usize>(
 
 /// How packed rows rank by the keys of an order: the first that tells them apart decides (ISO/IEC 9075:1992, 13.1, general rule 2).
 pub(crate) fn rank_of_packed(
-    source: &Source<'_>,
+    source: &BlockSource<'_>,
     order: &[SortKey],
     members: &[usize],
     a: &[u32],

@@ -809,7 +809,7 @@ pub value::set_function-returns : goal.value::set_function-returns
 value::set_function-returns t c =
     λ bound few.
     let inner : BindsValue c.args.clause.now.database.now c.args.clause.now.scopes.now InArgument nothing_bound (progress_of c.value.new.blocks.items c.value.new.functions.items) (expr_of c.args.argument.now) (value_of c.in_ok-typed.typed.value) (value_type_of c.in_ok-typed.typed.value_type) = rw (c.new-no_blocks.ensures.items, c.new-no_functions.ensures.items) at c.in_ok-typed.ensures in
-    rw (c.in_ok-set_value.ensures.value, c.in_ok-set_value.ensures.typed, c.in_ok-set_value.ensures.functions, pushed_function c.args.functions.now.items _, ← as_many_functions c.args.functions.now.items)
+    rw (c.in_ok-aggregate_value.ensures.value, c.in_ok-aggregate_value.ensures.typed, c.in_ok-aggregate_value.ensures.functions, pushed_function c.args.functions.now.items _, ← as_many_functions c.args.functions.now.items)
     (binds_function c.args.clause.now.database.now c.args.clause.now.scopes.now (place_of c.args.clause.now.place) (record { blocks = bound; functions = map bound_function_of c.args.functions.now.items }) (progress_of c.value.new.blocks.items c.value.new.functions.items) (function_of c.args.function) c.args.distinct (expr_of c.args.argument.now) (value_of c.in_ok-typed.typed.value) (value_type_of c.in_ok-typed.typed.value_type) (value_type_of c.in_ok-value_type.value_type) few c.requires.shown inner c.in_ok-value_type.ensures.numbers c.in_ok-value_type.ensures.ok c.in_ok-value_type.ensures.fine)
 
 -- src/value.rt:39:38
@@ -905,11 +905,11 @@ value::value-returns-in_ok-block-in-Scalar t c =
     (binds_scalar c.args.clause.now.database.now c.args.clause.now.scopes.now (place_of c.args.clause.now.place) (progress_of c.args.blocks.now.items c.args.functions.now.items) new (query_of c.in-Scalar.query.value) c.in_ok-block-in-Scalar.block (value_type_of c.in_ok-block-in-Scalar.value_type) h)
 
 -- src/value.rt:26:1
-pub value::value-returns-in_ok-set_value-in-CountRows :
-    goal.value::value-returns-in_ok-set_value-in-CountRows
-value::value-returns-in_ok-set_value-in-CountRows t c =
+pub value::value-returns-in_ok-aggregate_value-in-CountRows :
+    goal.value::value-returns-in_ok-aggregate_value-in-CountRows
+value::value-returns-in_ok-aggregate_value-in-CountRows t c =
     let tree = ap expr_of c.in-CountRows.is ∙ of_count_rows c.in-CountRows.start in
-    rw (tree, c.in_ok-set_value-in-CountRows.ensures.value, c.in_ok-set_value-in-CountRows.ensures.typed, c.in_ok-set_value-in-CountRows.ensures.functions, pushed_function c.args.functions.now.items _, ← as_many_functions c.args.functions.now.items)
+    rw (tree, c.in_ok-aggregate_value-in-CountRows.ensures.value, c.in_ok-aggregate_value-in-CountRows.ensures.typed, c.in_ok-aggregate_value-in-CountRows.ensures.functions, pushed_function c.args.functions.now.items _, ← as_many_functions c.args.functions.now.items)
     (binds_count_rows c.args.clause.now.database.now c.args.clause.now.scopes.now (place_of c.args.clause.now.place) (progress_of c.args.blocks.now.items c.args.functions.now.items) (few_blocks c.args.blocks.now.items c.requires.few) c.in_ok-judge_function-in-CountRows.ensures.ok)
 
 -- src/value.rt:26:1

@@ -14,7 +14,7 @@ use Rattle.definitions.specs.Binding.BoundForm.{Next, known_type, bound_column, 
 use Rattle.definitions.specs.Binding.Faults.{is_condition, same, operands_are, IsNoColumn, list_of}
 use Rattle.definitions.specs.Binding.Formed.{HasColumn, kind_type, only_type, column_type, IsFormedValue, AreFormedOperands}
 use Rattle.definitions.specs.Queries.BoundBlock as b
-use Rattle.definitions.specs.Queries.BoundBlock.{ValueExpr, Block, Blocks, BoundFunction}
+use Rattle.definitions.specs.Queries.BoundBlock.{ValueExpr, Block, Blocks, Aggregate}
 use Rattle.definitions.specs.Queries.Conjuncts as q
 use Rattle.definitions.proofs.BindingTheory.ListFacts.{both, negated, split, joined, filter_both, Numbered, Later, numbered_both}
 use Rattle.definitions.proofs.BindingTheory.FoundColumns.{HasColumnIn, numbers, IsFound, resolved_in}
@@ -118,7 +118,7 @@ query_is_typed s query k known h =
 -- ---- set functions
 
 function_there : (s : Setting) (k : ℕ) (e : Expr) → IsAt s.functions k e → slice_get s.block.functions k ≡ Some (bound_function s.db (scopes_in s) e)
-function_there s k e h = ap (λ (xs : List BoundFunction). slice_get xs k) s.set_functions ∙ slice_get-map (bound_function s.db (scopes_in s)) s.functions k ∙ ap (option_map (bound_function s.db (scopes_in s))) h
+function_there s k e h = ap (λ (xs : List Aggregate). slice_get xs k) s.set_functions ∙ slice_get-map (bound_function s.db (scopes_in s)) s.functions k ∙ ap (option_map (bound_function s.db (scopes_in s))) h
 
 -- ---- values
 

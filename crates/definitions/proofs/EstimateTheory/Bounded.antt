@@ -6,7 +6,7 @@ use Rattle.std.proofs.Math.Nat.{le-div_iff_mul-le, mul-le-mul_left, mul-le-mul_r
 use Rattle.std.specs.Prelude.{option_map, unwrap_or, ◌&&◌, map, fold, filter}
 use Rattle.std.specs.List.{AllByRecursion}
 use Rattle.definitions.specs.Table.{Database}
-use Rattle.definitions.specs.Statement.{Op, Equals, NotEquals, LessThan, GreaterThan, LessOrEquals, GreaterOrEquals}
+use Rattle.definitions.specs.Statement.{ComparisonOperator, Equals, NotEquals, LessThan, GreaterThan, LessOrEquals, GreaterOrEquals}
 use Rattle.definitions.specs.Plans.TableSet.{TableSet, no_tables, with_table}
 use Rattle.definitions.specs.Plans.Conjunct.{Conjunct}
 use Rattle.definitions.specs.Plans.Cost.{limit, saturated, share}
@@ -97,7 +97,7 @@ module _ (db : Database) (block : Block) where
   greater_small OtherValue (KnownNumber v t) = third_small
   greater_small OtherValue OtherValue = third_small
 
-  comparison_small : (op : Op) (a b : Side) → comparison_share db block op a b ≤ million
+  comparison_small : (op : ComparisonOperator) (a b : Side) → comparison_share db block op a b ≤ million
   comparison_small Equals a b = equal_small a b
   comparison_small NotEquals a b = rest_small _
   comparison_small GreaterThan a b = greater_small a b

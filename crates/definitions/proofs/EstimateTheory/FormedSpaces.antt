@@ -51,7 +51,7 @@ module _ (db : Database) (blocks around : Blocks) (n : ℕ) (block : Block) wher
   of_value descending (b.String codes) t = tt
   of_value descending (b.Signed minus operand) t = tt
   of_value descending (b.Chain first others) t = tt
-  of_value descending (b.SetValue number type) t = tt
+  of_value descending (b.AggregateValue number type) t = tt
   of_value descending (b.Subquery number type) t = tt
 
   key_own : (key : Key) → AreTyped block.items → IfOwn (sort_key block.items key)

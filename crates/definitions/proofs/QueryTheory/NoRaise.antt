@@ -170,7 +170,7 @@ mutual
   value_fits env (b.Chain first others) h r =
       let p = or_parts (can_raise first) (chain_can_raise (size first) others) r in
       chain_fits env (value env first) (size first) others (value_fits env first h.0 p.0) h.1 p.1
-  value_fits env (b.SetValue n type) h r = absurd (true≢false r)
+  value_fits env (b.AggregateValue n type) h r = absurd (true≢false r)
   value_fits env (b.Subquery n type) h r = absurd (true≢false r)
 
   chain_fits : (env : Environment) (left : Meaning Value) (s : Size) (others : Operands) → Gives left s → AllFitTypes env others → chain_can_raise s others ≡ false → Gives (chained env left others) (chain_size s others)

@@ -5,7 +5,7 @@ use Rattle.std.proofs.lemmas.List.Elements.{All-contains_itself, All-cons, All-n
 use Rattle.std.proofs.lemmas.List.Sorted.{All-permutation, length_permutation, IsPermutation-map}
 use Rattle.definitions.specs.Value.{Value, Null}
 use Rattle.definitions.specs.Table.{Row}
-use Rattle.definitions.specs.Statement.{Op, Equals, GreaterOrEquals, LessOrEquals}
+use Rattle.definitions.specs.Statement.{ComparisonOperator, Equals, GreaterOrEquals, LessOrEquals}
 use Rattle.definitions.specs.Arithmetic.{Cardinality, Meaning, Is, Raises}
 use Rattle.definitions.specs.Truth.{and, opposite, all_true, any_true, compared, compared_with_any, unless, known, is_null, has_row}
 use Rattle.definitions.specs.Pattern.{like}
@@ -69,7 +69,7 @@ rows_stand (x ∷ xs) [] h = let e = length_permutation (x ∷ xs) [] h in absur
 columns_permuted : (rows rows' : List Row) → IsPermutation rows rows' → IsPermutation (column_values rows) (column_values rows')
 columns_permuted rows rows' h = IsPermutation-map (λ (row : Row). get_or row 0 Null) rows rows' h
 
-quantified_stands : (q : Quantifier) (op : Op) (v : Value) (vs vs' : List Value) → IsPermutation vs vs' → quantified q op v vs ≡ quantified q op v vs'
+quantified_stands : (q : Quantifier) (op : ComparisonOperator) (v : Value) (vs vs' : List Value) → IsPermutation vs vs' → quantified q op v vs ≡ quantified q op v vs'
 quantified_stands s.All op v vs vs' h = (order_says_nothing _ _ (IsPermutation-map (compared op v) vs vs' h)).0
 quantified_stands s.Any op v vs vs' h = (order_says_nothing _ _ (IsPermutation-map (compared op v) vs vs' h)).1
 
@@ -87,7 +87,7 @@ module _ (env : Environment) (inner : ℕ → Meaning (List Row)) (h : InnerStan
     value_stands (b.String codes) = refl
     value_stands (b.Signed minus e) = one_same (signed minus) (value env e) (value other e) (value_stands e)
     value_stands (b.Chain first others) = chain_stands (value env first) (value other first) others (value_stands first)
-    value_stands (b.SetValue n type) = itself (get_or env.functions n (Is Null))
+    value_stands (b.AggregateValue n type) = itself (get_or env.functions n (Is Null))
     value_stands (b.Subquery n type) = then_stands IsPermutation Same only_value only_value only_stands (env.inner n) (inner n) (h n)
 
     chain_stands : (left left' : Meaning Value) (others : Operands) → StandsFor Same left left' → StandsFor Same (chained env left others) (chained other left' others)
@@ -102,7 +102,7 @@ module _ (env : Environment) (inner : ℕ → Meaning (List Row)) (h : InnerStan
   members_stand (Some e ∷ members) = two_same ◌∷◌ (value env e) (value other e) (in_order (map (member env) members)) (in_order (map (member other) members)) (value_stands e) (members_stand members)
 
   -- a value against the rows of a subquery
-  against_rows : (q : Quantifier) (op : Op) (e : ValueExpr) (n : ℕ) → StandsFor Same (on_two (quantified q op) (value env e) (on_one column_values (env.inner n))) (on_two (quantified q op) (value other e) (on_one column_values (inner n)))
+  against_rows : (q : Quantifier) (op : ComparisonOperator) (e : ValueExpr) (n : ℕ) → StandsFor Same (on_two (quantified q op) (value env e) (on_one column_values (env.inner n))) (on_two (quantified q op) (value other e) (on_one column_values (inner n)))
   against_rows q op e n =
       two_stand Same IsPermutation Same (λ v vs. Is (quantified q op v vs)) (λ v vs. Is (quantified q op v vs)) (λ v v' vs vs' d k. ap (λ w. quantified q op w vs) d ∙ quantified_stands q op v' vs vs' k)
       (value env e) (value other e) (on_one column_values (env.inner n)) (on_one column_values (inner n)) (value_stands e)

@@ -118,7 +118,7 @@ mutual
   typed env (b.String codes) h t e = subst (λ k. HasValueType k (Text codes)) (same_type _ _ e) tt
   typed env (b.Signed negated operand) h t e = sign_typed negated (value_type operand) (value env operand) (typed env operand h) t e
   typed env (b.Chain first others) h t e = chain_typed env (value env first) (value_type first) others (typed env first h.0) h.1 t e
-  typed env (b.SetValue n type) h t e = subst (λ k. MeansOne k (get_or env.functions n (Is Null))) (same_type _ _ e) h
+  typed env (b.AggregateValue n type) h t e = subst (λ k. MeansOne k (get_or env.functions n (Is Null))) (same_type _ _ e) h
   typed env (b.Subquery n type) h t e = subst (λ k. MeansOne k (and_then only_value (env.inner n))) (same_type _ _ e) (only_typed type (env.inner n) h)
 
   chain_typed : (env : Environment) (left : Meaning Value) (o : Option ValueType) (others : Operands) → Typed o left → AllFitTypes env others → Typed (operands_type o others) (chained env left others)

@@ -10,7 +10,7 @@ use Rattle.definitions.specs.Binding.Types.{expr_type, query_type, function_type
 use Rattle.definitions.specs.Statement as t
 use Rattle.definitions.specs.Binding.Parts.{PlacedBlock, functions_in, item_values, condition_values, blocks_in, blocks_of}
 use Rattle.definitions.specs.Queries.BoundBlock as b
-use Rattle.definitions.specs.Queries.BoundBlock.{ValueExpr, Operands, Condition, Conditions, BoundFunction, Item, Key, Block, Blocks}
+use Rattle.definitions.specs.Queries.BoundBlock.{ValueExpr, Operands, Condition, Conditions, Aggregate, Item, Key, Block, Blocks}
 
 -- what stands in place of what is refused
 abbrev pub no_value : ValueExpr
@@ -96,8 +96,8 @@ module _ (db : Database) (scopes : Scopes) where
     bound_value next (t.Signed minus e) = b.Signed minus (bound_value next e)
     bound_value next (t.Line first others) = b.Chain (bound_value next first) (bound_operands (after first next) others)
     bound_value next (t.Scalar query) = b.Subquery next.block (known_type (query_type db scopes query))
-    bound_value next t.CountRows = b.SetValue next.function (NumberType 0)
-    bound_value next (t.Function function distinct argument) = b.SetValue next.function (known_type (function_type function (expr_type db scopes argument)))
+    bound_value next t.CountRows = b.AggregateValue next.function (NumberType 0)
+    bound_value next (t.Function function distinct argument) = b.AggregateValue next.function (known_type (function_type function (expr_type db scopes argument)))
     bound_value next _ = no_value
 
     pub bound_operands : Next → t.Operands → Operands
@@ -136,7 +136,7 @@ module _ (db : Database) (scopes : Scopes) where
   after_condition (t.Present e) next = after e next
 
   -- a set function; its argument holds no other one, and no subquery (6.5, syntax rules 3 to 5)
-  abbrev pub bound_function : t.Expr → BoundFunction
+  abbrev pub bound_function : t.Expr → Aggregate
   bound_function (t.Function function distinct argument) = b.OfValues function distinct (bound_value (record { block = 0; function = 0 }) argument)
   bound_function _ = b.CountRows
 

@@ -11,7 +11,7 @@ use Rattle.definitions.specs.Invariant.{IsDatabase}
 use Rattle.definitions.specs.Arithmetic.{quotient_scale}
 use Rattle.definitions.specs.Plans.Order.{BlockColumn}
 use Rattle.definitions.specs.Statement.{SetFunction, Count, Sum, Avg}
-use Rattle.definitions.specs.Queries.BoundBlock.{ValueExpr, Column, Parameter, Numeral, String, Signed, Chain, SetValue, Subquery, Operands, NoOperand, Operand, Condition, BoundFunction, CountRows, OfValues, Item, Key, Block, Blocks}
+use Rattle.definitions.specs.Queries.BoundBlock.{ValueExpr, Column, Parameter, Numeral, String, Signed, Chain, AggregateValue, Subquery, Operands, NoOperand, Operand, Condition, Aggregate, CountRows, OfValues, Item, Key, Block, Blocks}
 use Rattle.definitions.specs.Queries.Conjuncts.{values_of, blocks_of, conjuncts}
 use Rattle.definitions.specs.Queries.BoundTypes.{value_type, is_sound}
 use Rattle.definitions.specs.Statement as t
@@ -35,7 +35,7 @@ kind_type Sum (Some (NumberType scale)) = Some (NumberType scale)
 kind_type Sum type = None
 kind_type _ type = type
 
-abbrev pub set_function_type : BoundFunction → Option ValueType
+abbrev pub set_function_type : Aggregate → Option ValueType
 set_function_type CountRows = Some (NumberType 0)
 set_function_type (OfValues kind distinct argument) = kind_type kind (value_type argument)
 
@@ -59,7 +59,7 @@ module _ (db : Database) (blocks around : Blocks) (n : ℕ) (b : Block) where
     IsFormedValue (String codes) = (length codes ≤ 254) × AllByRecursion (λ c. IsTrue (is_printable c)) codes
     IsFormedValue (Signed minus operand) = IsFormedValue operand
     IsFormedValue (Chain first others) = IsFormedValue first × AreFormedOperands others
-    IsFormedValue (SetValue number type) = (f : BoundFunction) × (slice_get b.functions number ≡ Some f) × (set_function_type f ≡ Some type)
+    IsFormedValue (AggregateValue number type) = (f : Aggregate) × (slice_get b.functions number ≡ Some f) × (set_function_type f ≡ Some type)
     IsFormedValue (Subquery block type) = (n < block) × (column_type blocks block ≡ Some type)
 
     pub AreFormedOperands : Operands → Type 0
@@ -77,7 +77,7 @@ module _ (db : Database) (blocks around : Blocks) (n : ℕ) (b : Block) where
   IfCondition None = ⊤
   IfCondition (Some c) = IsFormedCondition c
 
-  abbrev pub IsFormedFunction : BoundFunction → Type 0
+  abbrev pub IsFormedFunction : Aggregate → Type 0
   IsFormedFunction CountRows = ⊤
   IsFormedFunction (OfValues kind distinct argument) = IsTypedValue argument
 

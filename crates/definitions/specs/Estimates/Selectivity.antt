@@ -1,6 +1,6 @@
 -- Selectivity: the share of rows on which a condition is taken to be true, in millionths (Selinger et al. 1979, table 1; some numbers are own).
 use Rattle.std.specs.Prelude.{ℕ, ◌*◌, min, max, List, [], ◌∷◌, Option, Some, None, length, fold, option_map, option_and_then, unwrap_or}
-use Rattle.definitions.specs.Statement.{Op, Equals, NotEquals, LessThan, GreaterThan, LessOrEquals, GreaterOrEquals}
+use Rattle.definitions.specs.Statement.{ComparisonOperator, Equals, NotEquals, LessThan, GreaterThan, LessOrEquals, GreaterOrEquals}
 use Rattle.definitions.specs.Table.{KeyRange, Index, Table, Database, index_on}
 use Rattle.definitions.specs.Plans.Order.{BlockColumn}
 use Rattle.definitions.specs.Plans.Cost.{share}
@@ -58,7 +58,7 @@ module _ (db : Database) (block : Block) where
   greater_share _ _ = one_third
 
   -- a >= b is as a > b, a < b as b > a, and a <> b as NOT a = b
-  abbrev pub comparison_share : Op → Side → Side → ℕ
+  abbrev pub comparison_share : ComparisonOperator → Side → Side → ℕ
   comparison_share Equals a b = equal_share a b
   comparison_share NotEquals a b = rest_of (equal_share a b)
   comparison_share GreaterThan a b = greater_share a b

@@ -128,10 +128,10 @@ pub record FormsOfQueries : Type 0 where
   pub functions_in_text_order : bound_form t_and_u grouped ≡ record {
     tables = 0 ∷ [];
     distinct = false;
-    items = record { name = codes "C"; value = c_column } ∷ record { name = codes "COL2"; value = b.Chain (b.SetValue 0 (NumberType 0)) (b.Operand b.Plus (b.SetValue 1 (NumberType 0)) b.NoOperand) } ∷ [];
+    items = record { name = codes "C"; value = c_column } ∷ record { name = codes "COL2"; value = b.Chain (b.AggregateValue 0 (NumberType 0)) (b.Operand b.Plus (b.AggregateValue 1 (NumberType 0)) b.NoOperand) } ∷ [];
     condition = None;
     groups = record { table = 0; number = 1 } ∷ [];
-    having = Some (b.Compare t.GreaterThan (b.SetValue 2 (NumberType 0)) bound_one);
+    having = Some (b.Compare t.GreaterThan (b.AggregateValue 2 (NumberType 0)) bound_one);
     functions = b.OfValues t.Sum false (own 0 0) ∷ b.CountRows ∷ b.OfValues t.Min true (own 0 0) ∷ [];
     order = [];
   } ∷ []

@@ -30,7 +30,7 @@ numeral n = b.Numeral n 1 0
 
 -- the set function of a number, with the scale of its values
 abbrev pub number_of : ℕ → ℕ → ValueExpr
-number_of n scale = b.SetValue n (NumberType scale)
+number_of n scale = b.AggregateValue n (NumberType scale)
 
 abbrev pub item : List ℕ → ValueExpr → Item
 item name value = record { name = name; value = value }
@@ -270,7 +270,7 @@ functions_of_tenths =
     } ∷ []
 
 -- T (A, B): 1, 0 and 2, 5. SELECT A, SUM(10/B) FROM T GROUP BY A HAVING A > 1: set functions are evaluated on every group
-abbrev pub grouped_having : ValueExpr → List b.BoundFunction → Blocks
+abbrev pub grouped_having : ValueExpr → List b.Aggregate → Blocks
 grouped_having shown_value functions =
     record (select (item [] shown_value ∷ []) (0 ∷ [])) {
       groups = record { table = 0; number = 0 } ∷ [];

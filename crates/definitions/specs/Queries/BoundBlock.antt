@@ -2,7 +2,7 @@
 use Rattle.std.specs.Prelude.{ℕ, Bool, List, Option}
 use Rattle.definitions.specs.Value.{SqlType}
 use Rattle.definitions.specs.ValueType.{ValueType}
-use Rattle.definitions.specs.Statement.{Op, Quantifier, SetFunction}
+use Rattle.definitions.specs.Statement.{ComparisonOperator, Quantifier, SetFunction}
 use Rattle.definitions.specs.Plans.Order.{BlockColumn}
 
 -- what stands between the operands of arithmetic (ISO/IEC 9075:1992, 6.12)
@@ -23,7 +23,7 @@ mutual
     String : (codes : List ℕ) → ValueExpr
     Signed : (minus : Bool) (operand : ValueExpr) → ValueExpr
     Chain : (first : ValueExpr) (others : Operands) → ValueExpr
-    SetValue : (number : ℕ) (type : ValueType) → ValueExpr
+    AggregateValue : (number : ℕ) (type : ValueType) → ValueExpr
     Subquery : (block : ℕ) (type : ValueType) → ValueExpr
 
   -- the operands behind the first, each with what joins it to those before
@@ -34,8 +34,8 @@ mutual
 mutual
   -- a condition; a member of an IN list that is absent is NULL (8.1 to 8.12)
   pub data Condition : Type 0 where
-    Compare : (op : Op) (left right : ValueExpr) → Condition
-    Quantified : (op : Op) (quantifier : Quantifier) (value : ValueExpr) (block : ℕ) → Condition
+    Compare : (op : ComparisonOperator) (left right : ValueExpr) → Condition
+    Quantified : (op : ComparisonOperator) (quantifier : Quantifier) (value : ValueExpr) (block : ℕ) → Condition
     IsNull : (negated : Bool) (value : ValueExpr) → Condition
     Between : (negated : Bool) (value low high : ValueExpr) → Condition
     Like : (negated : Bool) (value : ValueExpr) (pattern : List ℕ) → Condition
@@ -52,9 +52,9 @@ mutual
     Part : (part : Condition) (others : Conditions) → Conditions
 
 -- COUNT(*), or a function of the argument's values, DISTINCT or not (6.5)
-pub data BoundFunction : Type 0 where
-  CountRows : BoundFunction
-  OfValues : (function : SetFunction) (distinct : Bool) (argument : ValueExpr) → BoundFunction
+pub data Aggregate : Type 0 where
+  CountRows : Aggregate
+  OfValues : (function : SetFunction) (distinct : Bool) (argument : ValueExpr) → Aggregate
 
 -- a result column: the name in the header and its value (7.9)
 pub record Item : Type 0 where
@@ -75,7 +75,7 @@ pub record Block : Type 0 where
   pub condition : Option Condition
   pub groups : List BlockColumn
   pub having : Option Condition
-  pub functions : List BoundFunction
+  pub functions : List Aggregate
   pub order : List Key
 
 -- the blocks of a statement in text order, the outermost first; so the number of an inner block is greater than that of the block around it

@@ -4,7 +4,7 @@ use Rattle.std.specs.List.{list_all}
 use Rattle.definitions.specs.Value.{Kind, Numbers, Texts}
 use Rattle.definitions.specs.ValueType.{ValueType, NumberType, TextType, type_of, type_kind}
 use Rattle.definitions.specs.Arithmetic.{quotient_scale}
-use Rattle.definitions.specs.Queries.BoundBlock.{Operator, Plus, Minus, Times, Over, ValueExpr, Column, Parameter, Numeral, String, Signed, Chain, SetValue, Subquery, Operands, NoOperand, Operand, Condition, Conditions, NoPart, Part, Compare, Quantified, IsNull, Between, Like, InList, InQuery, Exists, Not, And, Or}
+use Rattle.definitions.specs.Queries.BoundBlock.{Operator, Plus, Minus, Times, Over, ValueExpr, Column, Parameter, Numeral, String, Signed, Chain, AggregateValue, Subquery, Operands, NoOperand, Operand, Condition, Conditions, NoPart, Part, Compare, Quantified, IsNull, Between, Like, InList, InQuery, Exists, Not, And, Or}
 
 -- two operands of arithmetic: numbers both, and no product of a scale over 18 (ISO/IEC 9075:1992, 6.12, syntax rule 1; the limit is own)
 abbrev pub arithmetic_type : Operator → ValueType → ValueType → Option ValueType
@@ -31,7 +31,7 @@ abbrev mutual
   value_type (String codes) = Some TextType
   value_type (Signed minus operand) = signed_type (value_type operand)
   value_type (Chain first others) = operands_type (value_type first) others
-  value_type (SetValue number type) = Some type
+  value_type (AggregateValue number type) = Some type
   value_type (Subquery block type) = Some type
 
   pub operands_type : Option ValueType → Operands → Option ValueType

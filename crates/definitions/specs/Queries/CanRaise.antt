@@ -3,7 +3,7 @@ use Rattle.std.specs.Prelude.{ℕ, ◌+◌, ◌-◌, max, Bool, true, false, ◌
 use Rattle.definitions.specs.Value.{SqlType, Smallint, Integer, Numeric, Char, scale_of}
 use Rattle.definitions.specs.ValueType.{type_scale}
 use Rattle.definitions.specs.Arithmetic.{quotient_scale}
-use Rattle.definitions.specs.Queries.BoundBlock.{Operator, Plus, Minus, Times, Over, ValueExpr, Column, Parameter, Numeral, String, Signed, Chain, SetValue, Subquery, Operands, NoOperand, Operand}
+use Rattle.definitions.specs.Queries.BoundBlock.{Operator, Plus, Minus, Times, Over, ValueExpr, Column, Parameter, Numeral, String, Signed, Chain, AggregateValue, Subquery, Operands, NoOperand, Operand}
 
 -- the size of an expression's numbers, known before any row is read: how many digits they have at most, and how many of them stand
 -- behind the point
@@ -39,7 +39,7 @@ abbrev mutual
   size (String codes) = record { digits = 0; scale = 0 }
   size (Signed minus operand) = size operand
   size (Chain first others) = chain_size (size first) others
-  size (SetValue number type) = record { digits = 38; scale = type_scale type }
+  size (AggregateValue number type) = record { digits = 38; scale = type_scale type }
   size (Subquery block type) = record { digits = 38; scale = type_scale type }
 
   pub chain_size : Size → Operands → Size
@@ -55,7 +55,7 @@ abbrev mutual
   pub can_raise : ValueExpr → Bool
   can_raise (Signed minus operand) = can_raise operand
   can_raise (Chain first others) = can_raise first || chain_can_raise (size first) others
-  can_raise (SetValue number type) = true
+  can_raise (AggregateValue number type) = true
   can_raise (Subquery block type) = true
   can_raise _ = false
 

@@ -2,12 +2,12 @@
 use Rattle.std.specs.Prelude.{ℕ, pos, Bool, true, false, List, [], ◌∷◌, Option, Some, None, get_or, map}
 use Rattle.definitions.specs.Value.{Value, Null, Number, Text}
 use Rattle.definitions.specs.Table.{Row}
-use Rattle.definitions.specs.Statement.{Op, Equals, GreaterOrEquals, LessOrEquals}
+use Rattle.definitions.specs.Statement.{ComparisonOperator, Equals, GreaterOrEquals, LessOrEquals}
 use Rattle.definitions.specs.Arithmetic.{Meaning, Is, Raises, raised, Cardinality, negative, plus, minus, times, over}
 use Rattle.definitions.specs.Truth.{Truth, and, known, unless, opposite, all_true, any_true, compared, compared_with_all, compared_with_any, has_row, is_null}
 use Rattle.definitions.specs.Pattern.{like}
 use Rattle.definitions.specs.Plans.Order.{BlockColumn}
-use Rattle.definitions.specs.Queries.BoundBlock.{Operator, Plus, Minus, Times, Over, ValueExpr, Column, Parameter, Numeral, String, Signed, Chain, SetValue, Subquery, Operands, NoOperand, Operand, Condition, Conditions, NoPart, Part, Compare, Quantified, IsNull, Between, Like, InList, InQuery, Exists, Not, And, Or}
+use Rattle.definitions.specs.Queries.BoundBlock.{Operator, Plus, Minus, Times, Over, ValueExpr, Column, Parameter, Numeral, String, Signed, Chain, AggregateValue, Subquery, Operands, NoOperand, Operand, Condition, Conditions, NoPart, Part, Compare, Quantified, IsNull, Between, Like, InList, InQuery, Exists, Not, And, Or}
 use Rattle.definitions.specs.Statement.{Quantifier, All, Any}
 
 -- one row of each table of a block
@@ -77,7 +77,7 @@ abbrev mutual
   value env (String codes) = Is (Text codes)
   value env (Signed minus operand) = on_one (signed minus) (value env operand)
   value env (Chain first others) = chained env (value env first) others
-  value env (SetValue number type) = get_or env.functions number (Is Null)
+  value env (AggregateValue number type) = get_or env.functions number (Is Null)
   value env (Subquery block type) = and_then only_value (env.inner block)
 
   pub chained : Environment → Meaning Value → Operands → Meaning Value
@@ -95,7 +95,7 @@ abbrev pub member : Environment → Option ValueExpr → Meaning Value
 member env (Some e) = value env e
 member env None = Is Null
 
-abbrev pub quantified : Quantifier → Op → Value → List Value → Truth
+abbrev pub quantified : Quantifier → ComparisonOperator → Value → List Value → Truth
 quantified All = compared_with_all
 quantified Any = compared_with_any
 

@@ -6,7 +6,7 @@ use Rattle.definitions.specs.Value.{Value, Null, Number, rank}
 use Rattle.definitions.specs.Arithmetic.{Raise, Meaning, Is, Raises, judged, over, at_scale}
 use Rattle.definitions.specs.Truth.{is_null}
 use Rattle.definitions.specs.Plans.Order.{BlockColumn}
-use Rattle.definitions.specs.Queries.BoundBlock.{BoundFunction, CountRows, OfValues}
+use Rattle.definitions.specs.Queries.BoundBlock.{Aggregate, CountRows, OfValues}
 use Rattle.definitions.specs.Statement.{SetFunction, Count, Sum, Avg, Min, Max}
 use Rattle.definitions.specs.Queries.Evaluation.{Combination, cell, and_then, value}
 use Rattle.definitions.specs.Queries.Combinations.{Context, at, raises_of}
@@ -109,7 +109,7 @@ abbrev pub all_results : {X : Type 0} → List (Meaning X) → Meaning (List X)
 all_results ms = unless_raised (flat_map raises_of ms) (results ms)
 
 -- a set function over a group: the exceptions of its argument on the group's combinations, and only if there are none its own
-abbrev pub function_value : Context → List Combination → BoundFunction → Meaning Value
+abbrev pub function_value : Context → List Combination → Aggregate → Meaning Value
 function_value context group CountRows = Is (counted group)
 function_value context group (OfValues kind distinct argument) =
     and_then (λ vs. aggregate kind (taken distinct vs)) (all_results (map (λ c. value (at context c) argument) group))

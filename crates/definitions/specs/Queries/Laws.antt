@@ -8,7 +8,7 @@ use Rattle.definitions.specs.Arithmetic.{Meaning, Is, Raises}
 use Rattle.definitions.specs.ValueType.{ValueType, HasValueType}
 use Rattle.definitions.specs.Queries.BoundTypes.{value_type}
 use Rattle.definitions.specs.Truth.{Truth, and, or, all_true, any_true}
-use Rattle.definitions.specs.Queries.BoundBlock.{ValueExpr, Column, Parameter, Numeral, Signed, Chain, SetValue, Subquery, Operands, NoOperand, Operand, Condition, Key, Block, Blocks}
+use Rattle.definitions.specs.Queries.BoundBlock.{ValueExpr, Column, Parameter, Numeral, Signed, Chain, AggregateValue, Subquery, Operands, NoOperand, Operand, Condition, Key, Block, Blocks}
 use Rattle.definitions.specs.Queries.Evaluation.{Combination, Environment, cell, value, truth}
 use Rattle.definitions.specs.Queries.CanRaise.{can_raise}
 use Rattle.definitions.specs.Queries.Conjuncts.{condition_can_raise, values_of, late_conjuncts}
@@ -71,7 +71,7 @@ abbrev mutual
   FitsTypes env (Parameter between column type) = IsType type × HasType type (cell (get_or env.outer between []) column)
   FitsTypes env (Numeral units digits scale) = units < 10 ^ digits
   FitsTypes env (Signed minus operand) = FitsTypes env operand
-  FitsTypes env (SetValue number type) = MeansOne type (get_or env.functions number (Is Null))
+  FitsTypes env (AggregateValue number type) = MeansOne type (get_or env.functions number (Is Null))
   FitsTypes env (Subquery block type) = MeansRows type (env.inner block)
   FitsTypes env (Chain first others) = FitsTypes env first × AllFitTypes env others
   FitsTypes env _ = ⊤

@@ -1,7 +1,7 @@
 use Rattle.std.proofs.Common.{sym, ap, refl, rules, subst, true, false, Result, Ok, ◌≡◌, ◌∙◌}
 use Rattle.definitions.specs.Token.{Mark, CloseParen}
 use Rattle.definitions.specs.Rule.{Past, Gives}
-use Rattle.syntax_cursor.specs.declared.stop.Stop.{Stop}
+use Rattle.syntax_cursor.specs.declared.stop.ParseStop.{ParseStop}
 use Rattle.syntax_cursor.specs.Reading.{Place, Outcome, EatsAsterisk}
 use Rattle.syntax.specs.Reading.{LineAt}
 use Rattle.std.proofs.Common.{Result, ap₂, ℕ, suc, map, [], ◌∷◌, ◌++◌, Bool, true, false}
@@ -31,7 +31,7 @@ use Rattle.syntax.proofs.+expressions.Goals as goal
 different : {b : Bool} → b ≡ true → b ≡ false → ⊥
 different e f = cc
 
-starred : (f : tree.SetFunction) {levels least : ℕ} {p q t : Place} {o : Result tree.Expr Stop} → EatsAsterisk f p q true → Outcome (λ m. Past (Mark CloseParen) (Gives tree.CountRows)) levels least q t o → Outcome (λ m. g.ArgumentOf (within m) f) levels least p t o
+starred : (f : tree.SetFunction) {levels least : ℕ} {p q t : Place} {o : Result tree.Expr ParseStop} → EatsAsterisk f p q true → Outcome (λ m. Past (Mark CloseParen) (Gives tree.CountRows)) levels least q t o → Outcome (λ m. g.ArgumentOf (within m) f) levels least p t o
 unfolding g.ArgumentOf
 starred tree.Count at out = if_on at out
 starred tree.Sum at out = absurd (different refl at.0)
@@ -39,7 +39,7 @@ starred tree.Avg at out = absurd (different refl at.0)
 starred tree.Min at out = absurd (different refl at.0)
 starred tree.Max at out = absurd (different refl at.0)
 
-unstarred : (f : tree.SetFunction) {levels least : ℕ} {p q t : Place} {o : Result tree.Expr Stop} → EatsAsterisk f p q false → Outcome (λ m. g.DistinctOf (within m) f) levels least q t o → Outcome (λ m. g.ArgumentOf (within m) f) levels least p t o
+unstarred : (f : tree.SetFunction) {levels least : ℕ} {p q t : Place} {o : Result tree.Expr ParseStop} → EatsAsterisk f p q false → Outcome (λ m. g.DistinctOf (within m) f) levels least q t o → Outcome (λ m. g.ArgumentOf (within m) f) levels least p t o
 unfolding g.ArgumentOf
 unstarred tree.Count at out = misses_on at out
 unstarred tree.Sum at out = begins at.1 out

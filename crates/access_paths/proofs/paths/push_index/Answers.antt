@@ -5,7 +5,7 @@ use Rattle.definitions.specs.Table.{Table}
 use Rattle.query_tree.specs.Bound.{block_of}
 use Rattle.access_paths.specs.Found.{path_told}
 use Rattle.access_paths.specs.Listing.{scans_found}
-use Rattle.access_paths.specs.Matches.{index_chains}
+use Rattle.access_paths.specs.Matches.{index_matches}
 use Rattle.access_paths.specs.Views.{chain_told}
 use Rattle.access_paths.proofs.Chaining.{IsChainOfBlock, chains_of_block}
 use Rattle.access_paths.proofs.Pushing.{one_direction, two_directions}
@@ -32,8 +32,8 @@ returns c =
     let i = c.index-index.result.now.index in
     let size = c.of.ensures e.database b a.table c.table-found.ensures in
     let there = ap (option_and_then (λ (t : Table). slice_get t.indexes a.number)) c.table-found.ensures ∙ c.index-index.ensures.exact in
-    let chains = index_chains b a.table i.columns in
-    let found = c.in_ok-chains.ensures.exact ∙ ap (index_chains b a.table) c.columns.ensures in
+    let chains = index_matches b a.table i.columns in
+    let found = c.in_ok-chains.ensures.exact ∙ ap (index_matches b a.table) c.columns.ensures in
     let old = map path_told a.paths.now.items in
     let first = map path_told c.push_all.new.paths.items in
     let forward : first ≡ old ++ scans_found e.database b a.table a.number i chains false =

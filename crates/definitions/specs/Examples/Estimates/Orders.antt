@@ -30,7 +30,7 @@ grouped =
 -- SELECT COUNT(*) AS N FROM T ORDER BY N
 abbrev pub counted : Block
 counted =
-    record (s.select_from (s.item (codes "N") (bound.SetValue 0 (NumberType 0)) ∷ []) (0 ∷ []) None (record { item = 0; descending = false } ∷ [])) {
+    record (s.select_from (s.item (codes "N") (bound.AggregateValue 0 (NumberType 0)) ∷ []) (0 ∷ []) None (record { item = 0; descending = false } ∷ [])) {
       functions = bound.CountRows ∷ [];
     }
 

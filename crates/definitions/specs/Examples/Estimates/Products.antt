@@ -24,7 +24,7 @@ full = s.table_with (codes "T") (codes "A" ∷ []) limit 1 [] ∷ []
 
 abbrev pub count_over : ℕ → Block
 count_over copies =
-    record (s.select_from (s.item (codes "COL1") (bound.SetValue 0 (NumberType 0)) ∷ []) (replicate copies 0) None []) {
+    record (s.select_from (s.item (codes "COL1") (bound.AggregateValue 0 (NumberType 0)) ∷ []) (replicate copies 0) None []) {
       functions = bound.CountRows ∷ [];
     }
 

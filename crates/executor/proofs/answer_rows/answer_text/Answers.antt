@@ -40,16 +40,16 @@ returns-in_err-take-clause-raised g c =
     let is = first_at _ width c.in-Some.composite _ _ c.composites.invariant.width c.in-Some.ensures.taken in
     let e = err_from_is_err_and c.from_residual-in_err-take.result c.from_residual-in_err-take.ensures.1 in
     rw (e.1, e.2)
-    (late_told c.args.source.now (g.A.Around.combinations c.args.around.now) _ c.requires.plain c.requires.arranged done _ _ (numbers_in width c.in-Some.composite) c.in_err-take.field-0.0 split is c.in_err-take.ensures.raised)
+    (late_told c.args.source.now (g.A.OuterRows.combinations c.args.around.now) _ c.requires.plain c.requires.arranged done _ _ (numbers_in width c.in-Some.composite) c.in_err-take.field-0.0 split is c.in_err-take.ensures.raised)
 
 pub returns-clause-rows : goal.returns-clause-rows
 returns-clause-rows g c =
     let (done, split, have) = c.composites.invariant.taken in
     let whole = all_done _ done _ split c.in_default.ensures.taken.0 in
-    IfOk-weaker c.end.result _ _ (λ text h. text_told c.args.source.now (g.A.Around.combinations c.args.around.now) _ c.requires.plain c.requires.arranged c.composites.lines done whole have text.items h) c.end.ensures.text
+    IfOk-weaker c.end.result _ _ (λ text h. text_told c.args.source.now (g.A.OuterRows.combinations c.args.around.now) _ c.requires.plain c.requires.arranged c.composites.lines done whole have text.items h) c.end.ensures.text
 
 pub returns-clause-raised : goal.returns-clause-raised
 returns-clause-raised g c =
     let (done, split, have) = c.composites.invariant.taken in
     let whole = all_done _ done _ split c.in_default.ensures.taken.0 in
-    IfErr-weaker c.end.result _ _ (λ fault h. column_told c.args.source.now (g.A.Around.combinations c.args.around.now) _ c.requires.plain c.requires.arranged c.composites.lines done whole have fault h) c.end.ensures.raised
+    IfErr-weaker c.end.result _ _ (λ fault h. column_told c.args.source.now (g.A.OuterRows.combinations c.args.around.now) _ c.requires.plain c.requires.arranged c.composites.lines done whole have fault h) c.end.ensures.raised

@@ -8,13 +8,13 @@ use Rattle.executor.proofs.answer_rows.answer_text.Given as goal
 abbrev pub invariant-composites : goal.invariant-composites
 invariant-composites g l = record {
   taken :
-      (composites : List Composite) × (g.P.Pull.left l.fn.pull (g.A.Around.combinations l.around) ≡ composites ++ g.P.Pull.left l.pull (g.A.Around.combinations l.around))
-      × HaveTaken l.source (g.A.Around.combinations l.around) composites l.lines;
+      (composites : List Composite) × (g.P.TupleSource.left l.fn.pull (g.A.OuterRows.combinations l.around) ≡ composites ++ g.P.TupleSource.left l.pull (g.A.OuterRows.combinations l.around))
+      × HaveTaken l.source (g.A.OuterRows.combinations l.around) composites l.lines;
   counted : IsCounted l.lines;
-  well : g.P.Pull.IsWell l.pull (g.A.Around.combinations l.around);
-  width : g.P.Pull.width l.pull ≡ length (block_in l.source).tables;
-  work : g.P.Pull.work l.pull (g.A.Around.combinations l.around) ≡ g.P.Pull.work l.fn.pull (g.A.Around.combinations l.around);
+  well : g.P.TupleSource.IsWell l.pull (g.A.OuterRows.combinations l.around);
+  width : g.P.TupleSource.width l.pull ≡ length (block_in l.source).tables;
+  work : g.P.TupleSource.work l.pull (g.A.OuterRows.combinations l.around) ≡ g.P.TupleSource.work l.fn.pull (g.A.OuterRows.combinations l.around);
 }
 
 abbrev pub decreases-composites : goal.decreases-composites
-decreases-composites g l = length (g.P.Pull.left l.pull (g.A.Around.combinations l.around))
+decreases-composites g l = length (g.P.TupleSource.left l.pull (g.A.OuterRows.combinations l.around))

@@ -8,9 +8,9 @@ use Rattle.executor.proofs.late.try_all.Given as goal
 abbrev pub invariant-conditions : goal.invariant-conditions
 invariant-conditions g l = record {
   truth :
-      (l.all && are_true_in (g.S.Surroundings.environment l.env) (conditions_of (drop l.condition-index l.conditions)))
-      ≡ are_true_in (g.S.Surroundings.environment l.env) (conditions_of l.conditions);
+      (l.all && are_true_in (g.S.Environment.environment l.env) (conditions_of (drop l.condition-index l.conditions)))
+      ≡ are_true_in (g.S.Environment.environment l.env) (conditions_of l.conditions);
   raises :
-      raised_in (g.S.Surroundings.environment l.env) (conditions_of (drop l.condition-index l.conditions))
-      ≡ raised_in (g.S.Surroundings.environment l.env) (conditions_of l.conditions);
+      raised_in (g.S.Environment.environment l.env) (conditions_of (drop l.condition-index l.conditions))
+      ≡ raised_in (g.S.Environment.environment l.env) (conditions_of l.conditions);
 }

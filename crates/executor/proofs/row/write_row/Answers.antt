@@ -11,22 +11,22 @@ use Rattle.executor.proofs.row.write_row.Goals.{then-i-gt0+in_ok-push, else-i-gt
 
 pub value-requires-clause-fits : goal.value-requires-clause-fits
 value-requires-clause-fits g c =
-    (one_can (g.S.Surroundings.environment c.args.env.now) c.args.items.now c.items.i c.index-items-i.result c.items-test.true c.index-items-i.is c.requires).fits
+    (one_can (g.S.Environment.environment c.args.env.now) c.args.items.now c.items.i c.index-items-i.result c.items-test.true c.index-items-i.is c.requires).fits
 
 pub value-requires-clause-typed : goal.value-requires-clause-typed
 value-requires-clause-typed g c =
-    (one_can (g.S.Surroundings.environment c.args.env.now) c.args.items.now c.items.i c.index-items-i.result c.items-test.true c.index-items-i.is c.requires).typed
+    (one_can (g.S.Environment.environment c.args.env.now) c.args.items.now c.items.i c.index-items-i.result c.items-test.true c.index-items-i.is c.requires).typed
 
 pub returns-in_err-value-clause-raised : goal.returns-in_err-value-clause-raised
 returns-in_err-value-clause-raised g c =
     let e = err_from_is_err_and c.from_residual-in_err-value.result c.from_residual-in_err-value.ensures.1 in
     rw (e.1, e.2)
-    (column_raises (g.S.Surroundings.environment c.args.env.now) c.args.items.now c.items.i c.index-items-i.result c.items-test.true c.index-items-i.is _ c.items.invariant.raises c.in_err-value.ensures)
+    (column_raises (g.S.Environment.environment c.args.env.now) c.args.items.now c.items.i c.index-items-i.result c.items-test.true c.index-items-i.is _ c.items.invariant.raises c.in_err-value.ensures)
 
 pub items-preserved : goal.items-preserved
 items-preserved g c =
     let items = c.args.items.now in
-    let env = g.S.Surroundings.environment c.args.env.now in
+    let env = g.S.Environment.environment c.args.env.now in
     let rest = map value_text (row_in env (items_of (drop (c.items.i + 1) items))) in
     let here : map value_text (row_in env (items_of (drop c.items.i items))) ≡ value_text (value_of c.in_ok-value.field-0) ∷ rest =
     ap (map value_text) (next_value env items c.items.i c.index-items-i.result c.items-test.true c.index-items-i.is _ c.in_ok-value.ensures) in

@@ -10,9 +10,9 @@ use Rattle.executor.proofs.row.write_row.Given as goal
 abbrev pub invariant-items : goal.invariant-items
 invariant-items g l = record {
   text :
-      l.out.items ++ fields_left l.i (map value_text (row_in (g.S.Surroundings.environment l.env) (items_of (drop l.i l.items))))
-      ≡ l.fn.out.items ++ join_with_byte 124 (map value_text (row_in (g.S.Surroundings.environment l.env) (items_of l.items)));
+      l.out.items ++ fields_left l.i (map value_text (row_in (g.S.Environment.environment l.env) (items_of (drop l.i l.items))))
+      ≡ l.fn.out.items ++ join_with_byte 124 (map value_text (row_in (g.S.Environment.environment l.env) (items_of l.items)));
   raises :
-      row_raises_in (g.S.Surroundings.environment l.env) (items_of (drop l.i l.items))
-      ≡ row_raises_in (g.S.Surroundings.environment l.env) (items_of l.items);
+      row_raises_in (g.S.Environment.environment l.env) (items_of (drop l.i l.items))
+      ≡ row_raises_in (g.S.Environment.environment l.env) (items_of l.items);
 }

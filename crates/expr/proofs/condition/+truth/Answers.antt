@@ -27,18 +27,18 @@ returns-in-Some g t c =
 
 pub returns-in-None : goal.returns-in-None
 returns-in-None g t c =
-    let env = g.S.Surroundings.environment c.args.env.now in
+    let env = g.S.Environment.environment c.args.env.now in
     let tree = ap condition_of c.in-Compare.is ∙ of_compare c.in-Compare.op c.in-Compare.left c.in-Compare.right in
     rw tree (c.compared.ensures (value env (tree_of c.in-Compare.left)) (value env (tree_of c.in-Compare.right)) c.value.ensures c.value-in-None.ensures)
 
 pub returns-in-IsNull : goal.returns-in-IsNull
 returns-in-IsNull g t c =
     let tree = ap condition_of c.in-IsNull.is ∙ of_is_null c.in-IsNull.negated c.in-IsNull.operand in
-    rw tree (c.is_null.ensures (value (g.S.Surroundings.environment c.args.env.now) (tree_of c.in-IsNull.operand)) c.value-in-IsNull.ensures)
+    rw tree (c.is_null.ensures (value (g.S.Environment.environment c.args.env.now) (tree_of c.in-IsNull.operand)) c.value-in-IsNull.ensures)
 
 pub returns-in-Between : goal.returns-in-Between
 returns-in-Between g t c =
-    let env = g.S.Surroundings.environment c.args.env.now in
+    let env = g.S.Environment.environment c.args.env.now in
     let b = c.in-Between in
     let tree = ap condition_of b.is ∙ of_between b.negated b.operand b.low b.high in
     let m = value env (tree_of b.operand) in
@@ -48,7 +48,7 @@ returns-in-Between g t c =
 
 pub returns-in-Like : goal.returns-in-Like
 returns-in-Like g t c =
-    let env = g.S.Surroundings.environment c.args.env.now in
+    let env = g.S.Environment.environment c.args.env.now in
     let b = c.in-Like in
     let tree = ap condition_of b.is ∙ of_like b.negated b.operand b.pattern in
     let m = value env (tree_of b.operand) in
@@ -58,7 +58,7 @@ returns-in-Like g t c =
 
 pub returns-in-InList : goal.returns-in-InList
 returns-in-InList g t c =
-    let env = g.S.Surroundings.environment c.args.env.now in
+    let env = g.S.Environment.environment c.args.env.now in
     let b = c.in-InList in
     let tree = ap condition_of b.is ∙ of_in_list b.negated b.operand b.members in
     let m = value env (tree_of b.operand) in
@@ -67,7 +67,7 @@ returns-in-InList g t c =
 
 pub returns-in-InQuery : goal.returns-in-InQuery
 returns-in-InQuery g t c =
-    let env = g.S.Surroundings.environment c.args.env.now in
+    let env = g.S.Environment.environment c.args.env.now in
     let b = c.in-InQuery in
     let tree = ap condition_of b.is ∙ of_in_query b.negated b.operand b.block in
     let m = value env (tree_of b.operand) in
@@ -78,7 +78,7 @@ returns-in-InQuery g t c =
 
 pub loop-part-init : goal.loop-part-init
 loop-part-init g t c =
-    let env = g.S.Surroundings.environment c.args.env.now in
+    let env = g.S.Environment.environment c.args.env.now in
     let tree : condition_of c.args.condition.now ≡ spec.And (conditions (map condition_of c.in-And.parts.items)) = ap condition_of c.in-And.is ∙ of_and c.in-And.parts in
     let fits : AllByRecursion (FitsTypes env) (values_of (spec.And (conditions (map condition_of c.in-And.parts.items)))) = rw tree at c.requires.fits in
     let typed : AllByRecursion IsTyped (values_of (spec.And (conditions (map condition_of c.in-And.parts.items)))) = rw tree at c.requires.typed in
@@ -87,7 +87,7 @@ loop-part-init g t c =
 
 pub truth-requires-in-loop-part : goal.truth-requires-in-loop-part
 truth-requires-in-loop-part g t c κs within =
-    let env = g.S.Surroundings.environment c.args.env.now in
+    let env = g.S.Environment.environment c.args.env.now in
     let x = c.part-item.result in
     let rest = conditions (map condition_of (drop (c.loop-part.part-index + 1) c.deref-part-items.result.now)) in
     let all : AreFit env (spec.Part (condition_of x) rest) = rw (part_next c.deref-part-items.result.now c.loop-part.part-index x c.loop-part-test.true c.part-item.is) at c.loop-part.invariant.fit in
@@ -98,7 +98,7 @@ truth-requires-in-loop-part g t c κs within =
 
 pub loop-part-preserved : goal.loop-part-preserved
 loop-part-preserved g t c =
-    let env = g.S.Surroundings.environment c.args.env.now in
+    let env = g.S.Environment.environment c.args.env.now in
     let x = c.part-item.result in
     let all = conditions (map condition_of c.deref-part-items.result.now) in
     let rest = conditions (map condition_of (drop (c.loop-part.part-index + 1) c.deref-part-items.result.now)) in
@@ -107,7 +107,7 @@ loop-part-preserved g t c =
 
 pub returns-after-loop-part : goal.returns-after-loop-part
 returns-after-loop-part g t c =
-    let env = g.S.Surroundings.environment c.args.env.now in
+    let env = g.S.Environment.environment c.args.env.now in
     let tree = ap condition_of c.in-And.is ∙ of_and c.in-And.parts in
     let none : conditions (map condition_of (drop c.loop-part.part-index c.deref-part-items.result.now)) ≡ spec.NoPart = ap (λ xs. conditions (map condition_of xs)) (drop_all c.loop-part.part-index c.deref-part-items.result.now c.loop-part-test.false) in
     let s : Joined and all_true True and_is env (conditions (map condition_of c.deref-part-items.result.now)) spec.NoPart (truth_answer_of c.loop-part.all) = rw none at c.loop-part.invariant in
@@ -118,7 +118,7 @@ returns-after-loop-part g t c =
 
 pub loop-part-2-init : goal.loop-part-2-init
 loop-part-2-init g t c =
-    let env = g.S.Surroundings.environment c.args.env.now in
+    let env = g.S.Environment.environment c.args.env.now in
     let tree : condition_of c.args.condition.now ≡ spec.Or (conditions (map condition_of c.in-Or.parts.items)) = ap condition_of c.in-Or.is ∙ of_or c.in-Or.parts in
     let fits : AllByRecursion (FitsTypes env) (values_of (spec.Or (conditions (map condition_of c.in-Or.parts.items)))) = rw tree at c.requires.fits in
     let typed : AllByRecursion IsTyped (values_of (spec.Or (conditions (map condition_of c.in-Or.parts.items)))) = rw tree at c.requires.typed in
@@ -127,7 +127,7 @@ loop-part-2-init g t c =
 
 pub truth-requires-in-loop-part-2 : goal.truth-requires-in-loop-part-2
 truth-requires-in-loop-part-2 g t c κs within =
-    let env = g.S.Surroundings.environment c.args.env.now in
+    let env = g.S.Environment.environment c.args.env.now in
     let x = c.part-item-in-loop-part-2.result in
     let rest = conditions (map condition_of (drop (c.loop-part-2.part-index + 1) c.deref-part-items-in-Or.result.now)) in
     let all : AreFit env (spec.Part (condition_of x) rest) = rw (part_next c.deref-part-items-in-Or.result.now c.loop-part-2.part-index x c.loop-part-2-test.true c.part-item-in-loop-part-2.is) at c.loop-part-2.invariant.fit in
@@ -138,7 +138,7 @@ truth-requires-in-loop-part-2 g t c κs within =
 
 pub loop-part-2-preserved : goal.loop-part-2-preserved
 loop-part-2-preserved g t c =
-    let env = g.S.Surroundings.environment c.args.env.now in
+    let env = g.S.Environment.environment c.args.env.now in
     let x = c.part-item-in-loop-part-2.result in
     let all = conditions (map condition_of c.deref-part-items-in-Or.result.now) in
     let rest = conditions (map condition_of (drop (c.loop-part-2.part-index + 1) c.deref-part-items-in-Or.result.now)) in
@@ -147,7 +147,7 @@ loop-part-2-preserved g t c =
 
 pub returns-after-loop-part-2 : goal.returns-after-loop-part-2
 returns-after-loop-part-2 g t c =
-    let env = g.S.Surroundings.environment c.args.env.now in
+    let env = g.S.Environment.environment c.args.env.now in
     let tree = ap condition_of c.in-Or.is ∙ of_or c.in-Or.parts in
     let none : conditions (map condition_of (drop c.loop-part-2.part-index c.deref-part-items-in-Or.result.now)) ≡ spec.NoPart = ap (λ xs. conditions (map condition_of xs)) (drop_all c.loop-part-2.part-index c.deref-part-items-in-Or.result.now c.loop-part-2-test.false) in
     let s : Joined or any_true False or_is env (conditions (map condition_of c.deref-part-items-in-Or.result.now)) spec.NoPart (truth_answer_of c.loop-part-2.any) = rw none at c.loop-part-2.invariant in

@@ -9,7 +9,7 @@ abbrev pub decreases-truth : goal.decreases-truth
 decreases-truth g l = goal.size-truth g l
 
 abbrev pub invariant-loop-part : goal.invariant-loop-part
-invariant-loop-part g l = Joined and all_true True and_is (g.S.Surroundings.environment l.env) (conditions (map condition_of l.part-items)) (conditions (map condition_of (drop l.part-index l.part-items))) (truth_answer_of l.all)
+invariant-loop-part g l = Joined and all_true True and_is (g.S.Environment.environment l.env) (conditions (map condition_of l.part-items)) (conditions (map condition_of (drop l.part-index l.part-items))) (truth_answer_of l.all)
 
 abbrev pub invariant-loop-part-2 : goal.invariant-loop-part-2
-invariant-loop-part-2 g l = Joined or any_true False or_is (g.S.Surroundings.environment l.env) (conditions (map condition_of l.part-items)) (conditions (map condition_of (drop l.part-index l.part-items))) (truth_answer_of l.any)
+invariant-loop-part-2 g l = Joined or any_true False or_is (g.S.Environment.environment l.env) (conditions (map condition_of l.part-items)) (conditions (map condition_of (drop l.part-index l.part-items))) (truth_answer_of l.any)

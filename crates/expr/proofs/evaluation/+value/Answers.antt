@@ -16,8 +16,8 @@ use Rattle.expr.proofs.evaluation.+value.Goals as goal
 pub value-left-requires : goal.value-left-requires
 value-left-requires g t c κs within =
     let tree = ap tree_of c.in-Chain.is ∙ of_chain c.in-Chain.first c.in-Chain.others in
-    let all : FitsTypes (g.S.Surroundings.environment c.args.env.now) (spec.Chain (tree_of c.in-Chain.first.value) (operands (map operand_of c.in-Chain.others.items))) = rw tree at c.requires.fits in
-    let fits : FitsTypes (g.S.Surroundings.environment c.args.env.now) (tree_of c.deref-in-Chain.result.now) = rw c.deref-in-Chain.ensures all.0 in
+    let all : FitsTypes (g.S.Environment.environment c.args.env.now) (spec.Chain (tree_of c.in-Chain.first.value) (operands (map operand_of c.in-Chain.others.items))) = rw tree at c.requires.fits in
+    let fits : FitsTypes (g.S.Environment.environment c.args.env.now) (tree_of c.deref-in-Chain.result.now) = rw c.deref-in-Chain.ensures all.0 in
     let whole : (type : ValueType) × (value_type (spec.Chain (tree_of c.in-Chain.first.value) (operands (map operand_of c.in-Chain.others.items))) ≡ Some type) = rw tree at c.requires.typed in
     let first = left_typed (value_type (tree_of c.in-Chain.first.value)) (operands (map operand_of c.in-Chain.others.items)) whole.0 whole.1 in
     let typed : (type : ValueType) × (value_type (tree_of c.deref-in-Chain.result.now) ≡ Some type) = rw c.deref-in-Chain.ensures (first.type, first.is) in
@@ -26,15 +26,15 @@ value-left-requires g t c κs within =
 pub loop-operand-init : goal.loop-operand-init
 loop-operand-init g t c =
     let tree : tree_of c.args.expr.now ≡ spec.Chain (tree_of c.in-Chain.first.value) (operands (map operand_of c.in-Chain.others.items)) = ap tree_of c.in-Chain.is ∙ of_chain c.in-Chain.first c.in-Chain.others in
-    let fits : FitsTypes (g.S.Surroundings.environment c.args.env.now) (spec.Chain (tree_of c.in-Chain.first.value) (operands (map operand_of c.in-Chain.others.items))) = rw tree at c.requires.fits in
+    let fits : FitsTypes (g.S.Environment.environment c.args.env.now) (spec.Chain (tree_of c.in-Chain.first.value) (operands (map operand_of c.in-Chain.others.items))) = rw tree at c.requires.fits in
     let whole : (type : ValueType) × (value_type (spec.Chain (tree_of c.in-Chain.first.value) (operands (map operand_of c.in-Chain.others.items))) ≡ Some type) = rw tree at c.requires.typed in
-    let tells : MayAnswer (value (g.S.Surroundings.environment c.args.env.now) (tree_of c.in-Chain.first.value)) (answer_of c.value-left.result) = rw c.deref-in-Chain.ensures at c.value-left.ensures in
-    let start = begin (g.S.Surroundings.environment c.args.env.now) (tree_of c.in-Chain.first.value) (operands (map operand_of c.in-Chain.others.items)) (answer_of c.value-left.result) tells fits (record { type = whole.0; is = whole.1 }) in
+    let tells : MayAnswer (value (g.S.Environment.environment c.args.env.now) (tree_of c.in-Chain.first.value)) (answer_of c.value-left.result) = rw c.deref-in-Chain.ensures at c.value-left.ensures in
+    let start = begin (g.S.Environment.environment c.args.env.now) (tree_of c.in-Chain.first.value) (operands (map operand_of c.in-Chain.others.items)) (answer_of c.value-left.result) tells fits (record { type = whole.0; is = whole.1 }) in
     rw (tree, c.deref-operand-items.ensures.value) start
 
 pub value-requires-in-loop-operand : goal.value-requires-in-loop-operand
 value-requires-in-loop-operand g t c κs within =
-    let env = g.S.Surroundings.environment c.args.env.now in
+    let env = g.S.Environment.environment c.args.env.now in
     let x = c.operand-item.result in
     let rest = operands (map operand_of (drop (c.loop-operand.operand-index + 1) c.deref-operand-items.result.now)) in
     let r : Reached env (value env (tree_of c.args.expr.now)) (spec.Operand (operator_of x.operator) (tree_of x.value) rest) (answer_of c.loop-operand.left) = rw (item_next c.deref-operand-items.result.now c.loop-operand.operand-index x c.loop-operand-test.true c.operand-item.is) at c.loop-operand.invariant in
@@ -45,7 +45,7 @@ value-requires-in-loop-operand g t c κs within =
 
 pub operated-left-requires : goal.operated-left-requires
 operated-left-requires g t c =
-    let env = g.S.Surroundings.environment c.args.env.now in
+    let env = g.S.Environment.environment c.args.env.now in
     let x = c.operand-item.result in
     let rest = operands (map operand_of (drop (c.loop-operand.operand-index + 1) c.deref-operand-items.result.now)) in
     let r : Reached env (value env (tree_of c.args.expr.now)) (spec.Operand (operator_of x.operator) (tree_of x.value) rest) (answer_of c.loop-operand.left) = rw (item_next c.deref-operand-items.result.now c.loop-operand.operand-index x c.loop-operand-test.true c.operand-item.is) at c.loop-operand.invariant in
@@ -54,7 +54,7 @@ operated-left-requires g t c =
 
 pub loop-operand-preserved : goal.loop-operand-preserved
 loop-operand-preserved g t c =
-    let env = g.S.Surroundings.environment c.args.env.now in
+    let env = g.S.Environment.environment c.args.env.now in
     let x = c.operand-item.result in
     let rest = operands (map operand_of (drop (c.loop-operand.operand-index + 1) c.deref-operand-items.result.now)) in
     let r : Reached env (value env (tree_of c.args.expr.now)) (spec.Operand (operator_of x.operator) (tree_of x.value) rest) (answer_of c.loop-operand.left) = rw (item_next c.deref-operand-items.result.now c.loop-operand.operand-index x c.loop-operand-test.true c.operand-item.is) at c.loop-operand.invariant in

@@ -9,4 +9,4 @@ abbrev pub decreases-value : goal.decreases-value
 decreases-value g l = goal.size-value g l
 
 abbrev pub invariant-loop-operand : goal.invariant-loop-operand
-invariant-loop-operand g l = Reached (g.S.Surroundings.environment l.env) (meaning.value (g.S.Surroundings.environment l.env) (tree_of l.expr)) (operands (map operand_of (drop l.operand-index l.operand-items))) (answer_of l.left)
+invariant-loop-operand g l = Reached (g.S.Environment.environment l.env) (meaning.value (g.S.Environment.environment l.env) (tree_of l.expr)) (operands (map operand_of (drop l.operand-index l.operand-items))) (answer_of l.left)

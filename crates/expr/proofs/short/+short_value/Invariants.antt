@@ -11,5 +11,5 @@ decreases-short_value g l = goal.size-short_value g l
 -- what is calculated so far goes on to what the whole means
 abbrev pub invariant-loop-operand : goal.invariant-loop-operand
 invariant-loop-operand g l =
-    meaning.chained (g.S.Surroundings.environment l.env) (Is (short_of l.left)) (operands (map operand_of (drop l.operand-index l.operand-items)))
-    ≡ meaning.value (g.S.Surroundings.environment l.env) (tree_of l.expr)
+    meaning.chained (g.S.Environment.environment l.env) (Is (short_of l.left)) (operands (map operand_of (drop l.operand-index l.operand-items)))
+    ≡ meaning.value (g.S.Environment.environment l.env) (tree_of l.expr)

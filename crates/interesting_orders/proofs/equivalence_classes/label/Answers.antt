@@ -4,12 +4,12 @@ use Rattle.std.specs.Prelude.{All, List, ℕ}
 use Rattle.query_tree.specs.Bound.{column_of}
 use Rattle.plan_tree.specs.Sets.{set_of}
 use Rattle.interesting_orders.specs.Labels.{IsBetween, Joins}
-use Rattle.interesting_orders.specs.declared.equivalence_classes.Equation.{Equation}
+use Rattle.interesting_orders.specs.declared.equivalence_classes.Equality.{Equality}
 use Rattle.interesting_orders.proofs.Labelling.{begin, pass, join}
 use Rattle.interesting_orders.proofs.equivalence_classes.label.Goals as goal
 use Rattle.interesting_orders.proofs.equivalence_classes.label.Goals.{then-has_both, else-has_both}
 
-abbrev no_equation : Equation
+abbrev no_equation : Equality
 no_equation = record { left = 0; right = 0 }
 
 pub equations-init : goal.equations-init
@@ -22,7 +22,7 @@ false≢true : false ≡ true → ⊥
 false≢true e = absurd cc
 
 -- the equation at a place, whatever stands for one past the end
-at_place : (equations : List Equation) (i : ℕ) (d : Equation) → i < length equations → get_or equations i d ≡ get_or equations i no_equation
+at_place : (equations : List Equality) (i : ℕ) (d : Equality) → i < length equations → get_or equations i d ≡ get_or equations i no_equation
 at_place equations i d h = get_or_default equations i d no_equation h
 
 pub equations-preserved : goal.equations-preserved

@@ -13,5 +13,5 @@ columns-preserved c = λ i h same. by_place i h same (cases_lt i c.columns.place
     by_place i h same (inr ge) =
         let here : i ≡ c.columns.place = omega (arith, h, ge) in
         let there = subst (λ k. column_at (map column_of c.args.columns.now) k ≡ column_of c.args.column) here same in
-        let yes = c.are_one.ensures.1 (sym (get_or-map column_of c.args.columns.now c.columns.place _ no_column c.columns-test.true) ∙ there) in
+        let yes = c.are_equal.ensures.1 (sym (get_or-map column_of c.args.columns.now c.columns.place _ no_column c.columns-test.true) ∙ there) in
         absurd cc

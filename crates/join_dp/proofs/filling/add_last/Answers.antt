@@ -33,15 +33,15 @@ pub returns-then-is_empty-clause-low : goal.returns-then-is_empty-clause-low
 returns-then-is_empty-clause-low c =
     alone (space_in c.args.space.now) (states_in c.args.states.now) (set_of c.args.tables) c.args.table c.add_accesses.new.row.found (set_of c.without-before.result) c.without-before.ensures.lacks c.without-before.ensures.rest c.requires.states ((Decides-eqb (set_of c.without-before.result) 0).0 (sym c.if-is_empty.ensures)) c.add_accesses.ensures.low
 
-pub may_follow-requires-clause-set : goal.may_follow-requires-clause-set
-may_follow-requires-clause-set c = omega (arith, c.requires.set, before_less (space_in c.args.space.now) (states_in c.args.states.now) (set_of c.args.tables) c.args.table c.args.row.now.found (set_of c.without-before.result) c.without-before.ensures.lacks c.without-before.ensures.rest)
+pub can_join_next-requires-clause-set : goal.can_join_next-requires-clause-set
+can_join_next-requires-clause-set c = omega (arith, c.requires.set, before_less (space_in c.args.space.now) (states_in c.args.states.now) (set_of c.args.tables) c.args.table c.args.row.now.found (set_of c.without-before.result) c.without-before.ensures.lacks c.without-before.ensures.rest)
 
-pub returns-then-not-may_follow-clause-below : goal.returns-then-not-may_follow-clause-below
-returns-then-not-may_follow-clause-below c = below_same _
+pub returns-then-not-can_join_next-clause-below : goal.returns-then-not-can_join_next-clause-below
+returns-then-not-can_join_next-clause-below c = below_same _
 
-pub returns-then-not-may_follow-clause-low : goal.returns-then-not-may_follow-clause-low
-returns-then-not-may_follow-clause-low c =
-    none_follows (space_in c.args.space.now) (states_in c.args.states.now) (set_of c.args.tables) c.args.table c.args.row.now.found (set_of c.without-before.result) c.without-before.ensures.lacks c.without-before.ensures.rest (not_empty (set_of c.without-before.result) c.if-is_empty.ensures) (fails _ c.if-not-may_follow.ensures)
+pub returns-then-not-can_join_next-clause-low : goal.returns-then-not-can_join_next-clause-low
+returns-then-not-can_join_next-clause-low c =
+    none_follows (space_in c.args.space.now) (states_in c.args.states.now) (set_of c.args.tables) c.args.table c.args.row.now.found (set_of c.without-before.result) c.without-before.ensures.lacks c.without-before.ensures.rest (not_empty (set_of c.without-before.result) c.if-is_empty.ensures) (fails _ c.if-not-can_join_next.ensures)
 
 pub add_loop-known-requires-clause-set : goal.add_loop-known-requires-clause-set
 add_loop-known-requires-clause-set c = omega (arith, c.requires.set, before_less (space_in c.args.space.now) (states_in c.args.states.now) (set_of c.args.tables) c.args.table c.args.row.now.found (set_of c.without-before.result) c.without-before.ensures.lacks c.without-before.ensures.rest)
@@ -79,5 +79,5 @@ pub returns-clause-steps : goal.returns-clause-steps
 returns-clause-steps c = λ sorts joins counts.
     let is = last_joins (space_in c.args.space.now) sorts joins (set_of c.args.tables) c.args.table (set_of c.without-before.result) (sym c.if-not-has.ensures) c.without-before.ensures.lacks c.without-before.ensures.rest (not_empty (set_of c.without-before.result) c.if-is_empty.ensures) in
     let merges = c.add_merges.ensures.steps in
-    let le = joins_counted (space_in c.args.space.now) sorts joins counts (set_of c.without-before.result) c.args.table c.args.row.now.steps c.add_loop-known.new.row.steps c.add_merges.new.row.steps (length (space_in c.args.space.now).orders) merges.0 (holds _ c.if-not-may_follow.ensures) merges.1 c.add_loop-known.ensures.steps merges.2 in
+    let le = joins_counted (space_in c.args.space.now) sorts joins counts (set_of c.without-before.result) c.args.table c.args.row.now.steps c.add_loop-known.new.row.steps c.add_merges.new.row.steps (length (space_in c.args.space.now).orders) merges.0 (holds _ c.if-not-can_join_next.ensures) merges.1 c.add_loop-known.ensures.steps merges.2 in
     omega (arith, is, le)

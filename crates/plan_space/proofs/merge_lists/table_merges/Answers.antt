@@ -10,8 +10,8 @@ use Rattle.estimate.specs.PlanConjuncts.{conjunct_of}
 use Rattle.interesting_orders.specs.Uses.{sets_in}
 use Rattle.plan_space.specs.Item.{AreItems}
 use Rattle.plan_space.specs.MergeListed.{merge_told, IsWay}
-use Rattle.plan_space.specs.declared.listed.ListedMerge.{ListedMerge}
-use Rattle.plan_space.specs.declared.listed.MergeWay.{MergeWay}
+use Rattle.plan_space.specs.declared.listed.MergeJoinPath.{MergeJoinPath}
+use Rattle.plan_space.specs.declared.listed.MergeClause.{MergeClause}
 use Rattle.plan_space.proofs.Walking.{AreFirst, one_first, none_added, all_first, added_by}
 use Rattle.plan_space.proofs.merge_lists.table_merges.Goals as goal
 use Rattle.plan_space.proofs.merge_lists.table_merges.Goals.{in-Some+in_ok-add_merges, in_default}
@@ -29,16 +29,16 @@ conjuncts-preserved c = λ version paths uses sort.
     let old = map merge_told c.conjuncts.merges.items in
     let before = c.conjuncts.invariant version paths uses sort in
     let new = map merge_told c.match-merge_way.merges.items in
-    let told = λ (v : Vec ListedMerge). map merge_told v.items in
+    let told = λ (v : Vec MergeJoinPath). map merge_told v.items in
     elim c.match-merge_way.branch [
       | in-Some+in_ok-add_merges w ↦
           let is : IsWay space a.table number (Some w.in-Some.way) = w.in-Some.ensures.exact space refl uses sort in
           let items : AreItems space no_tables a.table w.paths.result = subst (λ (s : TableSet). AreItems space s a.table w.paths.result) w.none.ensures (w.paths.ensures version paths) in
           let adds = added_by space a.table number w.in-Some.way w.paths.result old (map merge_told w.add_merges.new.merges.items) is items (λ own of_own. w.in_ok-add_merges.ensures space uses own of_own) in
-          subst (λ (v : Vec ListedMerge). AreFirst space a.table (number + 1) (map merge_told v.items)) (sym w.merges-is) (one_first space a.table number old (map merge_told w.add_merges.new.merges.items) before adds)
+          subst (λ (v : Vec MergeJoinPath). AreFirst space a.table (number + 1) (map merge_told v.items)) (sym w.merges-is) (one_first space a.table number old (map merge_told w.add_merges.new.merges.items) before adds)
       | in_default w ↦
-          let none : IsWay space a.table number None = subst (λ (way : Option MergeWay). IsWay space a.table number way) w.in_default.is (c.merge_way.ensures.exact space refl uses sort) in
-          subst (λ (v : Vec ListedMerge). AreFirst space a.table (number + 1) (map merge_told v.items)) (sym w.merges-is) (none_added space a.table number old before none)
+          let none : IsWay space a.table number None = subst (λ (way : Option MergeClause). IsWay space a.table number way) w.in_default.is (c.merge_way.ensures.exact space refl uses sort) in
+          subst (λ (v : Vec MergeJoinPath). AreFirst space a.table (number + 1) (map merge_told v.items)) (sym w.merges-is) (none_added space a.table number old before none)
     ]
 
 pub returns : goal.returns

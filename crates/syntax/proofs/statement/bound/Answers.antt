@@ -2,7 +2,7 @@ use Rattle.std.proofs.Common.{Some, None, false, Result}
 use Rattle.std.proofs.Common.{ap₂, ℕ, Bool, Option, unwrap_or, Result}
 use Rattle.definitions.specs.Statement as tree
 use Rattle.definitions.specs.Rule.{Reads}
-use Rattle.syntax_cursor.specs.declared.stop.Stop.{Stop}
+use Rattle.syntax_cursor.specs.declared.stop.ParseStop.{ParseStop}
 use Rattle.syntax_cursor.specs.Reading.{Place, Takes, Outcome}
 use Rattle.definitions.specs.Grammar as g
 use Rattle.syntax_cursor.proofs.Outcomes.{gives_as, reads_on, reads_not_on, says_not, begins}
@@ -10,7 +10,7 @@ use Rattle.syntax_cursor.proofs.Places.{here, on}
 use Rattle.syntax.proofs.Places as leaves
 use Rattle.syntax.proofs.statement.bound.Goals as goal
 
-signed : {p q t : Place} {l k : ℕ} {out : Result tree.Bound Stop} (o : Option Bool) → Takes g.sign_in (λ minus. minus) p q o → Outcome (λ m. g.UnsignedAt (unwrap_or o false)) l k q t out → Outcome (λ m. Reads g.sign_in (λ minus. g.UnsignedAt minus) (g.UnsignedAt false)) l k p t out
+signed : {p q t : Place} {l k : ℕ} {out : Result tree.Bound ParseStop} (o : Option Bool) → Takes g.sign_in (λ minus. minus) p q o → Outcome (λ m. g.UnsignedAt (unwrap_or o false)) l k q t out → Outcome (λ m. Reads g.sign_in (λ minus. g.UnsignedAt minus) (g.UnsignedAt false)) l k p t out
 signed None at out = reads_not_on at out
 signed (Some b) at out = reads_on at out
 

@@ -4,7 +4,7 @@ use Rattle.definitions.specs.Queries.Conjuncts.{conjuncts}
 use Rattle.query_tree.specs.Bound.{block_of}
 use Rattle.access_paths.specs.Found.{path_told}
 use Rattle.access_paths.specs.Listing.{whole_found, matching_found}
-use Rattle.access_paths.specs.Matches.{Chain}
+use Rattle.access_paths.specs.Matches.{IndexMatch}
 use Rattle.access_paths.specs.Views.{chain_told}
 use Rattle.access_paths.proofs.Pushing.{pushed, chain_at}
 use Rattle.access_paths.proofs.paths.IndexScan.push_all.Goals as goal
@@ -20,4 +20,4 @@ chains-init c = λ i size.
 pub matching-requires : goal.matching-requires
 matching-requires c =
     let b = block_of c.args.estimate.now.block in
-    record { there = chain_at (λ (k : Chain). AllByRecursion (λ n. n < length (conjuncts b)) k.conjuncts) c.args.chains.now c.chains.chain-index c.chain-item.result c.requires.there c.chains-test.true c.chain-item.is }
+    record { there = chain_at (λ (k : IndexMatch). AllByRecursion (λ n. n < length (conjuncts b)) k.conjuncts) c.args.chains.now c.chains.chain-index c.chain-item.result c.requires.there c.chains-test.true c.chain-item.is }

@@ -9,7 +9,7 @@ use Rattle.query_tree.specs.Bound.{block_of}
 use Rattle.estimate.specs.Sets.{tables_in}
 use Rattle.plan_space.proofs.Listing.{one_table_more}
 use Rattle.plan_space.specs.MergeListed.{merge_told, AreMergesOf}
-use Rattle.plan_space.specs.declared.listed.ListedMerge.{ListedMerge}
+use Rattle.plan_space.specs.declared.listed.MergeJoinPath.{MergeJoinPath}
 use Rattle.plan_space.proofs.merge_lists.BlockMerges.new.Goals as goal
 
 pub sort_cost-sort_cost-requires : goal.sort_cost-sort_cost-requires
@@ -28,7 +28,7 @@ tables-preserved c =
       len = length-append before _ ∙ omega (arith, c.tables.invariant.len);
       each = λ version paths uses estimates.
           let sort : c.sort_cost-sort_cost.result ≡ sort_cost db block (only c.tables.table) = c.sort_cost-sort_cost.ensures.exact db block estimates ∙ ap (sort_cost db block) c.only.ensures in
-          one_table_more (AreMergesOf (space_of version db block)) (λ (v : Vec ListedMerge). map merge_told v.items) before new c.tables.table
+          one_table_more (AreMergesOf (space_of version db block)) (λ (v : Vec MergeJoinPath). map merge_told v.items) before new c.tables.table
           c.tables.invariant.len (c.tables.invariant.each version paths uses estimates) (c.in_ok-table_merges.ensures version paths uses sort);
     })
 
