@@ -10,7 +10,7 @@ use Rattle.access_paths.specs.Matches.{IndexMatch, index_matches}
 use Rattle.access_paths.specs.Found.{FoundPath}
 use Rattle.access_paths.specs.Listing.{scans_found, index_found, number_found}
 use Rattle.access_paths.specs.Views.{chain_told}
-use Rattle.access_paths.specs.declared.chains.IndexMatch.{IndexMatch as Code}
+use Rattle.access_paths.specs.declared.index_matches.IndexMatch.{IndexMatch as Code}
 
 onto : {X Z : Type 0} (f : X → Z) (xs : List X) (x : X) (zs : List Z) → map f (xs ++ x ∷ []) ++ zs ≡ map f xs ++ f x ∷ zs
 onto f [] x zs = refl

@@ -6,7 +6,7 @@ use Rattle.definitions.specs.Limits.{most_index_columns}
 use Rattle.definitions.specs.Queries.BoundBlock.{Block}
 use Rattle.access_paths.specs.Matches.{Match, IndexMatch, before, only_match, chains_from, with_column, matches_of, index_matches}
 use Rattle.access_paths.specs.Views.{chain_told}
-use Rattle.access_paths.specs.declared.chains.IndexMatch.{IndexMatch as Code}
+use Rattle.access_paths.specs.declared.index_matches.IndexMatch.{IndexMatch as Code}
 
 abbrev pub HaveRoom : List IndexMatch → Type 0
 HaveRoom = AllByRecursion (λ (c : IndexMatch). length c.conjuncts < most_index_columns)

@@ -2,9 +2,9 @@
 use Rattle.plan_tree.specs.Sets.{set_of}
 use Rattle.access_paths.specs.Bounds as b
 use Rattle.access_paths.specs.Matches as m
-use Rattle.access_paths.specs.declared.bounds.SargableTerm.{SargableTerm}
-use Rattle.access_paths.specs.declared.matches.MatchingTerm.{MatchingTerm}
-use Rattle.access_paths.specs.declared.chains.IndexMatch.{IndexMatch}
+use Rattle.access_paths.specs.declared.sargable_terms.SargableTerm.{SargableTerm}
+use Rattle.access_paths.specs.declared.matching_terms.MatchingTerm.{MatchingTerm}
+use Rattle.access_paths.specs.declared.index_matches.IndexMatch.{IndexMatch}
 
 abbrev pub bound_told : SargableTerm → b.SargableTerm
 bound_told x = record { equals = x.equals; required_outer = set_of x.required_outer }

@@ -2,10 +2,10 @@
 //! (Selinger et al. 1979, sections 4 and 5).
 #![tactic(auto)]
 
-mod bounds;
-mod chains;
-mod matches;
+mod index_matches;
+mod matching_terms;
 mod paths;
+mod sargable_terms;
 mod scans;
 
 pub use paths::{TablePath, table_paths};

@@ -18,7 +18,7 @@ ghost use Rattle.access_paths.specs.Scans.{IsSizeOf};
 ghost use Rattle.access_paths.specs.Matches as matches;
 ghost use Rattle.access_paths.specs.Views.{chain_told};
 
-use crate::chains::{IndexMatch, index_matches};
+use crate::index_matches::{IndexMatch, index_matches};
 use crate::scans::{IndexSize, ScanCost};
 use estimate::Estimate;
 use plan_tree::{Path, TableSet};

@@ -14,7 +14,7 @@ ghost use Rattle.query_tree.specs.Bound.{block_of};
 ghost use Rattle.access_paths.specs.Scans.{cost_with, matching_scan, scan_cost_of, whole_scan, IsSizeOf};
 ghost use Rattle.access_paths.specs.Views.{chain_told};
 
-use crate::chains::IndexMatch;
+use crate::index_matches::IndexMatch;
 use catalog::{Index, Table};
 use estimate::{Estimate, fraction, saturated, share};
 

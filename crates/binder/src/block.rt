@@ -19,7 +19,7 @@ use query_rules::{
     BindFault, Clause, ClauseKind, QueryFault, Scopes, group_columns, is_grouped, judge_limits,
     shown_place,
 };
-use query_tree::{Block, Aggregate, Condition, Item, ValueType};
+use query_tree::{Aggregate, Block, Condition, Item, ValueType};
 use std::alloc::Global;
 
 /// How many blocks a query may have (own).

@@ -14,7 +14,7 @@ ghost use Rattle.binder.specs.Meaning.{IsLine, IsList, members_in, progress_of, 
 use crate::value::value;
 use parse_tree::{Expr, LineOperator, Operand};
 use query_rules::{BindFault, Clause, ClauseKind, QueryFault, are_logical, judge_kinds};
-use query_tree::{Block, Aggregate, Condition, ValueExpr, ValueType};
+use query_tree::{Aggregate, Block, Condition, ValueExpr, ValueType};
 
 /// How many members an IN list may have (own).
 pub const MAX_MEMBERS: usize = 256;

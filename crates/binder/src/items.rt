@@ -15,7 +15,7 @@ ghost use Rattle.binder.specs.Meaning.{progress_of};
 use crate::value::value;
 use parse_tree::{Expr, SelectList};
 use query_rules::{BindFault, Clause, Scopes};
-use query_tree::{Block, Aggregate, Item, ValueExpr, ValueType};
+use query_tree::{Aggregate, Block, Item, ValueExpr, ValueType};
 use std::alloc::{AllocError, Global};
 
 /// The result columns of a block, and the type of the only one if it is alone.

@@ -17,10 +17,10 @@ ghost use Rattle.query_rules.specs.Meaning.{place_of, query_refusal};
 use crate::condition::column_of_query;
 use parse_tree::{Expr, Operand, SetFunction};
 use query_rules::{
-    BindFault, Clause, ClauseKind, QueryFault, Typed, are_logical, column, function_type, joined_scale,
-    number, number_scale, operator, string,
+    BindFault, Clause, ClauseKind, QueryFault, Typed, are_logical, column, function_type,
+    joined_scale, number, number_scale, operator, string,
 };
-use query_tree::{Block, Aggregate, Operand as BoundOperand, ValueExpr, ValueType};
+use query_tree::{Aggregate, Block, Operand as BoundOperand, ValueExpr, ValueType};
 use std::alloc::AllocError;
 
 /// A value (ISO/IEC 9075:1992, 6.11), its blocks and set functions behind those before.

@@ -4,7 +4,7 @@ use crate::cases::Case;
 use crate::spelling::push_plan;
 use crate::steps::{Kind, Steps};
 use catalog::Database;
-use plan_space::{PlanSummary, Plan, Space, Version};
+use plan_space::{Plan, PlanSummary, Space, Version};
 use std::alloc::{AllocError, Global};
 use tests_support::{PathPart, Step, apply, block, built, space};
 

@@ -11,7 +11,7 @@ ghost use Rattle.indexes.specs.Meaning.{index_statistics_of, key_range_of};
 ghost use Rattle.parse_tree.specs.Trees.{bound_of, range_of, statistics_of};
 ghost use Rattle.catalog.specs.Statistics.{IsGiven, RefusesGiven, RefusesRange};
 
-use crate::fault::{StatisticsFault, RangeEnd};
+use crate::fault::{RangeEnd, StatisticsFault};
 use indexes::{IndexStatistics, KeyRange};
 use loading::{WrittenNumber, units_in};
 use parse_tree::{Bound, Range};

@@ -15,7 +15,7 @@ ghost use Rattle.catalog.specs.Loads.{LoadsNamed, RefusesNamed};
 
 use crate::creation::judge_definitions;
 use crate::fault::{
-    CreateFault, StatisticsFault, IndexFault, ListFault, LoadFault, TableStatisticsFault,
+    CreateFault, IndexFault, ListFault, LoadFault, StatisticsFault, TableStatisticsFault,
 };
 use crate::table::Table;
 use parse_tree::{ColumnDefinition, Name};

@@ -13,8 +13,8 @@ mod table;
 pub use bound::MAX_FIGURE;
 pub use database::{Database, MAX_COLUMNS, MAX_TABLES};
 pub use fault::{
-    CreateFault, EarlierRow, StatisticsFault, IndexFault, ListFault, LoadFault, RangeEnd,
-    RepeatedRecord, TableStatisticsFault,
+    CreateFault, EarlierRow, IndexFault, ListFault, LoadFault, RangeEnd, RepeatedRecord,
+    StatisticsFault, TableStatisticsFault,
 };
 pub use indexes::{Index, IndexStatistics, KeyRange, RepeatedKey, TableStatistics};
 pub use loading::{RecordFault, RefusedRecord};

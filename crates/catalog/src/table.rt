@@ -14,7 +14,7 @@ ghost use Rattle.sqlvalue.specs.Meaning.{op_of, type_of, value_of};
 
 use crate::bound::{kept_statistics, page_count, row_count};
 use crate::creation::{key_indexes, new_columns};
-use crate::fault::{CreateFault, StatisticsFault, IndexFault, LoadFault, TableStatisticsFault};
+use crate::fault::{CreateFault, IndexFault, LoadFault, StatisticsFault, TableStatisticsFault};
 use crate::growth::{Grown, grow};
 use crate::naming::{number_of, numbers, second_twin};
 use indexes::{Index, TableStatistics, UniqueFault, row_width};
@@ -293,7 +293,11 @@ impl Table {
     }
 
     /// SET STATISTICS of the table (own). An `Err` leaves it as it was.
-    pub(crate) fn set_statistics(&mut self, rows: u128, pages: u128) -> Result<(), TableStatisticsFault>
+    pub(crate) fn set_statistics(
+        &mut self,
+        rows: u128,
+        pages: u128,
+    ) -> Result<(), TableStatisticsFault>
         ensures given { OnOk result (IsCount rows × IsPageCount pages) }
         ensures set { OnOk result (self.new ≡ change.with_table_statistics self.old (record { rows = rows; pages = pages })) }
         ensures refused { IfErr result (RefusesTableStatistics rows pages) }

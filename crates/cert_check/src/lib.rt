@@ -9,4 +9,4 @@ mod target;
 mod verdict;
 
 pub use rules::{check, check_outside};
-pub use verdict::{StateKey, Rule, Verdict};
+pub use verdict::{Rule, StateKey, Verdict};

@@ -15,7 +15,7 @@ use crate::accesses::access_failing;
 use crate::joins::join_failing;
 use crate::sorts::sort_failing;
 use crate::target::{final_order, is_met};
-use crate::verdict::{StateKey, Rule, Verdict};
+use crate::verdict::{Rule, StateKey, Verdict};
 use plan_space::Space;
 use plan_tree::{Certificate, Plan, TableSet};
 

@@ -51,7 +51,7 @@ pub(crate) fn plan_meant(
             let Some(inner) = inner_meant(block, path, *sorted) else {
                 return Ok(None);
             };
-            Ok(Some(merged(alloc, outer, from_zero(*conjunct), inner)?))
+            Ok(Some(merge_plan(alloc, outer, from_zero(*conjunct), inner)?))
         }
         WrittenPlan::Sort { input, order } => {
             let Some(input) = plan_meant(alloc, block, input)? else {
@@ -65,7 +65,7 @@ pub(crate) fn plan_meant(
 }
 
 /// A plan, merged with an inner side.
-fn merged(alloc: Global, outer: Plan, conjunct: usize, inner: Inner) -> Result<Plan, AllocError>
+fn merge_plan(alloc: Global, outer: Plan, conjunct: usize, inner: Inner) -> Result<Plan, AllocError>
     ensures { IfOk result (λ plan. plan_of plan ≡ Merge (plan_of outer) conjunct (inner_of inner)) }
 {
     let outer = Box::new(alloc, outer)?;

@@ -18,7 +18,7 @@ ghost use Rattle.plan_space.specs.Planned.{space_in};
 ghost use Rattle.certificate_files.specs.Telling.{StandsFor, IsToldBy, IsOfText, told_of};
 
 use catalog::Database;
-use cert_check::{StateKey, Rule, Verdict, check, check_outside};
+use cert_check::{Rule, StateKey, Verdict, check, check_outside};
 use certificate::{BlockSpace, Spelled, TextFault, read_text};
 use interesting_orders::Version;
 use plan_space::Space;

@@ -98,7 +98,11 @@ pub(crate) fn number_before(text: &[u8], behind: Word) -> Result<(u64, &[u8]), T
 }
 
 /// A number between two words.
-pub(crate) fn number_between(text: &[u8], before: Word, behind: Word) -> Result<(u64, &[u8]), TextStop>
+pub(crate) fn number_between(
+    text: &[u8],
+    before: Word,
+    behind: Word,
+) -> Result<(u64, &[u8]), TextStop>
     ensures { Reads (λ n. n) (NumberBetween (word_text before) (word_text behind) text.now) result }
 {
     let text = pass(text, before)?;

@@ -25,7 +25,7 @@ pub(crate) fn path<'a>(
     match first_byte(text) {
         b'S' => segment(text, version),
         b'I' => index(text, version),
-        b'M' => matched(alloc, text, version),
+        b'M' => read_match(alloc, text, version),
         _ => Err(stop_before(text, Expected::Path)),
     }
 }
@@ -53,7 +53,7 @@ fn index(text: &[u8], version: Version) -> Result<(WrittenPath, &[u8]), TextStop
     Ok((path, text))
 }
 
-fn matched<'a>(
+fn read_match<'a>(
     alloc: Global,
     text: &'a [u8],
     version: Version,

@@ -37,14 +37,14 @@ pub(crate) fn plan<'a>(
         return Err(stop_before(text, Expected::FewerWords));
     };
     if first_byte(text) == b'A' {
-        return access(alloc, text, version);
+        return read_access(alloc, text, version);
     }
     let (around, text) = opening(text)?;
     let (below, text) = plan(alloc, text, version, left)?;
     wrapped(alloc, around, below, text, version)
 }
 
-fn access<'a>(
+fn read_access<'a>(
     alloc: Global,
     text: &'a [u8],
     version: Version,
@@ -89,13 +89,13 @@ fn wrapped<'a>(
     ensures { Reads plan_said (WrappedIn (version_of version) around (plan_said below) text.now) result }
 {
     match around {
-        Around::Loop => looped(alloc, below, text, version),
-        Around::Merge => merged(alloc, below, text, version),
-        Around::Sort => sorted(alloc, below, text, version),
+        Around::Loop => read_loop(alloc, below, text, version),
+        Around::Merge => read_merge(alloc, below, text, version),
+        Around::Sort => read_sort(alloc, below, text, version),
     }
 }
 
-fn looped<'a>(
+fn read_loop<'a>(
     alloc: Global,
     outer: WrittenPlan,
     text: &'a [u8],
@@ -109,7 +109,7 @@ fn looped<'a>(
     Ok((WrittenPlan::Loop { outer, path }, text))
 }
 
-fn merged<'a>(
+fn read_merge<'a>(
     alloc: Global,
     outer: WrittenPlan,
     text: &'a [u8],
@@ -151,7 +151,7 @@ fn second_byte(text: &[u8]) -> u8
     }
 }
 
-fn sorted<'a>(
+fn read_sort<'a>(
     alloc: Global,
     input: WrittenPlan,
     text: &'a [u8],

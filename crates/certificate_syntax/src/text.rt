@@ -53,7 +53,11 @@ fn whole(alloc: Global, bytes: &[u8], version: Version) -> Result<Written, TextS
     }
 }
 
-fn lines<'a>(alloc: Global, text: &'a [u8], version: Version) -> Result<(Written, &'a [u8]), TextStop>
+fn lines<'a>(
+    alloc: Global,
+    text: &'a [u8],
+    version: Version,
+) -> Result<(Written, &'a [u8]), TextStop>
     ensures { Reads said_of (TextIn (version_of version) text.now) result }
 {
     let (block, text) = block_lines(text, version)?;

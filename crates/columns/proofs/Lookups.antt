@@ -18,8 +18,8 @@ use Rattle.columns.specs.Numbers.{number_values, numbers_of}
 use Rattle.columns.specs.Texts.{text_values, texts_of}
 use Rattle.definitions.specs.IndexRun.{is_from, Inclusive, Exclusive}
 use Rattle.columns.specs.Starts.{value_in, starts, IsHeld}
-use Rattle.columns.specs.declared.start.LowerBound.{LowerBound}
-use Rattle.columns.specs.declared.start.LowerBound.TheVariants as at
+use Rattle.columns.specs.declared.lower_bound.LowerBound.{LowerBound}
+use Rattle.columns.specs.declared.lower_bound.LowerBound.TheVariants as at
 use Rattle.columns.proofs.NumberLists.{number_value}
 use Rattle.columns.proofs.TextLists.{text_value}
 use Rattle.columns.proofs.Orders.{le_product, lt_product, gt_by_tests, ge_by_tests}

@@ -10,8 +10,8 @@ use Rattle.definitions.specs.IndexRun.{Limit, Unlimited, Inclusive, Exclusive}
 use Rattle.sqlvalue.specs.Meaning.{value_of}
 use Rattle.sqlvalue.specs.declared.value.Value as code
 use Rattle.columns.specs.Cells.{CellList}
-use Rattle.columns.specs.declared.start.LowerBound.{LowerBound}
-use Rattle.columns.specs.declared.start.LowerBound.TheVariants as s
+use Rattle.columns.specs.declared.lower_bound.LowerBound.{LowerBound}
+use Rattle.columns.specs.declared.lower_bound.LowerBound.TheVariants as s
 
 -- the value in a row; null past the end
 abbrev pub value_in : CellList → ℕ → Value

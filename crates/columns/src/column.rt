@@ -9,8 +9,8 @@ ghost use Rattle.sqlvalue.specs.Meaning.{op_of, type_of, value_of};
 ghost use Rattle.columns.specs.Columns.{cells_of};
 ghost use Rattle.columns.specs.Starts.{limit_of, starts, IsHeld, AreApart, AreMet, value_in, Splits, AreOrdered};
 
+use crate::lower_bound::LowerBound;
 use crate::number::NumberColumn;
-use crate::start::LowerBound;
 use crate::text::TextColumn;
 use sqlvalue::{ComparisonOperator, SqlType, Value};
 use std::alloc::{AllocError, Global};
@@ -74,7 +74,13 @@ impl Column {
     /// Of so many rows from `first` on, those in which a comparison of the column's value with another is true, and
     /// those in which it is unknown (ISO/IEC 9075:1992, 8.2): bit i of a word is set exactly where it is so in row
     /// `first + i`.
-    pub fn scan(&self, op: ComparisonOperator, value: &Value, first: usize, rows: usize) -> (u64, u64)
+    pub fn scan(
+        &self,
+        op: ComparisonOperator,
+        value: &Value,
+        first: usize,
+        rows: usize,
+    ) -> (u64, u64)
         requires few { rows ≤ 64 }
         requires within { first + rows ≤ length (cells_of self.now).values }
         ensures met { result.0 ≡ true_word (op_of op) (value_of value.now) (part_of first rows (cells_of self.now).values) }

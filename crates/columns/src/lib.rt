@@ -2,17 +2,17 @@
 #![tactic(auto)]
 
 mod column;
+mod lower_bound;
 mod null_bits;
 mod number;
 mod range;
-mod start;
 mod text;
 mod text_word;
 mod units;
 mod words;
 
 pub use column::Column;
+pub use lower_bound::LowerBound;
 pub use number::NumberColumn;
-pub use start::LowerBound;
 pub use text::TextColumn;
 pub use words::all_rows;

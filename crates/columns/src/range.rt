@@ -8,7 +8,7 @@ ghost use Rattle.definitions.specs.Limits.{greatest_precision, greatest_scale};
 ghost use Rattle.sqlvalue.specs.Meaning.{op_of};
 ghost use Rattle.columns.specs.Ranges.{is_in};
 
-use sqlvalue::{Num, ComparisonOperator};
+use sqlvalue::{ComparisonOperator, Num};
 
 /// The units for which a comparison is true: those of a range, or those outside it (own).
 #[derive(Clone, Copy)]

@@ -12,8 +12,8 @@ ghost use Rattle.definitions.specs.Key.{is_null as is_null_value};
 ghost use Rattle.definitions.specs.IndexRun.{is_from as is_from_limit};
 ghost use Rattle.columns.specs.Starts.{limit_of, option_text, starts, IsHeld, AreApart, AreMet, value_in};
 
+use crate::lower_bound::LowerBound;
 use crate::null_bits::NullBits;
-use crate::start::LowerBound;
 use crate::text_word::{order_of_texts, texts_word};
 use crate::words::all_rows;
 use sqlvalue::{ComparisonOperator, Value};
@@ -100,7 +100,13 @@ impl TextColumn {
     /// Of so many rows from `first` on, those in which a comparison of the column's value with another is true, and
     /// those in which it is unknown (ISO/IEC 9075:1992, 8.2): bit i of a word is set exactly where it is so in row
     /// `first + i`.
-    pub fn scan(&self, op: ComparisonOperator, value: &Value, first: usize, rows: usize) -> (u64, u64)
+    pub fn scan(
+        &self,
+        op: ComparisonOperator,
+        value: &Value,
+        first: usize,
+        rows: usize,
+    ) -> (u64, u64)
         requires few { rows ≤ 64 }
         requires within { first + rows ≤ list_length self.now.values }
         ensures met { result.0 ≡ true_word (op_of op) (value_of value.now) (part_of first rows self.now.values) }

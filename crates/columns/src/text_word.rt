@@ -44,7 +44,13 @@ impl Wanted {
 /// Which texts of a column agree with a comparison with a value: bit i is set exactly where the
 /// i-th does (ISO/IEC 9075:1992, 8.2, general rule 3). The texts stand in a row, each `length`
 /// characters long.
-pub(crate) fn texts_word(characters: &[u8], length: usize, rows: usize, op: ComparisonOperator, value: &[u8]) -> u64
+pub(crate) fn texts_word(
+    characters: &[u8],
+    length: usize,
+    rows: usize,
+    op: ComparisonOperator,
+    value: &[u8],
+) -> u64
     requires few { rows ≤ 64 }
     requires within { rows * length ≤ list_length characters.now }
     ensures { result ≡ word_of (map (λ text. agrees (op_of op) (text_cmp text value.now)) (texts_in length rows characters.now)) }

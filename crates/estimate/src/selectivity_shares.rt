@@ -17,7 +17,7 @@ use crate::fractions::{ONE_HALF, ONE_QUARTER, ONE_TENTH, ONE_THIRD, fraction, re
 use crate::sides::Side;
 use catalog::Table;
 use query_tree::BlockColumn;
-use sqlvalue::{Num, ComparisonOperator};
+use sqlvalue::{ComparisonOperator, Num};
 
 /// The share of the rows that have one key, in millionths: one of as many as an index has, or a tenth where there is no index
 /// (Selinger et al. 1979, table 1).
@@ -33,15 +33,24 @@ pub fn one_key(keys: Option<u64>) -> u32
 }
 
 /// A comparison: `a >= b` is as `a > b`, `a < b` as `b > a`, and `a <> b` as NOT `a = b`.
-pub(crate) fn comparison_share(tables: &[&Table], op: ComparisonOperator, left: Side, right: Side) -> u32
+pub(crate) fn comparison_share(
+    tables: &[&Table],
+    op: ComparisonOperator,
+    left: Side,
+    right: Side,
+) -> u32
     ensures exact { (db : Database) (block : Block) → AreTablesOf db block (tables_of tables.now) → result ≡ spec.comparison_share db block (op_of op) (side_in left) (side_in right) }
     ensures below { result ≤ million }
 {
     match op {
         ComparisonOperator::Equals => equal_share(tables, left, right),
         ComparisonOperator::NotEquals => rest_of(equal_share(tables, left, right)),
-        ComparisonOperator::GreaterThan | ComparisonOperator::GreaterOrEquals => greater_share(tables, left, right),
-        ComparisonOperator::LessThan | ComparisonOperator::LessOrEquals => greater_share(tables, right, left),
+        ComparisonOperator::GreaterThan | ComparisonOperator::GreaterOrEquals => greater_share(
+            tables, left, right,
+        ),
+        ComparisonOperator::LessThan | ComparisonOperator::LessOrEquals => greater_share(
+            tables, right, left,
+        ),
     }
 }
 

@@ -21,7 +21,7 @@ use catalog::Database;
 use operators::open;
 use plan_tree::{Plan, SortKey};
 use query_tree::Block;
-use scans::{NoOuterRows, BlockSource};
+use scans::{BlockSource, NoOuterRows};
 use std::alloc::Global;
 
 /// What a block prints: the answer of a query of one block that is neither grouped nor DISTINCT nor ordered, by a least plan of it; and how

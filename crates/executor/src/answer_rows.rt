@@ -17,7 +17,7 @@ use crate::fault::AnswerFault;
 use crate::late::{late_conditions, try_all};
 use crate::lines::Lines;
 use query_tree::{Block, Condition, Item};
-use scans::{OuterRows, Composite, RowContext, TupleSource, BlockSource};
+use scans::{BlockSource, Composite, OuterRows, RowContext, TupleSource};
 use std::alloc::Global;
 
 /// What a block prints of the composites that pass its early conjuncts: its header, its rows and how many there are; or an

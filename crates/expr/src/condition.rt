@@ -14,12 +14,12 @@ ghost use Rattle.definitions.specs.Queries.Telling.{MayAnswer};
 ghost use Rattle.query_tree.specs.Bound.{condition_of, member_of};
 ghost use Rattle.expr.specs.Answers.{answer_of, truth_answer_of, IsTyped};
 
+use crate::environments::Environment;
 use crate::evaluation::value;
 use crate::predicate::{
     both, compared, either, fits, has_row, is_null, opposite, quantified, unless,
 };
 use crate::short::compared_in_short;
-use crate::surroundings::Environment;
 use query_tree::{Condition, Quantifier, ValueExpr};
 use sqlvalue::{ComparisonOperator, Raise, Tri, Value};
 
@@ -129,7 +129,11 @@ fn is_member<'a, S: Environment>(
     for member in members {
         any = either(
             any,
-            compared(ComparisonOperator::Equals, operand, member_value(member, env)),
+            compared(
+                ComparisonOperator::Equals,
+                operand,
+                member_value(member, env),
+            ),
         );
     }
     any

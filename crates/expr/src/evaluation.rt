@@ -9,8 +9,8 @@ ghost use Rattle.definitions.specs.Queries.Telling.{MayAnswer};
 ghost use Rattle.query_tree.specs.Bound.{value_of as tree_of};
 ghost use Rattle.expr.specs.Answers.{answer_of};
 
+use crate::environments::Environment;
 use crate::operation::{only_value, operated, signed};
-use crate::surroundings::Environment;
 use query_tree::ValueExpr;
 use sqlvalue::{Raise, Value};
 

@@ -2,14 +2,14 @@
 #![tactic(auto)]
 
 mod condition;
+mod environments;
 mod evaluation;
 mod operation;
 mod predicate;
 mod raising;
 mod short;
-mod surroundings;
 
 pub use condition::truth;
+pub use environments::Environment;
 pub use evaluation::value;
 pub use raising::{can_raise, condition_can_raise};
-pub use surroundings::Environment;

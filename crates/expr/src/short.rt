@@ -11,9 +11,9 @@ ghost use Rattle.query_tree.specs.Bound.{operator_of, value_of as tree_of};
 ghost use Rattle.definitions.specs.Value.{Number};
 ghost use Rattle.expr.specs.Shorts.{short_of, IsWhole};
 
-use crate::surroundings::Environment;
+use crate::environments::Environment;
 use query_tree::{Operator, ValueExpr};
-use sqlvalue::{Num, ComparisonOperator, Tri, Value};
+use sqlvalue::{ComparisonOperator, Num, Tri, Value};
 
 /// A null, or a number of so many units at a scale.
 #[derive(Clone, Copy)]

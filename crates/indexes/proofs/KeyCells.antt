@@ -19,7 +19,7 @@ use Rattle.loading.specs.Stored.{StoredColumn, AreFilled, headers, row_at, rows_
 use Rattle.indexes.specs.KeyColumns.{cells_at, key_cells}
 use Rattle.indexes.specs.declared.unique.UniqueFault.{UniqueFault}
 use Rattle.indexes.specs.declared.unique.UniqueFault.TheVariants as u
-use Rattle.indexes.specs.declared.order.IndexKind.{IndexKind}
+use Rattle.indexes.specs.declared.index_kind.IndexKind.{IndexKind}
 use Rattle.indexes.specs.Orders.{IsOrderOf, RefusesOrder, is_unique, run_of}
 use Rattle.indexes.specs.Indexes.{StoredIndex, AreIndexColumns, IsIndexOn, RefusesIndexOn}
 

@@ -5,7 +5,7 @@ use Rattle.std.specs.Int.{div_ceil}
 use Rattle.std.proofs.lemmas.Bool.{false≢true, cases_lt}
 use Rattle.columns.specs.Cells.{CellList}
 use Rattle.columns.specs.Starts.{AreOrdered, Splits, starts, value_in}
-use Rattle.columns.specs.declared.start.LowerBound.{LowerBound}
+use Rattle.columns.specs.declared.lower_bound.LowerBound.{LowerBound}
 
 before_false : (test : ℕ → Bool) (first end i j : ℕ) → AreOrdered test first end → first ≤ i → i ≤ j → j < end → test j ≡ false → test i ≡ false
 before_false test first end i j o h l m e = of (test i) refl

@@ -13,7 +13,7 @@ use Rattle.definitions.proofs.Ranking.{rank_total}
 use Rattle.indexes.specs.Stretches.{turned_limit}
 use Rattle.std.specs.List.{AllByRecursion}
 use Rattle.columns.specs.Cells.{CellList}
-use Rattle.columns.specs.declared.start.LowerBound.{LowerBound}
+use Rattle.columns.specs.declared.lower_bound.LowerBound.{LowerBound}
 use Rattle.indexes.proofs.PagedValues.{held_at}
 use Rattle.std.specs.declared.ops.Bound.{Bound}
 use Rattle.std.specs.declared.ops.Bound.TheVariants.{Included, Excluded, Unbounded}

@@ -8,8 +8,8 @@ use Rattle.indexes.specs.Runs.{Index}
 use Rattle.indexes.specs.Repeats.{IsFirstRepeated}
 use Rattle.indexes.specs.declared.unique.UniqueFault.{UniqueFault}
 use Rattle.indexes.specs.declared.unique.UniqueFault.TheVariants as u
-use Rattle.indexes.specs.declared.order.IndexKind.{IndexKind}
-use Rattle.indexes.specs.declared.order.IndexKind.TheVariants as o
+use Rattle.indexes.specs.declared.index_kind.IndexKind.{IndexKind}
+use Rattle.indexes.specs.declared.index_kind.IndexKind.TheVariants as o
 
 abbrev pub run_of : IndexKind → Index
 run_of (o.Sorted index) = index

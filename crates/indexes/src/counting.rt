@@ -11,9 +11,9 @@ ghost use Rattle.indexes.specs.Meaning.{index_statistics_of, key_range_of};
 ghost use Rattle.indexes.specs.Orders.{run_of};
 ghost use Rattle.indexes.specs.Ranges.{widened_by};
 
-use crate::statistics::{IndexStatistics, KeyRange};
-use crate::order::IndexKind;
+use crate::index_kind::IndexKind;
 use crate::pages::entry_pages;
+use crate::statistics::{IndexStatistics, KeyRange};
 use loading::Column;
 use sqlvalue::Value;
 

@@ -13,10 +13,10 @@ ghost use Rattle.indexes.specs.Meaning.{index_statistics_of};
 ghost use Rattle.indexes.specs.Indexes.{AreIndexColumns, IsIndexOn, RefusesIndexOn, IsBeginning};
 
 use crate::counting::counted;
-use crate::statistics::IndexStatistics;
+use crate::index_kind::IndexKind;
 use crate::key_columns::key_columns;
-use crate::order::IndexKind;
 use crate::ordered::OrderedIndex;
+use crate::statistics::IndexStatistics;
 use crate::unique::UniqueFault;
 use loading::Column;
 use sqlvalue::Value;

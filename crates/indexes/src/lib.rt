@@ -3,25 +3,25 @@
 
 mod counting;
 mod extension;
-mod statistics;
 mod index;
+mod index_kind;
 mod key_column;
 mod key_columns;
 mod keys;
-mod order;
 mod ordered;
 mod pages;
 mod repeated;
 mod run;
 mod sorted;
 mod sorting;
+mod statistics;
 mod unique;
 
 pub use extension::{ExtendFault, RepeatedRow, extended};
-pub use statistics::{IndexStatistics, KeyRange, TableStatistics};
 pub use index::Index;
 pub use ordered::OrderedIndex;
 pub use pages::row_width;
 pub use repeated::RepeatedKey;
 pub use sorted::SortedIndex;
+pub use statistics::{IndexStatistics, KeyRange, TableStatistics};
 pub use unique::{UniqueFault, UniqueIndex};

@@ -15,7 +15,7 @@ ghost use Rattle.interesting_orders.specs.Places.{AreBetween};
 ghost use Rattle.interesting_orders.specs.Reach.{AreThose};
 ghost use Rattle.interesting_orders.specs.Merges.{leading_of, IsOpened, IsWithin, IsWithSide};
 
-use crate::equivalence_classes::{EquivalenceClasses, Equality};
+use crate::equivalence_classes::{Equality, EquivalenceClasses};
 use crate::places::{are_equal, equated_columns, equations_of, place_of, stated};
 use crate::reach::with_table;
 use estimate::PlanConjunct;

@@ -6,8 +6,8 @@ ghost use Rattle.join_dp.specs.Solved.{AreSolvedBelow};
 ghost use Rattle.join_dp.specs.States.{states_in, starts_in};
 ghost use Rattle.plan_space.specs.Planned.{space_in};
 
-use crate::filling::fill_row;
-use crate::row::SetCandidates;
+use crate::candidates::fill_row;
+use crate::set_candidates::SetCandidates;
 use crate::states::States;
 use plan_space::Space;
 use plan_tree::TableSet;

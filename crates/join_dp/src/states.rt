@@ -7,7 +7,7 @@ ghost use Rattle.join_dp.specs.Counting.{AreFew};
 ghost use Rattle.join_dp.specs.Indexing.{AreStarts};
 ghost use Rattle.join_dp.specs.States.{solved_of};
 
-use crate::row::SetCandidates;
+use crate::set_candidates::SetCandidates;
 use crate::step::Candidate;
 use plan_tree::TableSet;
 use std::alloc::{AllocError, Global};

@@ -14,7 +14,7 @@ ghost use Rattle.loading.specs.Stored.{named, with_value, cut_to};
 use crate::cells;
 use crate::fault::PushFault;
 use parse_tree::Constraint;
-use sqlvalue::{FieldFault, ComparisonOperator, SqlType, Value};
+use sqlvalue::{ComparisonOperator, FieldFault, SqlType, Value};
 use std::alloc::{AllocError, Global};
 use std::marker::Model;
 
@@ -110,7 +110,13 @@ impl Column {
     /// Of so many rows from `first` on, those in which a comparison of the column's value with another is true, and
     /// those in which it is unknown (ISO/IEC 9075:1992, 8.2): bit i of a word is set exactly where it is so in row
     /// `first + i`.
-    pub fn scan(&self, op: ComparisonOperator, value: &Value, first: usize, rows: usize) -> (u64, u64)
+    pub fn scan(
+        &self,
+        op: ComparisonOperator,
+        value: &Value,
+        first: usize,
+        rows: usize,
+    ) -> (u64, u64)
         requires few { rows ≤ 64 }
         requires within { first + rows ≤ length self.now.values }
         ensures met { result.0 ≡ true_word (op_of op) (value_of value.now) (part_of first rows self.now.values) }

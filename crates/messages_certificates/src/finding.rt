@@ -13,7 +13,7 @@ use crate::steps::{access_below, join_below, sort_below, state_at};
 use crate::target::target_missed;
 use catalog::Database;
 use certificate::{BlockSpace, Spelled, Version, read_text};
-use certificate_files::{Expected, FileTold, StateKey, Rule, TextFault, Told};
+use certificate_files::{Expected, FileTold, Rule, StateKey, TextFault, Told};
 use query_tree::Block;
 use std::alloc::{AllocError, Global};
 

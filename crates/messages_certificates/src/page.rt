@@ -1,6 +1,6 @@
 //! Places of a file as people are shown them.
 
-use messages_excerpts::{Lines, LineColumn, write_excerpt};
+use messages_excerpts::{LineColumn, Lines, write_excerpt};
 use std::fmt::{self, Formatter};
 
 /// A file whose places are found from one to the next.

@@ -7,5 +7,5 @@ mod lines;
 mod visible;
 
 pub use excerpt::write_excerpt;
-pub use lines::{Lines, LineColumn};
+pub use lines::{LineColumn, Lines};
 pub use visible::{Visible, VisibleBytes};

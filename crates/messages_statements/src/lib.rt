@@ -4,7 +4,6 @@
 #![tactic(auto)]
 
 mod create;
-mod statistics;
 mod index;
 mod list;
 mod places;
@@ -12,13 +11,14 @@ mod query_places;
 mod record;
 mod repeated;
 mod report;
+mod statistics;
 mod suggestions;
 mod text;
 mod wanted;
 mod words;
 
 pub use messages_certificates::FileReport;
-pub use messages_excerpts::{Lines, LineColumn};
+pub use messages_excerpts::{LineColumn, Lines};
 pub use query_places::offset_of_fault;
 pub use report::{Report, Reporter};
 pub use suggestions::{Nearest, write_near_column, write_near_table};

@@ -1,9 +1,9 @@
 //! Where causes stand in the script.
 
 use crate::create::name_at_fault;
-use crate::statistics::{offset_of_statistics, offset_of_table_statistics};
 use crate::index::name_of_index;
 use crate::query_places::offset_of_fault;
+use crate::statistics::{offset_of_statistics, offset_of_table_statistics};
 use lexer::LexFault;
 use sqlr::Cause;
 

@@ -6,21 +6,21 @@ ghost use Rattle.definitions.specs.Binding.Formed.{IsFormedSomewhere};
 ghost use Rattle.query_tree.specs.Bound.{block_of};
 
 use crate::create::write_create;
-use crate::statistics::{write_statistics, write_table_statistics};
 use crate::index::write_index;
 use crate::list::write_list_hint;
 use crate::places::offset_of;
 use crate::record::{FileRecord, write_record, write_record_hint};
 use crate::repeated::write_repeated;
+use crate::statistics::{write_statistics, write_table_statistics};
 use crate::suggestions::write_near_table;
 use crate::text::{write_lexical, write_lexical_hint};
 use crate::wanted::{write_too_deep, write_unexpected, write_unexpected_hint};
 use catalog::{
-    Database, StatisticsFault, IndexFault, ListFault, MAX_ROWS, RefusedRecord, RepeatedRecord,
+    Database, IndexFault, ListFault, MAX_ROWS, RefusedRecord, RepeatedRecord, StatisticsFault,
     TableStatisticsFault,
 };
 use messages_certificates::FileReport;
-use messages_excerpts::{Lines, LineColumn, write_excerpt};
+use messages_excerpts::{LineColumn, Lines, write_excerpt};
 use sqlr::{Cause, CheckedFile, ColumnList, FileLoad, Refused};
 use std::alloc::Global;
 use std::fmt::{self, Display, Formatter};

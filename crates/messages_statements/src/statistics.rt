@@ -1,7 +1,7 @@
 //! Why the statistics of a table or of an index are not set.
 
 use crate::list::{Listed, name_at, name_in_list, write_list};
-use catalog::{Database, StatisticsFault, MAX_FIGURE, RangeEnd, TableStatisticsFault};
+use catalog::{Database, MAX_FIGURE, RangeEnd, StatisticsFault, TableStatisticsFault};
 use sqlr::{ColumnList, StatisticsCause, TableStatisticsCause};
 use std::fmt::{self, Display, Formatter};
 use syntax::{Bound, Count, Range};

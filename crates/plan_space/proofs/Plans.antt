@@ -19,7 +19,7 @@ use Rattle.plan_space.specs.Merge as m
 use Rattle.plan_space.specs.Merge.{IsMerge, IsMergeItem, AreMerges}
 use Rattle.plan_space.proofs.Sides.{same_sides}
 use Rattle.plan_space.specs.Measures.{IsMeasured, IsPathFound, IsMergeFound}
-use Rattle.plan_space.specs.declared.measured.PlanSummary.{PlanSummary}
+use Rattle.plan_space.specs.declared.plan_summary.PlanSummary.{PlanSummary}
 
 -- ---- a path among items
 

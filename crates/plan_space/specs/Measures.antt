@@ -9,7 +9,7 @@ use Rattle.definitions.specs.Plans.Cost.{cost_of}
 use Rattle.plan_tree.specs.Sets.{set_of}
 use Rattle.plan_space.specs.Item.{Item, IsItem}
 use Rattle.plan_space.specs.Merge.{Merge, IsMerge, IsMergeItem}
-use Rattle.plan_space.specs.declared.measured.PlanSummary.{PlanSummary}
+use Rattle.plan_space.specs.declared.plan_summary.PlanSummary.{PlanSummary}
 
 module _ (space : Space) where
   -- a plan of the block, with all that is said of it

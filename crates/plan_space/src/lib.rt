@@ -4,21 +4,21 @@
 
 mod join_graph;
 mod listed;
-mod measured;
-mod measuring;
 mod merge_joins;
 mod merge_lists;
 mod path_lists;
 mod paths;
+mod plan_summary;
 mod same;
 mod space;
+mod summarising;
 
 pub use interesting_orders::{Sorts, Version};
 pub use join_graph::JoinGraph;
-pub use measured::PlanSummary;
 pub use merge_joins::{CostedMerge, Merges};
 pub use merge_lists::BlockMerges;
 pub use path_lists::BlockPaths;
 pub use paths::{CostedPath, Paths};
+pub use plan_summary::PlanSummary;
 pub use plan_tree::{Inner, Path, Plan, SortKey, TableSet};
 pub use space::Space;

@@ -23,7 +23,7 @@ ghost use Rattle.plan_space.specs.PathLists as block_paths;
 ghost use Rattle.plan_space.specs.Merge.{AddsMerges, AddsPath, AreMerges};
 ghost use Rattle.plan_space.specs.MergeListed.{merge_told, AreMergesOf, IsWay};
 
-use crate::listed::{MergeJoinPath, MergeClause};
+use crate::listed::{MergeClause, MergeJoinPath};
 use crate::merge_joins::Merges;
 use crate::path_lists::BlockPaths;
 use crate::paths::{CostedPath, Paths};
@@ -166,7 +166,12 @@ fn add_path(
 }
 
 /// A merge of a conjunct with a path, whose inner side costs so much.
-fn listed(way: MergeClause, path: &Path, sorted: bool, cost: u64) -> Result<MergeJoinPath, AllocError>
+fn listed(
+    way: MergeClause,
+    path: &Path,
+    sorted: bool,
+    cost: u64,
+) -> Result<MergeJoinPath, AllocError>
     ensures { IfOk result (λ merge. merge_told merge ≡ record { conjunct = way.conjunct; other = way.other; inner = record { path = path_of path.now; sorted = sorted }; cost = cost; selectivity = way.selectivity }) }
 {
     Ok(MergeJoinPath {

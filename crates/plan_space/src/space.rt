@@ -25,12 +25,12 @@ ghost use Rattle.plan_space.specs.Links.{LinksSay};
 ghost use Rattle.plan_space.specs.Measures.{Measures};
 
 use crate::join_graph::JoinGraph;
-use crate::measured::PlanSummary;
-use crate::measuring::measure;
 use crate::merge_joins::Merges;
 use crate::merge_lists::BlockMerges;
 use crate::path_lists::BlockPaths;
 use crate::paths::Paths;
+use crate::plan_summary::PlanSummary;
+use crate::summarising::summarise;
 use estimate::{Estimate, SetEstimates, saturated};
 use interesting_orders::{InterestingOrders, SortOrders, Sorts, Version, required_order};
 use plan_tree::{Plan, SortKey, TableSet};
@@ -86,7 +86,13 @@ impl<'a> Space<'a> {
         let orders = SortOrders::new(alloc, &estimate, version, &required)?;
         let paths = BlockPaths::new(alloc, &estimate, version, &orders)?;
         let estimates = SetEstimates::new(alloc, &estimate)?;
-        let uses = InterestingOrders::new(alloc, estimate.conjuncts(), orders.all(), &required, tables)?;
+        let uses = InterestingOrders::new(
+            alloc,
+            estimate.conjuncts(),
+            orders.all(),
+            &required,
+            tables,
+        )?;
         let merges = BlockMerges::new(alloc, &estimate, &paths, &uses, &estimates)?;
         let links = table_links(alloc, &estimate, version)?;
         Ok(Space {
@@ -255,14 +261,14 @@ impl<'a> Space<'a> {
     pub fn measured(&self, plan: &Plan) -> Option<PlanSummary>
         ensures { Measures (space_in self.now) (plan_of plan.now) result }
     {
-        measure(self, plan)
+        summarise(self, plan)
     }
 
     /// Whether any plan is in the space: a plan of the block on all its tables.
     pub fn in_space(&self, plan: &Plan) -> bool
         ensures { Decides result (InSpace (space_in self.now) (plan_of plan.now)) }
     {
-        match measure(self, plan) {
+        match summarise(self, plan) {
             Some(found) => found.tables.place() == self.whole().place(),
             None => false,
         }
@@ -274,7 +280,7 @@ impl<'a> Space<'a> {
         ensures exact { result ≡ cost_of (space_in self.now) (plan_of plan.now) }
         ensures below { result ≤ limit }
     {
-        match measure(self, plan) {
+        match summarise(self, plan) {
             Some(found) => found.cost,
             None => unreachable!(),
         }

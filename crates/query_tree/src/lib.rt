@@ -6,7 +6,7 @@ mod condition;
 mod leaf;
 mod value;
 
-pub use block::{Block, Aggregate, Item, Key};
+pub use block::{Aggregate, Block, Item, Key};
 pub use condition::Condition;
 pub use leaf::{BlockColumn, NumberLiteral, Operator, ValueType};
 pub use parse_tree::{Quantifier, SetFunction};

@@ -7,7 +7,7 @@
 ghost use Rattle.std.specs.Prelude.{◌≡◌, length, IfOk};
 
 use columns::NumberColumn;
-use sqlvalue::{Num, ComparisonOperator, SqlType, Value};
+use sqlvalue::{ComparisonOperator, Num, SqlType, Value};
 use std::alloc::{AllocError, Global};
 use std::rt::Runtime;
 use std::{env, io};

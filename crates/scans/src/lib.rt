@@ -1,19 +1,19 @@
 //! Scans: the rows that an access path gives, one after another, and the composites of rows that plans hand on.
 #![tactic(auto)]
 
-mod around;
+mod block_source;
 mod composite;
 mod looking;
-mod place;
-mod pull;
-mod run;
+mod outer_rows;
+mod row_context;
 mod scan_key;
-mod source;
+mod scan_rows;
+mod tuple_source;
 
-pub use around::{OuterRows, NoOuterRows};
+pub use block_source::BlockSource;
 pub use composite::Composite;
 pub use looking::rows_of_path;
-pub use place::RowContext;
-pub use pull::TupleSource;
-pub use run::ScanRows;
-pub use source::BlockSource;
+pub use outer_rows::{NoOuterRows, OuterRows};
+pub use row_context::RowContext;
+pub use scan_rows::ScanRows;
+pub use tuple_source::TupleSource;

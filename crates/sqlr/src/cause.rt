@@ -2,7 +2,7 @@
 
 use binder::QueryFault;
 use catalog::{
-    CreateFault, StatisticsFault, IndexFault, RefusedRecord, RepeatedRecord, TableStatisticsFault,
+    CreateFault, IndexFault, RefusedRecord, RepeatedRecord, StatisticsFault, TableStatisticsFault,
 };
 use lexer::LexFault;
 use sqlvalue::Refusal;

@@ -18,7 +18,7 @@ mod session;
 mod sink;
 
 pub use cause::{
-    Cause, ColumnList, StatisticsCause, FileLoad, QueryCause, Refused, TableStatisticsCause,
+    Cause, ColumnList, FileLoad, QueryCause, Refused, StatisticsCause, TableStatisticsCause,
 };
 pub use certificate_files::FileTold;
 pub use checked::CheckedFile;

@@ -8,7 +8,7 @@ mod standard_error;
 ghost use Rattle.std.specs.Prelude.{◌≡◌, ◌<◌};
 
 use folder::{FileFault, Folder};
-use messages_statements::{Lines, LineColumn, Reporter};
+use messages_statements::{LineColumn, Lines, Reporter};
 use output::Output;
 use sqlr::requests::{Request, Script};
 use sqlr::{Failures, RunFault, Session, request, status};

@@ -17,7 +17,7 @@ ghost use Rattle.syntax.specs.Reading.{LineAt, OperandAt};
 
 use crate::query;
 use lexer::{Symbol, Word};
-use parse_tree::{Block, ColumnReference, Expr, ComparisonOperator, Operand, SetFunction};
+use parse_tree::{Block, ColumnReference, ComparisonOperator, Expr, Operand, SetFunction};
 use syntax_cursor::{Cursor, LineKind, ParseStop, TokenClass};
 
 /// `operand { operator operand }`, of one of the four kinds (ISO/IEC 9075:1992, 8.12 and 6.12).
@@ -420,7 +420,10 @@ fn subquery(cursor: &mut Cursor, levels: u8) -> Result<Box<Block>, ParseStop>
 }
 
 /// `name [ "." name ]`, where a rule looks for a class of tokens (ISO/IEC 9075:1992, 6.4).
-pub fn column_reference(cursor: &mut Cursor, class: TokenClass) -> Result<ColumnReference, ParseStop>
+pub fn column_reference(
+    cursor: &mut Cursor,
+    class: TokenClass,
+) -> Result<ColumnReference, ParseStop>
     ensures reads { ParsesFlat grammar.ReferenceAt cursor.old cursor.new (viewed column_of result) }
     ensures placed { IfOk result (λ reference. Stands cursor.old cursor.new (reference_leaves reference)) }
 {

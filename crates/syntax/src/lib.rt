@@ -10,9 +10,9 @@ mod statement;
 
 pub use fault::{SyntaxFault, Unexpected};
 pub use parse_tree::{
-    Block, Bound, ColumnDefinition, ColumnReference, Constraint, Count, Expr, IndexStatistics, Item,
-    Key, KeyName, LineOperator, Name, Numeral, ComparisonOperator, Operand, Quantifier, Range, Select, SelectList,
-    SetFunction, Source, Statement, StringLiteral,
+    Block, Bound, ColumnDefinition, ColumnReference, ComparisonOperator, Constraint, Count, Expr,
+    IndexStatistics, Item, Key, KeyName, LineOperator, Name, Numeral, Operand, Quantifier, Range,
+    Select, SelectList, SetFunction, Source, Statement, StringLiteral,
 };
 pub use parser::{MAX_LEVELS, parse};
 pub use syntax_cursor::{TokenClass, Wanted};

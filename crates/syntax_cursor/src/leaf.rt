@@ -11,7 +11,7 @@ ghost use Rattle.syntax_cursor.specs.Reading.{Takes};
 use crate::class::TokenClass;
 use crate::cursor::Cursor;
 use lexer::{Symbol, TokenKind, Word};
-use parse_tree::{LineOperator, ComparisonOperator, Quantifier, SetFunction};
+use parse_tree::{ComparisonOperator, LineOperator, Quantifier, SetFunction};
 
 /// The four kinds of line, the loosest first (ISO/IEC 9075:1992, 8.12 and 6.12).
 #[derive(Clone, Copy)]

@@ -185,7 +185,10 @@ fn a_new_index_leaves_all_other_statistics(rt: HostRuntime) -> Result<(), Fail> 
         range: None,
     };
     let table = database.table("T").expect(&rt, "the table");
-    assert_eq!(rt; (table.statistics().rows, table.statistics().pages), (1000, 50));
+    assert_eq!(rt;
+        (table.statistics().rows, table.statistics().pages),
+        (1000, 50)
+    );
     assert_eq!(rt;
         (statistics_at(table, 0), statistics_at(table, 1)),
         (Some(SET_FIGURES), Some(counted))
@@ -199,7 +202,10 @@ fn statistics_that_are_set_hold_until_a_load(rt: HostRuntime) -> Result<(), Fail
     assert!(rt; apply(rt.alloc(), &mut database, SET));
     assert!(rt; database.load("T", b"1,a\n1,b\n").is_err());
     let table = database.table("T").expect(&rt, "the table");
-    assert_eq!(rt; (table.statistics().rows, table.statistics().pages), (1000, 50));
+    assert_eq!(rt;
+        (table.statistics().rows, table.statistics().pages),
+        (1000, 50)
+    );
     assert_eq!(rt; statistics_at(table, 0), Some(SET_FIGURES));
     assert_eq!(rt; database.load("T", b"8,a\n6,b\n"), Ok(2));
     let table = database.table("T").expect(&rt, "the table");

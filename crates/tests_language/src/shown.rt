@@ -5,9 +5,9 @@ use crate::writer::Writer;
 use sqlvalue::DeclaredType;
 use std::alloc::{AllocError, Global};
 use syntax::{
-    Block, Bound, ColumnDefinition, ColumnReference, Constraint, Count, Expr, IndexStatistics, Item,
-    Key, KeyName, LineOperator, Name, Numeral, ComparisonOperator, Operand, Quantifier, Select, SelectList,
-    SetFunction, Source, Statement, StringLiteral,
+    Block, Bound, ColumnDefinition, ColumnReference, ComparisonOperator, Constraint, Count, Expr,
+    IndexStatistics, Item, Key, KeyName, LineOperator, Name, Numeral, Operand, Quantifier, Select,
+    SelectList, SetFunction, Source, Statement, StringLiteral,
 };
 
 /// Statements as text, with a semicolon between two.
@@ -95,7 +95,11 @@ impl Writer {
     fn statistics(&mut self, statistics: IndexStatistics) {
         self.count(" KEYS ", statistics.keys);
         self.count(" PAGES ", statistics.pages);
-        self.put(if statistics.clustered { " CLUSTERED" } else { "" });
+        self.put(if statistics.clustered {
+            " CLUSTERED"
+        } else {
+            ""
+        });
         if let Some(range) = statistics.range {
             self.bound(" LOW ", range.low);
             self.bound(" HIGH ", range.high);

@@ -5,8 +5,8 @@ ghost use Rattle.estimate.specs.Estimated.{IsFormed};
 ghost use Rattle.scans.specs.Sources.{block_in};
 
 use operators::open;
-use plan_space::{PlanSummary, Plan, Space};
-use scans::{Composite, NoOuterRows, TupleSource, BlockSource};
+use plan_space::{Plan, PlanSummary, Space};
+use scans::{BlockSource, Composite, NoOuterRows, TupleSource};
 use std::alloc::{AllocError, Global};
 
 /// What a plan comes to, what it gave, and how many rows were opened for that.

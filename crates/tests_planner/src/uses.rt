@@ -49,7 +49,11 @@ fn push_sorts(
 }
 
 /// The orders that give the one that is asked for.
-fn push_giving(text: &mut String, uses: &InterestingOrders, orders: usize) -> Result<(), AllocError> {
+fn push_giving(
+    text: &mut String,
+    uses: &InterestingOrders,
+    orders: usize,
+) -> Result<(), AllocError> {
     for order in 0..orders {
         if uses.gives_required(order) {
             write!(text, "{order} ")?;
@@ -141,7 +145,13 @@ fn uses_of(
     let required = required_order(alloc, block)?;
     let orders = SortOrders::new(alloc, estimate, version, &required)?;
     let tables = estimate.table_count();
-    let uses = InterestingOrders::new(alloc, estimate.conjuncts(), orders.all(), &required, tables)?;
+    let uses = InterestingOrders::new(
+        alloc,
+        estimate.conjuncts(),
+        orders.all(),
+        &required,
+        tables,
+    )?;
     serve(alloc, &uses, orders.all().len(), tables)
 }
 

@@ -6,7 +6,7 @@ ghost use Rattle.sqlvalue.specs.Meaning.{type_of};
 ghost use Rattle.columns.specs.Columns.{cells_of};
 
 use columns::{Column, NumberColumn, TextColumn};
-use sqlvalue::{Num, ComparisonOperator, SqlType, Value};
+use sqlvalue::{ComparisonOperator, Num, SqlType, Value};
 use std::alloc::{AllocError, Global};
 use std::process::Abort;
 

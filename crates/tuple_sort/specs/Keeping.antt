@@ -1,8 +1,8 @@
 -- Packed rows as code keeps them.
 use Rattle.std.specs.Prelude.{ℕ, List, map}
 use Rattle.tuple_sort.specs.Keys.{packed_in}
-use Rattle.tuple_sort.specs.declared.kept.SortBuffer.{SortBuffer}
-use Rattle.tuple_sort.specs.declared.kept.SortBuffer.TheVariants as k
+use Rattle.tuple_sort.specs.declared.sort_buffer.SortBuffer.{SortBuffer}
+use Rattle.tuple_sort.specs.declared.sort_buffer.SortBuffer.TheVariants as k
 
 abbrev pub rows_of : SortBuffer → List (List ℕ)
 rows_of (k.One rows) = map packed_in rows.items

@@ -19,7 +19,7 @@ pub(crate) fn row_in(members: &[usize], rows: &[u32], table: usize) -> u32
 }
 
 /// The rows of some tables in a composite, and 0 in the room behind them.
-pub(crate) fn packed<const WIDTH: usize>(members: &[usize], composite: &[u32]) -> [u32; WIDTH]
+pub(crate) fn pack<const WIDTH: usize>(members: &[usize], composite: &[u32]) -> [u32; WIDTH]
     requires room { length members.now ≤ WIDTH }
     ensures { result ≡ packed WIDTH members.now composite.now }
 {
@@ -31,7 +31,7 @@ pub(crate) fn packed<const WIDTH: usize>(members: &[usize], composite: &[u32]) -
 }
 
 /// The composite of packed rows, of a block of so many tables.
-pub(crate) fn unpacked(members: &[usize], rows: &[u32], width: usize) -> Composite
+pub(crate) fn unpack(members: &[usize], rows: &[u32], width: usize) -> Composite
     requires few { width ≤ 14 }
     ensures { numbers_in width result ≡ unpacked width members.now rows.now }
 {

@@ -9,8 +9,8 @@ ghost use Rattle.plan_tree.specs.Plans.{order_of};
 ghost use Rattle.tuple_sort.specs.Keys.{ranked_by_keys};
 ghost use Rattle.tuple_sort.specs.Values.{value_in_packed};
 
-use crate::keyed::SortTuple;
 use crate::packing::row_in;
+use crate::sort_tuple::SortTuple;
 use plan_tree::SortKey;
 use scans::BlockSource;
 use sqlvalue::{Value, rank};

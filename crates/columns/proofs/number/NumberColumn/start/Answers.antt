@@ -6,7 +6,7 @@ use Rattle.definitions.specs.IndexRun.{is_from, Inclusive, Exclusive}
 use Rattle.definitions.specs.Value.{Number, scale_of}
 use Rattle.std.proofs.lemmas.Int.{to_z-of_z}
 use Rattle.columns.specs.Starts.{starts, limit_of}
-use Rattle.columns.specs.declared.start.LowerBound.TheVariants as at
+use Rattle.columns.specs.declared.lower_bound.LowerBound.TheVariants as at
 use Rattle.columns.proofs.Lookups.{from_number, above_number}
 use Rattle.columns.proofs.number.NumberColumn.start.Goals as goal
 

@@ -1,0 +1,121 @@
+//! What conditions say of a column.
+
+ghost use Rattle.std.specs.Prelude.{◌≡◌, ◌∷◌, [], option_map};
+ghost use Rattle.definitions.specs.Queries.Conjuncts.{tables_in, tables_named};
+ghost use Rattle.definitions.specs.Estimates.Paths as paths;
+ghost use Rattle.query_tree.specs.Bound.{column_of, condition_of, value_of};
+ghost use Rattle.conjuncts.specs.Naming.{AreFew, NamesFew};
+ghost use Rattle.sqlvalue.specs.Meaning.{op_of};
+ghost use Rattle.plan_tree.specs.Sets.{set_of};
+ghost use Rattle.access_paths.specs.Bounds as spec;
+ghost use Rattle.access_paths.specs.Views.{bound_told};
+
+use conjuncts::value_tables;
+use plan_tree::TableSet;
+use query_tree::{BlockColumn, Condition, ValueExpr};
+use sqlvalue::ComparisonOperator;
+
+/// A bound of a column's values: whether they are to be equal to a value, and the tables whose rows that is made of.
+#[derive(Clone, Copy)]
+pub(crate) struct SargableTerm {
+    pub equals: bool,
+    pub required_outer: TableSet,
+}
+
+/// What a condition says of a column, if it matches it (Selinger et al. 1979, section 4: sargable predicates that match an index).
+pub(crate) fn bound_of(column: BlockColumn, condition: &Condition) -> Option<SargableTerm>
+    requires few { NamesFew (condition_of condition.now) }
+    ensures exact { option_map bound_told result ≡ spec.bound_of (column_of column) (condition_of condition.now) }
+{
+    match condition {
+        Condition::Compare { op, left, right } => {
+            comparison_bound(*op, other_side(column, left, right))
+        }
+        Condition::Between {
+            negated: false,
+            value,
+            low,
+            high,
+        } => between_bound(column, value, low, high),
+        _ => None,
+    }
+}
+
+fn comparison_bound(
+    op: ComparisonOperator,
+    required_outer: Option<TableSet>,
+) -> Option<SargableTerm>
+    ensures exact { option_map bound_told result ≡ spec.comparison_bound (op_of op) (option_map set_of required_outer) }
+{
+    let required_outer = required_outer?;
+    match op {
+        ComparisonOperator::NotEquals => None,
+        ComparisonOperator::Equals => Some(SargableTerm {
+            equals: true,
+            required_outer,
+        }),
+        _ => Some(SargableTerm {
+            equals: false,
+            required_outer,
+        }),
+    }
+}
+
+/// The tables of the other side, where one side is the column.
+fn other_side(column: BlockColumn, left: &ValueExpr, right: &ValueExpr) -> Option<TableSet>
+    requires few { AreFew (tables_in (value_of left.now ∷ value_of right.now ∷ [])) }
+    ensures exact { option_map set_of result ≡ spec.other_side (column_of column) (value_of left.now) (value_of right.now) }
+{
+    if is_column(column, left) {
+        tables_beside(column.table, right)
+    } else if is_column(column, right) {
+        tables_beside(column.table, left)
+    } else {
+        None
+    }
+}
+
+/// Both ends of BETWEEN are known.
+fn between_bound(
+    column: BlockColumn,
+    value: &ValueExpr,
+    low: &ValueExpr,
+    high: &ValueExpr,
+) -> Option<SargableTerm>
+    requires few { AreFew (tables_in (value_of value.now ∷ value_of low.now ∷ value_of high.now ∷ [])) }
+    ensures exact { option_map bound_told result ≡ spec.between_bound (column_of column) (value_of value.now) (value_of low.now) (value_of high.now) }
+{
+    if !is_column(column, value) {
+        return None;
+    }
+    let below = tables_beside(column.table, low)?;
+    let above = tables_beside(column.table, high)?;
+    Some(SargableTerm {
+        equals: false,
+        required_outer: below.union(above),
+    })
+}
+
+/// The tables of a value, unless it is made of rows of the table itself.
+fn tables_beside(table: usize, value: &ValueExpr) -> Option<TableSet>
+    requires few { AreFew (tables_named (value_of value.now)) }
+    ensures exact { option_map set_of result ≡ spec.tables_beside table (value_of value.now) }
+{
+    let tables = value_tables(value);
+    if tables.has(table) {
+        None
+    } else {
+        Some(tables)
+    }
+}
+
+fn is_column(column: BlockColumn, value: &ValueExpr) -> bool
+    ensures exact { result ≡ paths.is_column (column_of column) (value_of value.now) }
+{
+    match value {
+        ValueExpr::Column { column: own, .. } => {
+            own.table == column.table && own.number == column.number
+        }
+        _ => false,
+    }
+}
