@@ -19,7 +19,7 @@ use crate::fault::CreateFault;
 use crate::naming::second_twin;
 use crate::table::MAX_INDEXES;
 use indexes::{Index, UniqueFault};
-use loading::Column;
+use loading::TableColumn;
 use parse_tree::{ColumnDefinition, Constraint};
 use std::alloc::Global;
 
@@ -103,7 +103,7 @@ fn is_primary_key(constraint: Constraint) -> bool
 pub(crate) fn new_columns(
     alloc: Global,
     definitions: &[ColumnDefinition],
-) -> Result<Vec<Column>, CreateFault>
+) -> Result<Vec<TableColumn>, CreateFault>
     ensures ok { IfOk result (λ columns. columns.items ≡ map empty_column (definitions_of definitions.now)) }
     ensures types { OnOk result (AreTypes (definitions_of definitions.now)) }
     ensures err { IfErr result (RefusesTypes (definitions_of definitions.now)) }
@@ -120,7 +120,7 @@ pub(crate) fn new_columns(
             }
         };
         let name = definition.name.text.as_str();
-        made.push(Column::new(alloc, name, sql_type, definition.constraint)?)?;
+        made.push(TableColumn::new(alloc, name, sql_type, definition.constraint)?)?;
     }
     Ok(made)
 }
@@ -129,7 +129,7 @@ pub(crate) fn new_columns(
 pub(crate) fn key_indexes(
     alloc: Global,
     definitions: &[ColumnDefinition],
-    columns: &[Column],
+    columns: &[TableColumn],
 ) -> Result<Vec<Index>, CreateFault>
     requires same { length columns.now ≡ length definitions.now }
     requires filled { AreFilled 0 columns.now }
@@ -147,7 +147,7 @@ pub(crate) fn key_indexes(
 }
 
 /// The unique index on a column of a table without rows. An `Err` comes of memory alone.
-fn key_index(alloc: Global, columns: &[Column], number: usize) -> Result<Index, CreateFault>
+fn key_index(alloc: Global, columns: &[TableColumn], number: usize) -> Result<Index, CreateFault>
     requires there { number < length columns.now }
     requires filled { AreFilled 0 columns.now }
     ensures ok { IfOk result (IsIndexOn (headers columns.now) [] (number ∷ []) true) }

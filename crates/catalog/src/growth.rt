@@ -11,7 +11,7 @@ ghost use Rattle.catalog.specs.Loads.{RefusesTable};
 use crate::fault::{EarlierRow, LoadFault, RepeatedRecord};
 use crate::table::MAX_ROWS;
 use indexes::{ExtendFault, Index, RepeatedRow, extended};
-use loading::{Column, Pushed, RecordStart, StopReason, push_records, record_start};
+use loading::{Pushed, RecordStart, StopReason, TableColumn, push_records, record_start};
 use std::alloc::Global;
 
 /// What LOAD makes of a table: how many rows came, and its indexes with them.
@@ -25,7 +25,7 @@ pub(crate) struct Grown {
 /// what goes wrong first in the order of the records, and leaves the rows that were added.
 pub(crate) fn grow(
     alloc: Global,
-    columns: &mut [Column],
+    columns: &mut [TableColumn],
     len: usize,
     indexes: &[Index],
     bytes: &[u8],

@@ -9,7 +9,7 @@ ghost use Rattle.loading.specs.Stored.{headers};
 ghost use Rattle.catalog.specs.Lists.{RefusesList};
 
 use crate::fault::ListFault;
-use loading::Column;
+use loading::TableColumn;
 use parse_tree::{ColumnDefinition, Name};
 use std::alloc::Global;
 
@@ -80,7 +80,7 @@ fn has_name<T: Named>(items: &[T], name: &str) -> bool
 /// The numbers of one to four columns of a table, by their names (own).
 pub(crate) fn numbers(
     alloc: Global,
-    columns: &[Column],
+    columns: &[TableColumn],
     names: &[Name],
 ) -> Result<Vec<usize>, ListFault>
     ensures found { IfOk result (λ numbers. column_numbers (headers columns.now) (map name_of names.now) ≡ Some numbers.items) }
@@ -107,7 +107,7 @@ pub(crate) fn numbers(
 }
 
 /// The number of the column of a name, from 0.
-pub(crate) fn number_of(columns: &[Column], name: &str) -> Option<usize>
+pub(crate) fn number_of(columns: &[TableColumn], name: &str) -> Option<usize>
     ensures exact { result ≡ column_number (headers columns.now) name.now }
     ensures within { IfSome result (λ number. number < length columns.now) }
 {

@@ -18,7 +18,7 @@ use crate::fault::{CreateFault, IndexFault, LoadFault, StatisticsFault, TableSta
 use crate::growth::{Grown, grow};
 use crate::naming::{number_of, numbers, second_twin};
 use indexes::{Index, TableStatistics, UniqueFault, row_width};
-use loading::{Column, cut_columns};
+use loading::{TableColumn, cut_columns};
 use parse_tree::{ColumnDefinition, Constraint, Name};
 use sqlvalue::{ComparisonOperator, SqlType, Value};
 use std::alloc::Global;
@@ -35,7 +35,7 @@ pub const MAX_INDEXES: usize = 16;
 #[derive(Drop)]
 pub struct Table {
     name: String,
-    columns: Vec<Column>,
+    columns: Vec<TableColumn>,
     indexes: Vec<Index>,
     len: usize,
     statistics: TableStatistics,

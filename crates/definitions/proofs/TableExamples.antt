@@ -1,4 +1,4 @@
--- Worked statistics of small tables. No claim rests on them.
+-- Worked examples of small tables. No claim rests on them.
 use Rattle.std.proofs.Common.{refl}
 use Rattle.definitions.specs.Examples.Tables.{StatisticsOfTables, StatisticsOfIndexes, SizesOfRows}
 

@@ -1,6 +1,5 @@
-//! What the optimiser takes a block to cost: laws over the definitions of `specs/Estimates`, and worked examples of them. No engine
-//! uses them yet.
-ghost use Rattle.definitions.specs.Estimates.Laws.{SpaceIsComplete, FormedBlocksHavePlans, PathOrderIsNumbered, StatisticsStayBelow, TargetSuffices};
+//! What the optimiser takes a block to cost: laws over the definitions of `specs/Estimates`, and worked examples of them.
+ghost use Rattle.definitions.specs.Estimates.Laws.{SpaceIsComplete, FormedBlocksHavePlans, PathOrderIsNumbered, EstimatesStayBelow, TargetSuffices};
 ghost use Rattle.definitions.specs.Examples.Estimates.Paths.{MatchIsCheapest, UniqueMatchCosts, UniqueMatchLoses, AllButOneKey};
 ghost use Rattle.definitions.specs.Examples.Estimates.Paths.{RangeIsAPart, BetweenIsAPart, EitherIsLessThanBoth, LateLeavesAll};
 ghost use Rattle.definitions.specs.Examples.Estimates.Paths.{BufferHoldsTheShare, TargetsOfOneIndex, OtherTargetsAreRefused};
@@ -9,7 +8,7 @@ ghost use Rattle.definitions.specs.Examples.Estimates.Shares.{DrawnIntoRange, Cu
 ghost use Rattle.definitions.specs.Examples.Estimates.TwoColumns.{TwoColumnsMatch, SecondNeedsFirst, RangeEndsMatch, KeysDecideShare};
 ghost use Rattle.definitions.specs.Examples.Estimates.TwoColumns.{TargetsOfTwoColumns, BackwardGivesDescending, FirstVersionSorts};
 ghost use Rattle.definitions.specs.Examples.Estimates.Orders.{RequiredOrders, IndexOrders};
-ghost use Rattle.definitions.specs.Examples.Estimates.Joins.{JoinStatistics, AppliedOnce, JoinCosts, JoinOrders, KeyJoinCosts};
+ghost use Rattle.definitions.specs.Examples.Estimates.Joins.{JoinEstimates, AppliedOnce, JoinCosts, JoinOrders, KeyJoinCosts};
 ghost use Rattle.definitions.specs.Examples.Estimates.Joins.{JoinIsCertified, OrderedIsCertified, KeyJoinIsCertified, HigherBoundsAreRefused};
 ghost use Rattle.definitions.specs.Examples.Estimates.Products.{ProductPays, TargetsOfProducts, ProductIsCertified};
 ghost use Rattle.definitions.specs.Examples.Estimates.Products.{LateProductsCostMore, ClassesNeedTheirTables};
@@ -25,9 +24,9 @@ pub fn path_order_is_numbered()
     ensures { PathOrderIsNumbered }
 {}
 
-/// Shares are at most the whole, and statistics at most the limit.
-pub fn statistics_stay_below()
-    ensures { StatisticsStayBelow }
+/// Shares are at most the whole, and estimates at most the limit.
+pub fn estimates_stay_below()
+    ensures { EstimatesStayBelow }
 {}
 
 /// Where no access costs less than a plan, its cost alone certifies that it is least.
@@ -76,8 +75,8 @@ pub fn orders_of_blocks()
 {}
 
 /// Two tables: rows, sorts, orders and joins; and a product that pays.
-pub fn statistics_of_joins()
-    ensures statistics { JoinStatistics }
+pub fn estimates_of_joins()
+    ensures statistics { JoinEstimates }
     ensures once { AppliedOnce }
     ensures costs { JoinCosts }
     ensures orders { JoinOrders }

@@ -14,12 +14,12 @@ ghost use Rattle.indexes.specs.Ranges.{widened_by};
 use crate::index_kind::IndexKind;
 use crate::pages::entry_pages;
 use crate::statistics::{IndexStatistics, KeyRange};
-use loading::Column;
+use loading::TableColumn;
 use sqlvalue::Value;
 
 /// The statistics of an index on the columns of these numbers, whose rows stand in an order.
 pub(crate) fn counted(
-    columns: &[Column],
+    columns: &[TableColumn],
     rows: usize,
     numbers: &[usize],
     order: &IndexKind,
@@ -54,7 +54,7 @@ fn are_in_place(rows: &[u32]) -> bool
 }
 
 /// The least and the greatest of a column's numbers, if there is one.
-fn key_range(column: &Column, rows: usize) -> Option<KeyRange>
+fn key_range(column: &TableColumn, rows: usize) -> Option<KeyRange>
     requires { rows ≡ length column.now.values }
     ensures { option_map key_range_of result ≡ range_of (filter_map units_of column.now.values) }
 {

@@ -10,7 +10,7 @@ ghost use Rattle.indexes.specs.Extension.{IsBeginningOf, AreExtended, RefusesExt
 use crate::index::Index;
 use crate::repeated::RepeatedKey;
 use crate::unique::UniqueFault;
-use loading::Column;
+use loading::TableColumn;
 use std::alloc::{AllocFailed, Global};
 
 /// A row whose key in an index repeats that of an earlier one. Rows and indexes count from 0.
@@ -43,7 +43,7 @@ impl<T: Drop> From<AllocFailed<T>> for ExtendFault {
 pub fn extended(
     alloc: Global,
     indexes: &[Index],
-    columns: &[Column],
+    columns: &[TableColumn],
     rows: usize,
 ) -> Result<Vec<Index>, ExtendFault>
     requires filled { AreFilled rows columns.now }

@@ -18,7 +18,7 @@ use crate::key_columns::key_columns;
 use crate::ordered::OrderedIndex;
 use crate::statistics::IndexStatistics;
 use crate::unique::UniqueFault;
-use loading::Column;
+use loading::TableColumn;
 use sqlvalue::Value;
 use std::alloc::Global;
 use std::marker::Model;
@@ -49,7 +49,7 @@ impl Index {
     /// unique and a key comes again, tells of the first row that repeats one (ISO/IEC 9075:1992, 8.9).
     pub fn new(
         alloc: Global,
-        columns: &[Column],
+        columns: &[TableColumn],
         rows: usize,
         numbers: Vec<usize>,
         unique: bool,
@@ -80,7 +80,7 @@ impl Index {
     pub fn extended(
         &self,
         alloc: Global,
-        columns: &[Column],
+        columns: &[TableColumn],
         rows: usize,
     ) -> Result<Index, UniqueFault>
         requires on { AreIndexColumns (length columns.now) self.now.index.columns }

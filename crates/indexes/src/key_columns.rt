@@ -5,13 +5,13 @@ ghost use Rattle.std.specs.List.{AllByRecursion};
 ghost use Rattle.indexes.specs.Keys.{columns_of};
 ghost use Rattle.indexes.specs.KeyColumns.{key_cells};
 
-use loading::Column;
+use loading::TableColumn;
 use std::alloc::{AllocError, Global};
 
 /// The cells of the columns of these numbers. An `Err` comes of memory alone.
 pub(crate) fn key_columns<'a>(
     alloc: Global,
-    columns: &'a [Column],
+    columns: &'a [TableColumn],
     numbers: &[usize],
 ) -> Result<Vec<&'a columns::Column>, AllocError>
     requires { AllByRecursion (λ n. n < length columns.now) numbers.now }

@@ -9,7 +9,7 @@ ghost use Rattle.definitions.specs.Statistics as statistics;
 ghost use Rattle.loading.specs.Stored.{headers};
 ghost use Rattle.sqlvalue.specs.Meaning.{type_of};
 
-use loading::Column;
+use loading::TableColumn;
 use sqlvalue::SqlType;
 
 const PAGE_BYTES: u64 = 4096;
@@ -18,7 +18,7 @@ const PAGE_BYTES: u64 = 4096;
 const OWN_BYTES: u64 = 8;
 
 /// The pages of so many rows of a table.
-pub(crate) fn row_pages(columns: &[Column], rows: usize) -> u64
+pub(crate) fn row_pages(columns: &[TableColumn], rows: usize) -> u64
     requires narrow { length columns.now ≤ most_columns }
     requires few { rows ≤ most_rows }
     ensures { result ≡ statistics.pages_for rows (statistics.row_width (headers columns.now)) }
@@ -27,7 +27,7 @@ pub(crate) fn row_pages(columns: &[Column], rows: usize) -> u64
 }
 
 /// The pages of so many entries of an index on columns.
-pub(crate) fn entry_pages(columns: &[Column], numbers: &[usize], rows: usize) -> u64
+pub(crate) fn entry_pages(columns: &[TableColumn], numbers: &[usize], rows: usize) -> u64
     requires short { length numbers.now ≤ most_index_columns }
     requires there { AllByRecursion (λ n. n < length columns.now) numbers.now }
     requires few { rows ≤ most_rows }
@@ -37,7 +37,7 @@ pub(crate) fn entry_pages(columns: &[Column], numbers: &[usize], rows: usize) ->
 }
 
 /// What a row of a table takes, in bytes.
-pub fn row_width(columns: &[Column]) -> u64
+pub fn row_width(columns: &[TableColumn]) -> u64
     requires narrow { length columns.now ≤ most_columns }
     ensures exact { result ≡ statistics.row_width (headers columns.now) }
     ensures bound { result ≤ 20000 }
@@ -49,7 +49,7 @@ pub fn row_width(columns: &[Column]) -> u64
     width
 }
 
-fn entry_width(columns: &[Column], numbers: &[usize]) -> u64
+fn entry_width(columns: &[TableColumn], numbers: &[usize]) -> u64
     requires short { length numbers.now ≤ most_index_columns }
     requires there { AllByRecursion (λ n. n < length columns.now) numbers.now }
     ensures exact { result ≡ statistics.entry_width (headers columns.now) numbers.now }

@@ -10,7 +10,7 @@ ghost use Rattle.loading.specs.Stored.{headers};
 ghost use Rattle.indexes.specs.Meaning.{table_statistics_of};
 
 use crate::pages::row_pages;
-use loading::Column;
+use loading::TableColumn;
 
 /// How many rows a table is taken to have, and on how many pages (NCARD and TCARD).
 #[derive(Clone, Copy, Debug, PartialEq, Eq)]
@@ -21,7 +21,7 @@ pub struct TableStatistics {
 
 impl TableStatistics {
     /// The statistics of a table of so many rows.
-    pub fn counted(columns: &[Column], rows: usize) -> TableStatistics
+    pub fn counted(columns: &[TableColumn], rows: usize) -> TableStatistics
         requires narrow { length columns.now ≤ most_columns }
         requires types { AllByRecursion (λ (c : spec.Column). IsType c.type) (headers columns.now) }
         requires few { rows ≤ most_rows }

@@ -13,10 +13,10 @@ ghost use Rattle.loading.specs.Meaning.{record_refusal};
 ghost use Rattle.loading.specs.Pushes.{Pushes};
 ghost use Rattle.loading.specs.Files.{HasRead};
 
-use crate::column::Column;
 use crate::fault::{PushFault, RecordFault, RefusedRecord};
 use crate::field::is_null;
 use crate::pushed::{Pushed, StopReason};
+use crate::table_column::TableColumn;
 use csv::{ByteRecord, Position, Reader, ReaderBuilder};
 use std::alloc::{AllocError, Global};
 
@@ -24,7 +24,7 @@ use std::alloc::{AllocError, Global};
 /// row, or for which there is no `room`. An `Err` is want of memory, and leaves the rows that were added.
 pub fn push_records(
     alloc: Global,
-    columns: &mut [Column],
+    columns: &mut [TableColumn],
     len: usize,
     bytes: &[u8],
     room: u64,
@@ -129,7 +129,7 @@ fn next_record(reader: &mut Reader<&[u8]>, fields: &mut ByteRecord) -> Result<bo
 /// Adds the row that a record is stored as to columns of `len` values each: first the number of its fields is
 /// judged, and then each field in turn. An `Err` leaves the columns as they were.
 fn push_record(
-    columns: &mut [Column],
+    columns: &mut [TableColumn],
     len: usize,
     fields: &ByteRecord,
 ) -> Result<(), PushFault<RecordFault>>
@@ -153,7 +153,10 @@ fn push_record(
 }
 
 /// Adds the value of each field to its column. An `Err` leaves those before it.
-fn push_fields(columns: &mut [Column], fields: &ByteRecord) -> Result<(), PushFault<RecordFault>>
+fn push_fields(
+    columns: &mut [TableColumn],
+    fields: &ByteRecord,
+) -> Result<(), PushFault<RecordFault>>
     requires { length (fields_of fields.now) ≡ length columns.old }
     ensures ok { OnOk result ((row : Row) × FieldsLoad (headers columns.old) (fields_of fields.now) (Ok row) × (columns.new ≡ with_row columns.old row)) }
     ensures refused { IfErr result (IfRefused (λ f. FieldsLoad (headers columns.old) (fields_of fields.now) (Err (record_refusal f)))) }
@@ -168,7 +171,7 @@ fn push_fields(columns: &mut [Column], fields: &ByteRecord) -> Result<(), PushFa
 
 /// Adds the value of a field to the column of a number. An `Err` leaves the column as it was.
 fn push_field(
-    column: &mut Column,
+    column: &mut TableColumn,
     number: usize,
     field: &[u8],
 ) -> Result<(), PushFault<RecordFault>>
@@ -190,7 +193,7 @@ fn push_field(
 }
 
 /// Keeps the first rows alone, as many as `rows`.
-pub fn cut_columns(columns: &mut [Column], rows: usize)
+pub fn cut_columns(columns: &mut [TableColumn], rows: usize)
     requires { AllByRecursion (λ (c : StoredColumn). rows ≤ length c.values) columns.old }
     ensures { columns.new ≡ map (cut_to rows) columns.old }
 {

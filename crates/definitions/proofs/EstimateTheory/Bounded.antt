@@ -1,4 +1,4 @@
--- Shares are shares, and no statistic passes the limit.
+-- Shares are shares, and no number passes the limit.
 use Prim.Native.Nat.{zero}
 use Rattle.std.proofs.Common.{suc, ap, ◌∙◌, ◌≡◌, ℕ, ◌+◌, ◌-◌, ◌*◌, ◌≤◌, List, [], ◌∷◌, Bool, true, false, Option, Some, None, cond, lit≤, arith}
 use Rattle.std.proofs.lemmas.Grind.{div_ceil_times}

@@ -49,11 +49,11 @@ PathOrderIsNumbered = (version : Version) (db : Database) (block : Block) (table
     → Contains (paths_of version db block tables table) path
     → HasNumber (orders_of version db block) (order_of_path db block path) ((space_of version db block).path_order path)
 
--- ---- bounds of the statistics
+-- ---- bounds of the estimates
 
--- a share is at most the whole; a scan hands on no more rows than its table has; and no statistic passes the limit
-abbrev pub StatisticsStayBelow : Type 0
-StatisticsStayBelow = (db : Database) (block : Block) → ((c : Condition) → selectivity db block c ≤ million)
+-- a share is at most the whole; a scan hands on no more rows than its table has; and no estimate passes the limit
+abbrev pub EstimatesStayBelow : Type 0
+EstimatesStayBelow = (db : Database) (block : Block) → ((c : Condition) → selectivity db block c ≤ million)
     × ((tables : TableSet) → cardinality db block tables ≤ limit) × ((tables : TableSet) → sort_cost db block tables ≤ limit)
     × ((tables : TableSet) (path : Path) → path_cost db block tables path ≤ limit)
     × ((tables : TableSet) (table : ℕ) → path_rows db block tables table ≤ rows_at db block table)

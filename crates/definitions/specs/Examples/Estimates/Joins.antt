@@ -31,8 +31,8 @@ abbrev pub join : Block
 join = s.select_from (s.item (codes "P") (s.col 0 1) ∷ s.item (codes "Q") (s.col 1 1) ∷ []) (0 ∷ 1 ∷ []) (Some x_is_y) []
 
 -- X = Y is true of a tenth of the pairs; a scan of T2 for a known row of T1 hands on 100 rows; sorts fill 1, 4 and 79 pages
-abbrev pub JoinStatistics : Type 0
-JoinStatistics = (map (cardinality unindexed join) (0 ∷ 1 ∷ 2 ∷ 3 ∷ []) ≡ 1 ∷ 100 ∷ 1000 ∷ 10000 ∷ []) × (path_rows unindexed join 1 1 ≡ 100)
+abbrev pub JoinEstimates : Type 0
+JoinEstimates = (map (cardinality unindexed join) (0 ∷ 1 ∷ 2 ∷ 3 ∷ []) ≡ 1 ∷ 100 ∷ 1000 ∷ 10000 ∷ []) × (path_rows unindexed join 1 1 ≡ 100)
     × (map (pages unindexed join) (1 ∷ 2 ∷ 3 ∷ []) ≡ 1 ∷ 4 ∷ 79 ∷ []) × (map (sort_cost unindexed join) (1 ∷ 2 ∷ 3 ∷ []) ≡ 120 ∷ 1080 ∷ 11580 ∷ [])
 
 -- with P = 1, true of a tenth of T1, each conjunct is applied once: 10 rows of T1, and 1000 of both; a scan of T2 for a known row of T1 still

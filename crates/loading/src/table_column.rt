@@ -20,13 +20,13 @@ use std::marker::Model;
 
 /// A column of a table: its name, its type, what is asked of its values, and these (ISO/IEC 9075:1992, 4.8).
 #[derive(Drop)]
-pub struct Column {
+pub struct TableColumn {
     name: String,
     constraint: Constraint,
     cells: columns::Column,
 }
 
-impl Model for Column {
+impl Model for TableColumn {
     ghost use Rattle.parse_tree.specs.Trees.{constraint_of};
     ghost use Rattle.loading.specs.Stored.{StoredColumn};
 
@@ -37,7 +37,7 @@ impl Model for Column {
     ghost view = { stored_column };
 }
 
-impl Column {
+impl TableColumn {
     ghost use Rattle.loading.specs.Cells.{IfRefused};
 
     /// A column without values. An `Err` is want of memory.
@@ -46,11 +46,11 @@ impl Column {
         name: &str,
         sql_type: SqlType,
         constraint: Constraint,
-    ) -> Result<Column, AllocError>
+    ) -> Result<TableColumn, AllocError>
         requires { spec.IsType (type_of sql_type) }
         ensures { IfOk result (λ c. c ≡ named name.now (constraint_of constraint) (record { type = type_of sql_type; values = [] })) }
     {
-        Ok(Column {
+        Ok(TableColumn {
             name: String::from_str(alloc, name)?,
             constraint,
             cells: columns::Column::new(alloc, sql_type),
