@@ -16,7 +16,8 @@ ghost use Rattle.access_paths.specs.Views.{chain_told};
 
 use crate::index_matches::IndexMatch;
 use catalog::{Index, Table};
-use estimate::{Estimate, fraction, saturated, share};
+use estimate::{Estimate, fraction, share};
+use plan_tree::saturated;
 
 /// Pages that the buffer holds, so that none is fetched twice (own).
 const BUFFER_PAGES: u64 = 64;

@@ -13,9 +13,8 @@ ghost use Rattle.cert_check.specs.Checks.{JoinFails, JoinFailsBy, LoopLeadsBelow
 ghost use Rattle.plan_space.specs.Planned.{space_in};
 
 use crate::verdict::StateKey;
-use estimate::saturated;
 use plan_space::{CostedMerge, Space};
-use plan_tree::{Certificate, State};
+use plan_tree::{Certificate, State, saturated};
 
 /// The first listed state from which a join leads below the bound of the state that it reaches.
 pub(crate) fn join_failing(space: &Space<'_>, certificate: &Certificate) -> Option<StateKey>

@@ -10,9 +10,8 @@ ghost use Rattle.plan_tree.specs.Certificates.{certificate_of};
 ghost use Rattle.plan_space.specs.Planned.{space_in};
 
 use crate::verdict::StateKey;
-use estimate::saturated;
 use plan_space::Space;
-use plan_tree::{Certificate, State};
+use plan_tree::{Certificate, State, saturated};
 
 /// The first listed state from which a sort leads below the bound of the state that it reaches.
 pub(crate) fn sort_failing(space: &Space<'_>, certificate: &Certificate) -> Option<StateKey>

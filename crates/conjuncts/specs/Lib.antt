@@ -1,3 +1,4 @@
 pub use Rattle.definitions.specs.Queries.Conjuncts
 pub mod Parts
 pub mod Naming
+pub mod Columns

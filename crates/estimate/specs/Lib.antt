@@ -3,7 +3,6 @@ pub mod Ranges
 pub mod Views
 pub mod Tables
 pub mod Estimated
-pub mod Columns
 pub mod PlanConjuncts
 pub mod Widths
 pub mod Sizes

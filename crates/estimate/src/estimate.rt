@@ -15,13 +15,12 @@ ghost use Rattle.estimate.specs.Tables.{tables_of, AreTablesOf};
 ghost use Rattle.estimate.specs.Estimated.{IsFormed};
 ghost use Rattle.estimate.specs.PlanConjuncts.{condition_told, conjunct_of};
 
-use crate::limits::saturated;
 use crate::plan_conjunct::PlanConjunct;
 use crate::planning::plan_conjuncts;
 use crate::shares::{left_by_completed, left_by_known};
 use crate::table_size::TableSize;
 use catalog::{Database, Table};
-use plan_tree::TableSet;
+use plan_tree::{TableSet, saturated};
 use query_tree::Block;
 use std::alloc::{AllocError, Global};
 use std::marker::Model;

@@ -4,11 +4,9 @@
 
 mod column_keys;
 mod conditions;
-mod equated;
 mod estimate;
 mod fractions;
 mod key_ranges;
-mod limits;
 mod plan_conjunct;
 mod planning;
 mod selectivity_shares;
@@ -19,10 +17,8 @@ mod sides;
 mod table_size;
 
 pub use conditions::selectivity;
-pub use equated::column_of;
 pub use estimate::Estimate;
 pub use fractions::{MILLION, fraction, share};
-pub use limits::{LIMIT, saturated};
 pub use plan_conjunct::PlanConjunct;
 pub use selectivity_shares::one_key;
 pub use set_estimates::SetEstimates;

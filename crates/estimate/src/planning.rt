@@ -12,10 +12,9 @@ ghost use Rattle.estimate.specs.Tables.{tables_of, AreTablesOf};
 ghost use Rattle.estimate.specs.PlanConjuncts.{condition_told, conjunct_of};
 
 use crate::conditions::selectivity;
-use crate::equated::equated_columns;
 use crate::plan_conjunct::PlanConjunct;
 use catalog::Table;
-use conjuncts::{Conjunct, conjuncts};
+use conjuncts::{Conjunct, conjuncts, equated_columns};
 use query_tree::Condition;
 use std::alloc::{AllocError, Global};
 

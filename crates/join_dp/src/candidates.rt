@@ -26,9 +26,8 @@ use crate::cheapest_path::cheapest_path;
 use crate::set_candidates::SetCandidates;
 use crate::states::States;
 use crate::step::{AddedJoin, Candidate, Join, Step};
-use estimate::saturated;
 use plan_space::Space;
-use plan_tree::TableSet;
+use plan_tree::{TableSet, saturated};
 
 /// Looks at the accesses of a table, as plans of the set of that table alone.
 fn add_accesses<'a>(space: &'a Space<'_>, table: usize, row: &mut SetCandidates<'a>)

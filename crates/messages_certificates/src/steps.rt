@@ -11,8 +11,7 @@ use crate::reason::{LowStep, Step};
 use crate::spelling::{spelled, state_name};
 use certificate::BlockSpace;
 use certificate_files::StateKey;
-use estimate::saturated;
-use plan_tree::{Certificate, State, TableSet};
+use plan_tree::{Certificate, State, TableSet, saturated};
 
 /// Where a state stands in the list, if it does.
 pub(crate) fn state_at(certificate: &Certificate, place: StateKey) -> Option<usize> {

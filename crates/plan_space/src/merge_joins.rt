@@ -8,8 +8,8 @@ ghost use Rattle.plan_space.specs.MergeListed.{merge_told};
 ghost use Rattle.plan_space.specs.Merge.{open_merges, with_pairs};
 
 use crate::listed::MergeJoinPath;
-use estimate::{saturated, share};
-use plan_tree::{Path, TableSet};
+use estimate::share;
+use plan_tree::{Path, TableSet, saturated};
 use std::marker::Model;
 
 /// A merge with one more table: its conjunct, the path of its inner side and whether the rows of that are sorted, and what it adds

@@ -27,9 +27,9 @@ use crate::listed::{MergeClause, MergeJoinPath};
 use crate::merge_joins::Merges;
 use crate::path_lists::BlockPaths;
 use crate::paths::{CostedPath, Paths};
-use estimate::{Estimate, SetEstimates, saturated};
+use estimate::{Estimate, SetEstimates};
 use interesting_orders::InterestingOrders;
-use plan_tree::{Path, TableSet};
+use plan_tree::{Path, TableSet, saturated};
 use std::alloc::{AllocError, Global};
 
 /// The merges that may bring each table of a block, on top of plans on any set of tables.

@@ -31,9 +31,9 @@ use crate::path_lists::BlockPaths;
 use crate::paths::Paths;
 use crate::plan_summary::PlanSummary;
 use crate::summarising::summarise;
-use estimate::{Estimate, SetEstimates, saturated};
+use estimate::{Estimate, SetEstimates};
 use interesting_orders::{InterestingOrders, SortOrders, Sorts, Version, required_order};
-use plan_tree::{Plan, SortKey, TableSet};
+use plan_tree::{Plan, SortKey, TableSet, saturated};
 use std::alloc::{AllocError, Global};
 use std::marker::Model;
 

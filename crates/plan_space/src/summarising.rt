@@ -19,8 +19,7 @@ use crate::paths::CostedPath;
 use crate::plan_summary::PlanSummary;
 use crate::same::are_one;
 use crate::space::Space;
-use estimate::saturated;
-use plan_tree::{Inner, Path, Plan, TableSet};
+use plan_tree::{Inner, Path, Plan, TableSet, saturated};
 
 /// What a plan comes to, if it is one of the block.
 pub(crate) fn summarise(space: &Space, plan: &Plan) -> Option<PlanSummary>

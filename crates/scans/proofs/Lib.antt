@@ -4,3 +4,8 @@ pub mod Runs
 pub mod Paths
 pub mod LookUps
 pub mod PathRuns
+pub mod WordRows
+pub mod Comparing
+pub mod Coming
+pub mod Tests
+pub mod Scanning

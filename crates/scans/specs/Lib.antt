@@ -6,3 +6,9 @@ pub mod Looking
 pub mod Runs
 pub mod Composites
 pub mod Pulls
+pub mod Truths
+pub mod Comparisons
+pub mod Words
+pub mod Steps
+pub mod Scans
+pub mod Laws
