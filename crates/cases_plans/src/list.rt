@@ -130,22 +130,22 @@ impl List<'_> {
     /// Adds what a plan comes to, if it is one.
     fn push(&mut self, plan: &Plan) -> Result<(), AllocError> {
         self.tried = self.tried.saturating_add(1);
-        let Some(measured) = self.space.measured(plan) else {
+        let Some(summary) = self.space.summary(plan) else {
             return self.push_misplaced(plan);
         };
         self.found = self.found.saturating_add(1);
         push_plan(self.text, plan)?;
-        let tables = measured.tables.place();
-        write!(self.text, ": {tables} {} ", measured.order)?;
-        self.push_cost(plan, measured)
+        let tables = summary.tables.place();
+        write!(self.text, ": {tables} {} ", summary.order)?;
+        self.push_cost(plan, summary)
     }
 
     /// Adds the cost of a plan, and whether it is in the space.
-    fn push_cost(&mut self, plan: &Plan, measured: PlanSummary) -> Result<(), AllocError> {
+    fn push_cost(&mut self, plan: &Plan, summary: PlanSummary) -> Result<(), AllocError> {
         if !self.space.in_space(plan) {
-            return writeln!(self.text, "{}", measured.cost);
+            return writeln!(self.text, "{}", summary.cost);
         }
-        let required = if self.space.gives_required(measured.order) {
+        let required = if self.space.gives_required(summary.order) {
             " as required"
         } else {
             ""

@@ -4,11 +4,11 @@ use plan_space::{Path, Plan};
 use std::alloc::AllocError;
 
 /// A number that counts from 0, from 1.
-fn from_one(number: usize) -> usize {
+pub(crate) fn from_one(number: usize) -> usize {
     number.saturating_add(1)
 }
 
-fn push_path(text: &mut String, path: &Path) -> Result<(), AllocError> {
+pub(crate) fn push_path(text: &mut String, path: &Path) -> Result<(), AllocError> {
     let table = from_one(path.table());
     match path {
         Path::Segment { .. } => write!(text, "SEG {table}"),

@@ -48,10 +48,10 @@ pub(crate) fn is_met(
     requires { set_of all ≡ whole (space_in space.now) }
     ensures { Decides result (IsMet (space_in space.now) (certificate_of certificate.now) (plan_of plan.now)) }
 {
-    let Some(measured) = space.measured(plan) else {
+    let Some(summary) = space.summary(plan) else {
         return false;
     };
-    measured.tables.place() == all.place()
-        && measured.cost == certificate.target
-        && space.gives_required(measured.order)
+    summary.tables.place() == all.place()
+        && summary.cost == certificate.target
+        && space.gives_required(summary.order)
 }

@@ -48,7 +48,7 @@ fn plan_fault(own: &BlockSpace<'_>, spelled: &Spelled) -> PlanFault {
     let Some(plan) = &spelled.plan else {
         return PlanFault::Long;
     };
-    let Some(measured) = own.space.measured(plan) else {
+    let Some(measured) = own.space.summary(plan) else {
         return PlanFault::Outside(wrong_step(own, wrong_part(own, plan)));
     };
     if measured.tables.place() != own.space.whole().place() {
@@ -75,7 +75,7 @@ fn wrong_part<'p>(own: &BlockSpace<'_>, plan: &'p Plan) -> &'p Plan {
         Plan::Loop { outer: below, .. }
         | Plan::Merge { outer: below, .. }
         | Plan::Sort { input: below, .. } => {
-            if own.space.measured(below).is_some() {
+            if own.space.summary(below).is_some() {
                 plan
             } else {
                 wrong_part(own, below)
@@ -96,7 +96,7 @@ fn plan_below(plan: &Plan) -> Option<&Plan> {
 /// The last step of a plan, and what it stands on; none where memory runs out.
 fn wrong_step(own: &BlockSpace<'_>, plan: &Plan) -> Option<WrongStep> {
     let on = match plan_below(plan) {
-        Some(below) => own.space.measured(below),
+        Some(below) => own.space.summary(below),
         None => None,
     };
     Some(WrongStep {

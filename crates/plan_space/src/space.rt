@@ -258,7 +258,7 @@ impl<'a> Space<'a> {
 
     /// What a plan comes to, or none where it is no plan of the block, on whichever of its tables. It looks at all paths or merges of
     /// a table for each step of the plan.
-    pub fn measured(&self, plan: &Plan) -> Option<PlanSummary>
+    pub fn summary(&self, plan: &Plan) -> Option<PlanSummary>
         ensures { Measures (space_in self.now) (plan_of plan.now) result }
     {
         summarise(self, plan)

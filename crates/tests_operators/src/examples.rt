@@ -239,8 +239,8 @@ fn tied(alloc: Global, database: &Database) -> Result<Option<[u64; 5]>, AllocErr
     match (first, second) {
         (Some(a), Some(b)) => Ok(Some([
             certificate.target,
-            a.measured.cost,
-            b.measured.cost,
+            a.summary.cost,
+            b.summary.cost,
             a.opened,
             b.opened,
         ])),

@@ -12,7 +12,7 @@ use std::alloc::{AllocError, Global};
 /// What a plan comes to, what it gave, and how many rows were opened for that.
 #[derive(Drop)]
 pub(crate) struct Outcome {
-    pub measured: PlanSummary,
+    pub summary: PlanSummary,
     pub composites: Vec<Composite>,
     pub opened: u64,
 }
@@ -28,7 +28,7 @@ pub(crate) fn run(
     requires database { space.now.database ≡ source.now.database }
     requires block { space.now.block ≡ source.now.block }
 {
-    let Some(measured) = space.measured(plan) else {
+    let Some(summary) = space.summary(plan) else {
         return Ok(None);
     };
     let mut line = open(alloc, source, space.orders(), plan, &NoOuterRows)?;
@@ -37,7 +37,7 @@ pub(crate) fn run(
         composites.push(composite)?;
     }
     Ok(Some(Outcome {
-        measured,
+        summary,
         composites,
         opened: line.opened(),
     }))

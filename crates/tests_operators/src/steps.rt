@@ -160,7 +160,7 @@ fn push_plan(
     steps: Steps,
 ) -> Result<(), AllocError> {
     let plan = steps.plan(alloc)?;
-    if space.measured(&plan).is_some() {
+    if space.summary(&plan).is_some() {
         plans.push(steps)?;
     }
     Ok(())

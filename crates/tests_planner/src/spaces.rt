@@ -104,7 +104,7 @@ fn plan_cost(
     }
     let cost = space.cost(&plan);
     let asked = space
-        .measured(&plan)
+        .summary(&plan)
         .is_some_and(|found| space.gives_required(found.order));
     format!(in alloc; "{cost} {asked}")
 }
