@@ -11,7 +11,7 @@ use cert_check::{Verdict, check};
 use certificate::{BlockSpace, read_text};
 use estimate::Estimate;
 use join_dp::optimise;
-use plan_space::Space;
+use plan_space::{Plan, Space, Version};
 use plan_tree::TableSet;
 use std::alloc::{AllocError, Global};
 
@@ -93,23 +93,31 @@ fn number(digits: &str) -> usize {
     digits.parse().unwrap_or(usize::MAX)
 }
 
+/// The plan that a text spells; none where it spells no plan of so few conjuncts that it can be in a space.
+pub(crate) fn spelled_plan(
+    alloc: Global,
+    own: &BlockSpace<'_>,
+    plan: &str,
+) -> Result<Option<Plan>, AllocError> {
+    let version = match own.version {
+        Version::One => 1,
+        Version::Two => 2,
+        Version::Three => 3,
+    };
+    let text = format!(in alloc; "CERTIFICATE {version}\nBLOCK 1\nPLAN {plan}\nTARGET 0\nEND\n")?;
+    match read_text(alloc, &own.certified(), text.as_bytes()) {
+        Ok(spelled) => Ok(spelled.plan),
+        Err(_) => Ok(None),
+    }
+}
+
 /// The cost of a plan, and whether its order is the one that is asked for; or that it isn't in the space.
 fn plan_answer(
     alloc: Global,
     own: &BlockSpace<'_>,
     plan: &str,
 ) -> Result<Option<String>, AllocError> {
-    let version = match own.version {
-        plan_space::Version::One => 1,
-        plan_space::Version::Two => 2,
-        plan_space::Version::Three => 3,
-    };
-    let text = format!(in alloc; "CERTIFICATE {version}\nBLOCK 1\nPLAN {plan}\nTARGET 0\nEND\n")?;
-    let plan = match read_text(alloc, &own.certified(), text.as_bytes()) {
-        Ok(spelled) => spelled.plan,
-        Err(_) => None,
-    };
-    let Some(plan) = plan else {
+    let Some(plan) = spelled_plan(alloc, own, plan)? else {
         return Ok(Some(format!(in alloc; "no such text")?));
     };
     let space = &own.space;

@@ -6,6 +6,7 @@ mod answers;
 mod cases;
 mod list;
 mod rows;
+mod runs;
 mod spelling;
 mod steps;
 mod texts;
@@ -17,7 +18,7 @@ use std::rt::Runtime;
 use std::{fs, io};
 
 /// The files of rows, which lie where the program runs.
-const FILES: [&str; 5] = ["shares", "paths", "orders", "plans", "certificates"];
+const FILES: [&str; 6] = ["shares", "paths", "orders", "plans", "certificates", "runs"];
 
 fn main(rt: HostRuntime) -> io::Result<()> {
     for name in &FILES {

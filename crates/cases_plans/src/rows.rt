@@ -1,10 +1,11 @@
 //! Rows of worked answers: questions to the plan spaces of queries, in files of lines.
 //!
-//! A file has groups of lines with an empty line between: `tables` and statements that make them, `query` and a query, `version` and the
-//! version of the plan space, and below these rows `QUESTION = ANSWER`. A group may have several queries and versions. A line that begins
-//! with `--` is a comment.
+//! A file has groups of lines with an empty line between: `tables` and statements that make them, `load`, a table and its records with `;`
+//! behind each, `query` and a query, `version` and the version of the plan space, and below these rows `QUESTION = ANSWER`. A group may
+//! have several queries and versions. A line that begins with `--` is a comment.
 
-use crate::answers::{estimate_answer, space_answer};
+use crate::answers::{estimate_answer, space_answer, spelled_plan};
+use crate::runs::run_answer;
 use catalog::Database;
 use certificate::BlockSpace;
 use estimate::Estimate;
@@ -17,6 +18,8 @@ use tests_support::{apply, block};
 #[derive(Drop)]
 struct Group {
     script: String,
+    /// The table of each line `load`, a blank, and its records.
+    loads: Vec<String>,
     query: String,
     version: Version,
 }
@@ -49,6 +52,7 @@ pub(crate) fn ask(alloc: Global, name: &str, text: &str) -> Result<Told, AllocEr
 fn no_group(alloc: Global) -> Group {
     Group {
         script: String::new(alloc),
+        loads: Vec::new(alloc),
         query: String::new(alloc),
         version: Version::Three,
     }
@@ -65,6 +69,8 @@ fn take(
         *group = no_group(alloc);
     } else if let Some(statements) = line.strip_prefix("tables ") {
         group.script.push_str(statements)?;
+    } else if let Some(load) = line.strip_prefix("load ") {
+        group.loads.push(load.replace(alloc, ";", "\n")?)?;
     } else if let Some(query) = line.strip_prefix("query ") {
         group.query = String::from_str(alloc, query)?;
     } else if let Some(version) = line.strip_prefix("version ") {
@@ -109,7 +115,7 @@ fn row_fault(alloc: Global, group: &Group, row: &str) -> Result<Option<String>, 
 /// The answer to a question; none where it, the tables or the query are no such.
 fn answer(alloc: Global, group: &Group, question: &str) -> Result<Option<String>, AllocError> {
     let mut database = Database::new(alloc);
-    if !apply(alloc, &mut database, &group.script) {
+    if !apply(alloc, &mut database, &group.script) || !fill(&mut database, &group.loads) {
         return Ok(None);
     }
     let Some(block) = block(alloc, &database, &group.query) else {
@@ -120,5 +126,24 @@ fn answer(alloc: Global, group: &Group, question: &str) -> Result<Option<String>
         return Ok(Some(answer));
     }
     let own = BlockSpace::new(alloc, &database, &block, 0, group.version)?;
-    space_answer(alloc, &own, question)
+    let Some(plan) = question.strip_prefix("run ") else {
+        return space_answer(alloc, &own, question);
+    };
+    match spelled_plan(alloc, &own, plan)? {
+        Some(plan) => Ok(Some(run_answer(alloc, &database, &block, group.version, &plan)?)),
+        None => Ok(None),
+    }
+}
+
+/// Whether each table that is named takes its records.
+fn fill(database: &mut Database, loads: &[String]) -> bool {
+    for load in loads {
+        let Some((table, records)) = load.as_str().split_once(' ') else {
+            return false;
+        };
+        if database.load(table, records.as_bytes()).is_err() {
+            return false;
+        }
+    }
+    true
 }

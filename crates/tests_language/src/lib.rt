@@ -4,17 +4,7 @@
 #[cfg(test)]
 mod arithmetic;
 #[cfg(test)]
-mod faults;
-#[cfg(test)]
-mod keys;
-#[cfg(test)]
-mod limits;
-#[cfg(test)]
-mod names;
-#[cfg(test)]
 mod patterns;
-#[cfg(test)]
-mod queries;
 #[cfg(test)]
 mod raising;
 #[cfg(test)]
@@ -28,13 +18,9 @@ mod tables;
 #[cfg(test)]
 mod tokens;
 #[cfg(test)]
-mod tree_faults;
-#[cfg(test)]
 mod truth;
 #[cfg(test)]
 mod values;
-#[cfg(test)]
-mod wanted;
 #[cfg(test)]
 mod words;
 #[cfg(test)]

@@ -4,11 +4,7 @@
 #[cfg(test)]
 mod all_plans;
 #[cfg(test)]
-mod examples;
-#[cfg(test)]
 mod plain;
-#[cfg(test)]
-mod running;
 #[cfg(test)]
 mod steps;
 #[cfg(test)]

@@ -6,6 +6,8 @@ mod columns_of;
 #[cfg(test)]
 mod kept;
 #[cfg(test)]
+mod keys;
+#[cfg(test)]
 mod look_ups;
 #[cfg(test)]
 mod numbers;

@@ -1,2 +1,1 @@
-mod FirstBlock
-mod Planning
+pub mod Planned

@@ -11,14 +11,14 @@ use std::alloc::{AllocError, Global};
 
 /// What a plan comes to, what it gave, and how many rows were opened for that.
 #[derive(Drop)]
-pub(crate) struct Outcome {
+pub struct Outcome {
     pub summary: PlanSummary,
     pub composites: Vec<Composite>,
     pub opened: u64,
 }
 
 /// Runs a plan of a block; `None` where it is no plan of the block.
-pub(crate) fn run(
+pub fn run(
     alloc: Global,
     source: &BlockSource<'_>,
     space: &Space<'_>,

@@ -1,6 +1,6 @@
 use Rattle.std.proofs.Common.{[], length}
 use Rattle.operators.specs.Running.{left_of, IsLine}
-use Rattle.tests_operators.proofs.running.run.Given as goal
+use Rattle.tests_support.proofs.running.run.Given as goal
 
 abbrev pub invariant-composites : goal.invariant-composites
 invariant-composites l = IsLine l.line []
