@@ -1,5 +1,5 @@
 #!/usr/bin/env python3
-"""Times look-ups in an index, and building one, by the program look_up_times: processor time, best of three.
+"""Times look-ups in an index, and building one, by the program bench_programs: processor time, best of three.
 
 The goal of a look-up by `equal` in an index of 1,000,000 rows is 300 ns; it is not met yet.
 """
@@ -8,7 +8,7 @@ import pathlib
 import subprocess
 import sys
 
-PROGRAM = pathlib.Path(__file__).resolve().parent.parent / "crates/look_up_times/out/look_up_times"
+PROGRAM = pathlib.Path(__file__).resolve().parent.parent / "crates/bench_programs/out/bench_programs"
 ROUNDS = 3
 LOOK_UPS = 1_000_000
 
@@ -17,7 +17,7 @@ def seconds(rows, indexes, look_ups):
     """The best processor seconds of a run."""
     times = []
     for _ in range(ROUNDS):
-        child = subprocess.Popen([PROGRAM, str(rows), str(indexes), str(look_ups)], stdout=subprocess.DEVNULL)
+        child = subprocess.Popen([PROGRAM, "look-ups", str(rows), str(indexes), str(look_ups)], stdout=subprocess.DEVNULL)
         _, status, usage = os.wait4(child.pid, 0)
         if status != 0:
             sys.exit(f"status {status}")

@@ -1,5 +1,5 @@
 #!/usr/bin/env python3
-"""Times the steps of a plan space, best of three, by the program plan_times: a path or a merge with its cost, over each set of 12
+"""Times the steps of a plan space, best of three, by the program bench_programs: a path or a merge with its cost, over each set of 12
 tables and each other table, where each two of the tables but two pairs are joined (a block has at most 64 conjuncts) and each has an
 index; and what making the space of 12 and of 14 tables takes, in time, and in memory beyond that of the same program with two tables.
 
@@ -15,7 +15,7 @@ import tempfile
 import time
 
 HERE = pathlib.Path(__file__).resolve().parent
-PROGRAM = HERE.parent / "crates/plan_times/out/plan_times"
+PROGRAM = HERE.parent / "crates/bench_programs/out/bench_programs"
 TIMES = 3
 # How often all sets are gone through, so that there are ten million steps and more.
 ROUNDS = {"paths": 40, "merges": 20}

@@ -7,7 +7,7 @@ that only loads, and of the difference a part. sqlite3 (Debian's package) loads 
 SELECT itself (.timer). Both print into files. Processor seconds are counted, as each program has one thread.
 
 A filter that keeps 10 rows is to take at most a twentieth of sqlite3's time on a number and a tenth on a text.
-The program scan_times shows what a scan of a column alone takes beside a loop over a plain Vec that counts the same rows:
+The program bench_programs shows what a scan of a column alone takes beside a loop over a plain Vec that counts the same rows:
 at most four times as long is allowed.
 """
 import os
@@ -19,7 +19,7 @@ import tempfile
 
 from load import PROGRAM
 
-SCAN_TIMES = PROGRAM.parent.parent.parent / "scan_times/out/scan_times"
+BENCH_PROGRAMS = PROGRAM.parent.parent.parent / "bench_programs/out/bench_programs"
 ROWS = 5_000_000
 NUMBERS = 500_000
 ROUNDS = 3
@@ -83,7 +83,7 @@ def passes(kind):
     with tempfile.TemporaryDirectory() as name:
         folder = pathlib.Path(name)
         some, none = (
-            min(seconds([SCAN_TIMES, kind, str(count)], folder) for _ in range(ROUNDS)) for count in (PASSES, 0)
+            min(seconds([BENCH_PROGRAMS, kind, str(count)], folder) for _ in range(ROUNDS)) for count in (PASSES, 0)
         )
     return (some - none) / PASSES
 

@@ -1,5 +1,5 @@
 #!/usr/bin/env python3
-"""Times the search for a least plan and the check of its certificate, best of three, by the program search_times: blocks of 12 tables
+"""Times the search for a least plan and the check of its certificate, best of three, by the program bench_programs: blocks of 12 tables
 joined as a chain, as a star and all to all (as far as a block's 64 conjuncts go), and of 14 as a chain, each table with an index. Processor
 seconds are counted, and the most memory that a process held.
 
@@ -16,7 +16,7 @@ import sys
 import tempfile
 
 HERE = pathlib.Path(__file__).resolve().parent
-PROGRAM = HERE.parent / "crates/search_times/out/search_times"
+PROGRAM = HERE.parent / "crates/bench_programs/out/bench_programs"
 SERVER = next(iter(sorted(pathlib.Path("/usr/lib/postgresql").glob("*/bin"), reverse=True)), None)
 TIMES = 3
 CONJUNCTS = 64

@@ -1,38 +1,18 @@
-//! What a scan of a column takes, beside a loop over a plain `Vec`: for bench/scan.py, which times the two.
-//!
-//! `scan_times KIND ROUNDS` makes a column of 5,000,000 numbers, finds the rows of one of them as many times as it
-//! is told, by `scan` or by a `loop`, and prints how many rows it found in all.
-#![tactic(auto)]
+//! Scans of a column of 5,000,000 numbers, beside a loop over a plain `Vec`: the rows of one number are found as often as is told.
 
 ghost use Rattle.std.specs.Prelude.{◌≡◌, length, IfOk};
 
 use columns::NumberColumn;
 use sqlvalue::{ComparisonOperator, Num, SqlType, Value};
 use std::alloc::{AllocError, Global};
-use std::rt::Runtime;
-use std::{env, io};
 
 const ROWS: usize = 5_000_000;
 
 /// Every so many rows a number comes again.
 const NUMBERS: usize = 500_000;
 
-fn main(rt: HostRuntime) -> io::Result<()> {
-    let words: Vec<String> = env::args(&rt)?.skip(1).collect(rt.alloc())?;
-    let rounds = words
-        .get(1)
-        .and_then(|word| word.parse::<usize>().ok())
-        .unwrap_or(0);
-    let found = if words.first().is_some_and(|word| word.as_str() == "loop") {
-        by_loop(rt.alloc(), rounds)?
-    } else {
-        by_scan(rt.alloc(), rounds)?
-    };
-    println!(rt; "{found}")
-}
-
 /// How many rows a loop finds in all.
-fn by_loop(alloc: Global, rounds: usize) -> Result<usize, AllocError> {
+pub(crate) fn by_loop(alloc: Global, rounds: usize) -> Result<usize, AllocError> {
     let mut units = Vec::new(alloc);
     for row in 0..ROWS {
         units.push((row % NUMBERS) as i64)?;
@@ -47,7 +27,7 @@ fn by_loop(alloc: Global, rounds: usize) -> Result<usize, AllocError> {
 }
 
 /// How many rows scans find in all.
-fn by_scan(alloc: Global, rounds: usize) -> Result<usize, AllocError> {
+pub(crate) fn by_scan(alloc: Global, rounds: usize) -> Result<usize, AllocError> {
     let column = column(alloc)?;
     let mut found = 0usize;
     for round in 0..rounds {

@@ -1,5 +1,5 @@
 use Rattle.std.proofs.Common.{◌≡◌, length}
-use Rattle.look_up_times.proofs.column.Given as goal
+use Rattle.bench_programs.proofs.look_ups.column.Given as goal
 
 abbrev pub invariant-rows : goal.invariant-rows
 invariant-rows l = length l.column.values ≡ l.row

@@ -16,9 +16,11 @@ pub(crate) enum Shape {
     Star,
     /// All with all, by one column of each, as far as conjuncts go.
     All,
+    /// The same where no table has another column.
+    Columns,
 }
 
-/// The shape of a name; a chain where it is none.
+/// The shape of a name; a chain where it is none that is searched.
 pub(crate) fn shape_of(name: &str) -> Shape {
     match name {
         "star" => Shape::Star,
@@ -43,7 +45,10 @@ fn push_columns(
     tables: u32,
     table: u32,
 ) -> Result<(), AllocError> {
-    write!(text, "CREATE TABLE T{table} (X INTEGER, Y INTEGER")?;
+    write!(text, "CREATE TABLE T{table} (X INTEGER")?;
+    if !matches!(shape, Shape::Columns) {
+        text.push_str(", Y INTEGER")?;
+    }
     if matches!(shape, Shape::Star) && table == 1 {
         push_sides(text, tables)?;
     }
@@ -78,7 +83,7 @@ pub(crate) fn query(alloc: Global, shape: Shape, tables: u32) -> Result<String, 
     match shape {
         Shape::Chain => push_chain(&mut text, tables)?,
         Shape::Star => push_star(&mut text, tables)?,
-        Shape::All => push_all(&mut text, tables)?,
+        Shape::All | Shape::Columns => push_all(&mut text, tables)?,
     }
     text.push_str(";")?;
     Ok(text)

@@ -1,8 +1,4 @@
-//! What look-ups in an index take, and building one: for bench/look_up.py, which times them.
-//!
-//! `look_up_times ROWS INDEXES ROUNDS` makes a column of as many different numbers, builds an index of it as many times as it
-//! is told, finds one of the numbers as often as it is told, and prints how many rows it found in all.
-#![tactic(auto)]
+//! Look-ups in an index, and building one.
 
 ghost use Rattle.std.specs.Prelude.{◌≡◌, ◌<◌, ◌^◌, length, IfOk};
 ghost use Rattle.columns.specs.Columns.{cells_of};
@@ -11,33 +7,18 @@ use columns::{Column, NumberColumn};
 use indexes::{OrderedIndex, SortedIndex};
 use sqlvalue::{Num, SqlType, Value};
 use std::alloc::{AllocError, Global};
-use std::rt::Runtime;
-use std::{env, io};
 
-fn main(rt: HostRuntime) -> io::Result<()> {
-    let words: Vec<String> = env::args(&rt)?.skip(1).collect(rt.alloc())?;
-    let found = found(
-        rt.alloc(),
-        number(&words, 0),
-        number(&words, 1),
-        number(&words, 2),
-    )?;
-    println!(rt; "{found}")
-}
-
-/// How many rows the look-ups find in all, in the last of the indexes that are built.
-fn found(alloc: Global, rows: u32, indexes: u32, rounds: u32) -> Result<usize, AllocError> {
+/// Makes a column of so many different numbers, builds an index of it so many times, looks one of the numbers up so often, and gives how
+/// many rows were found in all.
+pub(crate) fn look_up(
+    alloc: Global,
+    rows: u32,
+    indexes: u32,
+    rounds: u32,
+) -> Result<usize, AllocError> {
     let column = column(alloc, rows)?;
     let index = built(alloc, &column, indexes)?;
     Ok(looked_up(&index, rows, rounds))
-}
-
-/// A word as a number; 0 where there is none.
-fn number(words: &Vec<String>, place: usize) -> u32 {
-    words
-        .get(place)
-        .and_then(|word| word.parse::<u32>().ok())
-        .unwrap_or(0)
 }
 
 /// The index of a column, built as many times.
