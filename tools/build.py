@@ -1,15 +1,18 @@
 #!/usr/bin/env python3
 """Builds a program of this repository: proves each crate that it stands on, and compiles it.
 
-usage: build.py PROGRAM
+usage: build.py PROGRAM [--times FILE]
 
-Crates are proved side by side, on as many processors as memory allows. A line tells of each crate as it
-is done; where standard error is a terminal, a line below shows what is at work. A crate is built again
-where its files, those of a crate below it or the kit have changed. What was built is kept in the user's
-cache, since the gate wants no sources in the repository but its own, and libraries hold theirs. The program
-is crates/PROGRAM/out/PROGRAM.
+Crates are proved side by side, on as many processors as memory allows. The first line tells what there is to do and how long it will
+take, by what each crate took the last time (release/times); then a line tells of each crate as it is done, and where standard error is a
+terminal, a line below shows what is at work. A crate is built again where its files, those of a crate below it or the kit have changed,
+so a build that was cut off goes on where it was. What was built is kept in the user's cache, since the gate wants no sources in the
+repository but its own, and libraries hold theirs. The program is crates/PROGRAM/out/PROGRAM. With --times the processor seconds of the
+crates that were built are written into a file, and those of the others kept.
 """
+import argparse
 import concurrent.futures
+import functools
 import hashlib
 import os
 import pathlib
@@ -22,6 +25,8 @@ import time
 ROOT = pathlib.Path(__file__).resolve().parent.parent
 CACHE = pathlib.Path(os.environ.get("XDG_CACHE_HOME") or pathlib.Path.home() / ".cache")
 BUILD = CACHE / "sqlr" / hashlib.sha256(str(ROOT).encode()).hexdigest()[:12]
+# What each crate took the last time that a release was made, in processor seconds.
+TIMES = ROOT / "release/times"
 # What a check takes at most, in bytes, as seen in this repository.
 MEMORY = 2_500_000_000
 TARGET = "x86_64-unknown-linux-gnu"
@@ -39,22 +44,24 @@ class Crate:
         self.room = BUILD / name
         self.rlib = self.room / f"{name}.rlib"
 
+    @functools.cached_property
     def below(self):
         """The crates that this one stands on, each behind those that it stands on itself."""
-        found = []
-        for dep in self.deps:
-            found += [it for it in [*dep.below(), dep] if it not in found]
-        return found
+        return list(dict.fromkeys(it for dep in self.deps for it in [*dep.below, dep]))
+
+    @functools.cached_property
+    def sources(self):
+        """A sum over the crate's own files and over those of the crates below it, which are read once a run."""
+        said = hashlib.sha256()
+        files = sorted(it for part in ("src", "specs", "proofs") for it in (self.folder / part).rglob("*") if it.is_file())
+        for file in files:
+            said.update(f"{file.relative_to(ROOT)}\0".encode() + file.read_bytes() + b"\0")
+        said.update(" ".join([*self.of_kit, *(dep.sources for dep in self.deps)]).encode())
+        return said.hexdigest()
 
     def stamp(self, kit):
         """A sum over all that the crate is built of."""
-        said = hashlib.sha256(kit.identity)
-        for crate in [*self.below(), self]:
-            files = sorted(it for part in ("src", "specs", "proofs") for it in (crate.folder / part).rglob("*") if it.is_file())
-            for file in files:
-                said.update(f"{file.relative_to(ROOT)}\0".encode() + file.read_bytes() + b"\0")
-            said.update(" ".join(crate.of_kit).encode())
-        return said.hexdigest()
+        return hashlib.sha256(kit.identity + self.sources.encode()).hexdigest()
 
     def is_built(self, kit):
         kept = self.room / "stamp"
@@ -78,7 +85,7 @@ class Kit:
         words += ["-L", f"dependency={self.folder}/rlibs"]
         for dep in crate.deps:
             words += ["--extern", f"{dep.name}={dep.rlib}"]
-        for dep in crate.below():
+        for dep in crate.below:
             words += ["-L", f"dependency={dep.room}"]
         words += ["--antt-project", self.folder / "rattle/logic/antt-project.json"]
         words += ["--logic-built", self.folder / "logic_built", "--jobs", str(jobs), "--links", f"{crate.name}="]
@@ -175,11 +182,12 @@ class Progress:
 
 
 def build_all(left, kit):
-    """Builds crates, each once those below it are there. Gives the first that failed, if one did."""
+    """Builds crates, each once those below it are there. Gives the first that failed, if one did, and what each took."""
+    took = {}
     progress, running, built, all_lanes = Progress(len(left)), {}, set(), lanes()
     idle = all_lanes
-    waiting = {it.name: {dep.name for dep in it.below() if dep in left} for it in left}
-    height = {it.name: sum(it in other.below() for other in left) for it in left}
+    waiting = {it.name: {dep.name for dep in it.below if dep in left} for it in left}
+    height = {it.name: sum(it in other.below for other in left) for it in left}
     left = sorted(left, key=lambda it: -height[it.name])
     with concurrent.futures.ThreadPoolExecutor(len(left)) as pool:
         while left or running:
@@ -199,16 +207,45 @@ def build_all(left, kit):
                 status, used = it.result()
                 progress.ended(crate, status, used)
                 if status:
-                    return crate
+                    return crate, took
                 built.add(crate.name)
+                took[crate.name] = used
             progress.show()
-    return None
+    return None, took
+
+
+def last_times():
+    """The processor seconds of each crate the last time."""
+    lines = TIMES.read_text().split("\n") if TIMES.is_file() else []
+    return {name: float(seconds) for name, seconds in (line.split() for line in lines if line)}
+
+
+def minutes(seconds):
+    return f"{max(1, round(seconds / 60))} minutes"
+
+
+def forecast(left):
+    """How long a build will take: as long as its processors need, or its longest chain of crates, which none of them shortens."""
+    times = last_times()
+    longest = {}
+    for crate in left:
+        longest[crate.name] = times.get(crate.name, 60) + max((longest.get(dep.name, 0) for dep in crate.below), default=0)
+    total = sum(times.get(crate.name, 60) for crate in left)
+    # A crate's own proofs go on two processors where there are two.
+    on = max(total / lanes(), max(longest.values()) / 2)
+    return f"about {minutes(on)} on {lanes()} processors, {minutes(total)} of one"
 
 
 def main():
-    kit, crates = Kit(), crates_below(sys.argv[1])
+    words = argparse.ArgumentParser()
+    words.add_argument("program")
+    words.add_argument("--times", type=pathlib.Path)
+    asked = words.parse_args()
+    kit, crates = Kit(), crates_below(asked.program)
     left = [it for it in crates if not it.is_built(kit)]
-    failed = build_all(left, kit) if left else None
+    if left:
+        print(f"sqlr: proving and building {len(left)} of {len(crates)} crates: {forecast(left)}", file=sys.stderr, flush=True)
+    failed, took = build_all(left, kit) if left else (None, {})
     if failed:
         tail = (failed.room / "log").read_bytes().decode(errors="replace").splitlines()[-30:]
         print(*tail, sep="\n", file=sys.stderr)
@@ -218,6 +255,10 @@ def main():
     out.parent.mkdir(exist_ok=True)
     shutil.copyfile(program.room / program.name, out)
     out.chmod(0o755)
+    if asked.times:
+        times = {name: seconds for name, seconds in {**last_times(), **took}.items() if name in {it.name for it in crates}}
+        asked.times.parent.mkdir(exist_ok=True)
+        asked.times.write_text("".join(f"{name} {seconds:.0f}\n" for name, seconds in sorted(times.items())))
 
 
 if __name__ == "__main__":
