@@ -1,4 +1,4 @@
-//! Query blocks.
+//! Binds one query block: its FROM, then WHERE, GROUP BY, HAVING and its result columns, as one bound block.
 
 ghost use Rattle.std.specs.Prelude.{◌≡◌, ◌≤◌, ◌<◌, IsTrue, length, map, slice_set};
 ghost use Rattle.query_rules.specs.Judging.{takes_functions};

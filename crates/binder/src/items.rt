@@ -1,4 +1,4 @@
-//! Result columns.
+//! Binds the result columns of a block, and those that `*` stands for.
 
 ghost use Rattle.std.specs.Prelude.{◌≡◌, ◌≤◌, IfOk, length, map, option_map, string_bytes};
 ghost use Rattle.definitions.specs.Limits.{most_blocks};

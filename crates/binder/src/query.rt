@@ -1,4 +1,4 @@
-//! Queries.
+//! Binds a whole query: its outermost block with all blocks inside, and the keys of ORDER BY.
 
 ghost use Rattle.std.specs.Prelude.{[], IfOk, IfErr, IfSome, map};
 ghost use Rattle.definitions.specs.Invariant.{IsDatabase};

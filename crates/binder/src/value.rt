@@ -1,4 +1,4 @@
-//! Values.
+//! Binds value expressions, their set functions and their subqueries, and finds their types.
 
 ghost use Rattle.std.specs.Prelude.{◌≡◌, ◌≤◌, ◌++◌, ◌∷◌, [], false, length, map, IfOk, IfErr, OnOk, OnErr, IsTrue, IsFalse};
 ghost use Rattle.definitions.specs.Grammar.{operands};

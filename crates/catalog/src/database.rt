@@ -1,4 +1,4 @@
-//! Databases.
+//! A database: tables by name, and the statements that make and change them.
 
 ghost use Rattle.std.specs.Prelude.{◌≡◌, ◌<◌, [], Some, IfSome, IfOk, IfErr, OnOk, OnErr, map, length, bytes_eq};
 ghost use Rattle.std.specs.Option.{option_copied};

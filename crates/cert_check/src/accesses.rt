@@ -1,4 +1,4 @@
-//! The rule of accesses.
+//! The first rule: no access to a table leads to a state for less than its bound.
 
 ghost use Rattle.std.specs.Prelude.{◌<◌, ◌≤◌, MatchOption};
 ghost use Rattle.definitions.specs.Limits.{most_from_tables};

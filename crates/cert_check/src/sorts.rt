@@ -1,4 +1,4 @@
-//! The rule of sorts.
+//! The third rule: no sort of a state leads to another for less than its bound.
 
 ghost use Rattle.std.specs.Prelude.{◌≡◌, ◌<◌, ◌^◌, MatchOption};
 ghost use Rattle.std.specs.Bool.{Decides};

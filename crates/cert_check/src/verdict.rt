@@ -1,4 +1,4 @@
-//! What a checker answers.
+//! What a checker answers: that all rules hold, or the first that fails and a state where it does.
 
 use plan_tree::TableSet;
 

@@ -1,4 +1,4 @@
-//! Indexes on one column.
+//! Indexes on one column, by which the first version of texts names indexes.
 
 ghost use Rattle.std.specs.Prelude.{◌≡◌, position};
 ghost use Rattle.definitions.specs.Certificates.CertifiedBlock as spec;

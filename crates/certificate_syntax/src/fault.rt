@@ -1,4 +1,4 @@
-//! Why bytes say nothing.
+//! Why bytes are no certificate: the byte at which none goes on so, and what was expected there.
 
 use crate::words::Word;
 use thiserror::Error;

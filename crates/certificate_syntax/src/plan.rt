@@ -1,4 +1,4 @@
-//! Plans.
+//! Reads a plan from the text of a certificate.
 
 ghost use Rattle.std.specs.Prelude.{◌≡◌, ◌<◌, ℕ, slice_index};
 ghost use Rattle.interesting_orders.specs.Versions.{version_of};

@@ -1,4 +1,4 @@
-//! Where reading stops.
+//! Where reading of a certificate's text stops, and why.
 
 ghost use Rattle.std.specs.Prelude.{◌≡◌, length};
 ghost use Rattle.certificate_syntax.specs.declared.stop.TextStop.TheVariants as stops;

@@ -1,4 +1,4 @@
-//! Whole texts.
+//! Reads the whole text of a certificate: its version, block, plan, target and states.
 
 ghost use Rattle.std.specs.Prelude.{IfOk, IfErr, map};
 ghost use Rattle.definitions.specs.Certificates.Fault.{Says};

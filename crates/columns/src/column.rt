@@ -1,4 +1,4 @@
-//! Columns of either kind.
+//! A column of numbers or of texts, behind one interface.
 
 ghost use Rattle.std.specs.Prelude.{ℕ, ◌≡◌, ◌<◌, ◌≤◌, ◌+◌, ◌∷◌, ◌++◌, ◌&&◌, not, true, false, [], take, length, slice_index_or, IfSome, IsNone, OnOk, OnErr, IfOk};
 ghost use Rattle.definitions.specs.Value as spec;

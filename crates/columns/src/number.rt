@@ -1,4 +1,4 @@
-//! Columns of numbers.
+//! A column of numbers: 64-bit units at the column's scale, and its null bits.
 
 ghost use Rattle.std.specs.Prelude.{◌&&◌, not, IsNone, ◌≡◌, ◌<◌, ◌≤◌, ◌+◌, ◌∷◌, [], ◌++◌, length, map, take, All, FitsSigned, IfSome, IfOk, OnOk, OnErr, slice_index_or};
 ghost use Rattle.std.specs.Int.{w64};

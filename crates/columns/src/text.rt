@@ -1,4 +1,4 @@
-//! Columns of texts.
+//! A column of texts: one buffer with as many bytes a row as the type has, and its null bits.
 
 ghost use Rattle.std.specs.Option.{option_copied};
 ghost use Rattle.std.specs.String.{string_bytes};

@@ -1,4 +1,4 @@
-//! Conditions `column = column`.
+//! Conditions `column = column`, and the columns that they equate.
 
 ghost use Rattle.std.specs.Prelude.{◌≡◌, option_map};
 ghost use Rattle.definitions.specs.Estimates.PlanConjuncts as spec;

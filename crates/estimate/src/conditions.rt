@@ -1,4 +1,4 @@
-//! The selectivity of conditions.
+//! The selectivity of a condition, which puts together those of its parts.
 
 ghost use Rattle.std.specs.Prelude.{◌≡◌, ◌≤◌};
 ghost use Rattle.definitions.specs.Table.{Database};

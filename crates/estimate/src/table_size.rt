@@ -1,4 +1,4 @@
-//! The sizes of tables.
+//! How many rows and pages a table is taken to have, and how wide its rows are.
 
 ghost use Rattle.std.specs.Prelude.{◌≡◌, ◌≤◌, IfOk, length, map};
 ghost use Rattle.definitions.specs.Plans.Cost.{limit};

@@ -1,4 +1,4 @@
-//! Plans of blocks.
+//! The plan space of a block, and a least plan in it.
 
 ghost use Rattle.std.specs.Prelude.{◌≡◌, IfOk};
 ghost use Rattle.definitions.specs.Binding.Formed.{IsFormedSomewhere};

@@ -1,4 +1,4 @@
-//! Truth values of conditions.
+//! The truth value of a bound condition.
 
 ghost use Rattle.std.specs.Prelude.{[], ◌∷◌, map};
 ghost use Rattle.std.specs.List.{AllByRecursion};

@@ -1,4 +1,4 @@
-//! Values of expressions.
+//! The value of a bound expression.
 
 ghost use Rattle.std.specs.Prelude.{◌≡◌, Some};
 ghost use Rattle.definitions.specs.ValueType.{ValueType};

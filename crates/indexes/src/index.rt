@@ -1,4 +1,4 @@
-//! Indexes of a table.
+//! An index of a table: its columns, whether keys are unique, its statistics, and its order of rows.
 
 ghost use Rattle.std.specs.Prelude.{◌≡◌, ◌≤◌, ◌<◌, ℕ, IfOk, IfErr, length, map, bytes_eq};
 ghost use Rattle.std.specs.List.{AllByRecursion};

@@ -1,4 +1,4 @@
-//! What any index offers.
+//! What any index offers: all rows in key order, those of a key, and those of a range.
 
 ghost use Rattle.std.specs.Prelude.{ℕ, List, ◌≡◌, ◌≤◌, ◌<◌, length, map};
 ghost use Rattle.definitions.specs.IndexRun.{Entry, rows_of, equal_part, range_part};

@@ -1,4 +1,4 @@
-//! Keys that come twice.
+//! The first row that repeats the key of an earlier one.
 
 ghost use Rattle.std.specs.Prelude.{◌≡◌, ◌<◌, ◌+◌, IsPermutation, IfSome, IsNone, length, map};
 ghost use Rattle.std.specs.List.{range_with_len};

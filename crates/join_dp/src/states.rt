@@ -1,4 +1,4 @@
-//! Solved states.
+//! The states that are solved so far: a set of tables and an order, each with its least plan.
 
 ghost use Rattle.std.specs.Prelude.{ℕ, ◌≡◌, ◌+◌, ◌<◌, ◌≤◌, ◌++◌, [], ◌∷◌, IfOk, length, min, map};
 ghost use Rattle.plan_tree.specs.Sets.{set_of};

@@ -1,4 +1,4 @@
-//! Steps of plans.
+//! The last step of a plan, and candidates for the least plan of a state.
 
 use plan_tree::{Path, TableSet};
 

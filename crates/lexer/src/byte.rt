@@ -1,4 +1,4 @@
-//! Classes of bytes.
+//! Classes of bytes: letters, digits, blanks and the ends of lines.
 
 ghost use Rattle.std.specs.Prelude.{◌≡◌};
 ghost use Rattle.definitions.specs.Characters as characters;

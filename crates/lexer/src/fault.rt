@@ -1,4 +1,4 @@
-//! Lexical faults.
+//! Lexical faults, each with its place and cause.
 
 use thiserror::Error;
 

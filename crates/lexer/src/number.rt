@@ -1,4 +1,4 @@
-//! What number tokens write.
+//! Finds how long a number token is, and what is wrong with it.
 
 ghost use Rattle.std.specs.Prelude.{◌≡◌, ◌+◌, ◌<◌, ◌≤◌, ◌^◌, Some, IfSome, length, option_map};
 ghost use Rattle.std.specs.Str.Parse.{digits_value as value_of};

@@ -1,4 +1,4 @@
-//! Unsigned numbers.
+//! Unsigned numbers as they are written: units, digits and fraction.
 
 ghost use Rattle.std.specs.Prelude.{◌^◌, ◌<◌};
 ghost use Rattle.definitions.specs.Binding.Formed.{IsWrittenNumeral};

@@ -1,4 +1,4 @@
-//! The characters of symbols.
+//! The symbols, of one character or two.
 
 ghost use Rattle.std.specs.Prelude.{◌≡◌, [], ◌∷◌, Some, option_map};
 ghost use Rattle.definitions.specs.Lexing.{symbol};

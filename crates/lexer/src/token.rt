@@ -1,4 +1,4 @@
-//! Tokens.
+//! Tokens: each with its kind, its place and its slice of the script.
 
 ghost use Rattle.std.proofs.Props.{props};
 ghost use Rattle.lexer.specs.Within.{IsNumberWithin, IsStringWithin};

@@ -1,4 +1,4 @@
-//! The reserved words.
+//! The reserved words, and how each is spelled.
 
 ghost use Rattle.std.specs.Prelude.{◌≡◌, ◌==◌, IsTrue, map, filter, option_map, slice_index};
 ghost use Rattle.std.specs.List.{list_all};

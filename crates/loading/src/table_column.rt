@@ -1,4 +1,4 @@
-//! Columns of tables.
+//! A column of a table: its name, its type, its constraint and its values.
 
 ghost use Rattle.std.specs.Prelude.{◌≡◌, ◌<◌, ◌≤◌, ◌+◌, [], Ok, Err, IfOk, IfErr, OnOk, OnErr, length, bytes_eq, slice_index_or};
 ghost use Rattle.columns.specs.Columns.{cells_of};

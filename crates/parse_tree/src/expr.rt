@@ -1,4 +1,4 @@
-//! Expressions and query blocks.
+//! Trees of expressions and of query blocks, with the places of what is written.
 
 ghost use Rattle.std.specs.Prelude.{◌<◌, length};
 

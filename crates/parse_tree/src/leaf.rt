@@ -1,4 +1,4 @@
-//! Names, literals and operators.
+//! Leaves of trees: names, literals and operators.
 
 ghost use Rattle.std.specs.Prelude.{◌^◌, ◌<◌, string_bytes};
 ghost use Rattle.std.proofs.Props.{props};

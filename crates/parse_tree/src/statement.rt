@@ -1,4 +1,4 @@
-//! Statements.
+//! Trees of statements.
 
 use crate::expr::Block;
 use crate::leaf::{Count, Name, Numeral, StringLiteral};

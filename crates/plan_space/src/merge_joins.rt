@@ -1,4 +1,4 @@
-//! Merges, one after another.
+//! The merge joins that may bring a table, given one after another with their costs.
 
 ghost use Rattle.std.specs.Prelude.{◌≡◌, ◌≤◌, map};
 ghost use Rattle.definitions.specs.Estimates.Fractions.{million};

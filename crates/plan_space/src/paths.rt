@@ -1,4 +1,4 @@
-//! Paths, one after another.
+//! The access paths of a table, given one after another with their orders and costs.
 
 ghost use Rattle.std.specs.Prelude.{◌≡◌, map};
 ghost use Rattle.plan_tree.specs.Sets.{set_of};

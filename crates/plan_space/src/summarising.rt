@@ -1,4 +1,4 @@
-//! What plans come to.
+//! Sums a plan up: its tables, its order and its cost, if it is a plan of the block.
 
 ghost use Rattle.std.specs.Prelude.{◌≡◌, ◌<◌, ◌^◌, true, IfSome, option_map};
 ghost use Rattle.std.specs.Bool.{Decides};

@@ -1,4 +1,4 @@
-//! Orders of rows.
+//! Sort keys: a column of a block, and a direction.
 
 use query_tree::BlockColumn;
 

@@ -1,4 +1,4 @@
-//! Access paths.
+//! Access paths: a segment scan, an index scan, or a match of conjuncts with an index.
 
 ghost use Rattle.std.specs.Prelude.{◌≡◌};
 ghost use Rattle.definitions.specs.Plans.Path as spec;

@@ -1,4 +1,4 @@
-//! Plans.
+//! Plans: accesses, nested-loop joins, merge joins and sorts.
 
 use crate::path::Path;
 

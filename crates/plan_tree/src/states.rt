@@ -1,4 +1,4 @@
-//! Certificates and their states.
+//! Certificates: a target, and lower bounds of states that cost less.
 
 ghost use Rattle.std.specs.Prelude.{◌≡◌};
 ghost use Rattle.definitions.specs.Plans.Certificate as spec;

@@ -1,4 +1,4 @@
-//! Sets of tables.
+//! Sets of the tables of a block, one bit a table.
 
 ghost use Rattle.std.specs.Prelude.{ℕ, ◌≡◌, ◌<◌, ◌≤◌, ◌==◌, ◌^◌, bit_or};
 ghost use Rattle.std.specs.Bool.{Decides};

@@ -1,4 +1,4 @@
-//! Set functions in expressions.
+//! Set functions: where they may stand, and which values they take.
 
 ghost use Rattle.std.specs.Prelude.{◌≡◌, flat_map, map};
 ghost use Rattle.std.specs.List.{list_any};

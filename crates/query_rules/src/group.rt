@@ -1,4 +1,4 @@
-//! Grouped blocks.
+//! Grouped blocks: which columns their result columns and HAVING may look at.
 
 ghost use Rattle.std.specs.Prelude.{◌≡◌, IfOk, IfErr, IfSome, IsNone, OnOk, map};
 ghost use Rattle.std.specs.Bool.{Decides};

@@ -1,4 +1,4 @@
-//! ORDER BY.
+//! The keys of ORDER BY, by position or by the name of a result column.
 
 ghost use Rattle.std.specs.Prelude.{◌≡◌, ◌≢◌, ◌≤◌, IfOk, IfErr, IfSome, IsNone, OnOk, count_by, length, map};
 ghost use Rattle.std.specs.List.{position_or_len};

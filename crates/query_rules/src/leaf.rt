@@ -1,4 +1,4 @@
-//! Columns and literals.
+//! Binds column references and literals, with their types.
 
 ghost use Rattle.std.specs.Prelude.{◌≡◌, ◌⊎◌, true, IfOk, IfErr, IfSome, OnOk, map};
 ghost use Rattle.std.specs.Bool.{Decides};

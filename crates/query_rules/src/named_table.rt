@@ -1,4 +1,4 @@
-//! Tables of FROM.
+//! The tables of a FROM, with the names that they go by.
 
 ghost use Rattle.std.specs.Prelude.{◌≡◌, IfSome, IsNone, None, unwrap_or};
 ghost use Rattle.std.specs.Option.{option_copied};

@@ -1,4 +1,4 @@
-//! Operands by their types.
+//! Which types go together as operands, and the type of what comes of them.
 
 ghost use Rattle.std.specs.Prelude.{ℕ, ◌≡◌, ◌≢◌, ◌≤◌, ◌<◌, Some, IfOk, IfErr, OnOk, map};
 ghost use Rattle.definitions.specs.Limits.{greatest_scale};

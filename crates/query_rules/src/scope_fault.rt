@@ -1,4 +1,4 @@
-//! Faults of a FROM.
+//! What can be wrong with a FROM.
 
 use parse_tree::Name;
 use std::alloc::{AllocError, AllocFailed};

@@ -1,4 +1,4 @@
-//! Query blocks.
+//! Bound query blocks: tables, conditions, groups and result columns by number.
 
 use crate::condition::Condition;
 use crate::leaf::BlockColumn;

@@ -1,4 +1,4 @@
-//! Conditions.
+//! Bound conditions.
 
 use crate::value::ValueExpr;
 use parse_tree::Quantifier;

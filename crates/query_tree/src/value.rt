@@ -1,4 +1,4 @@
-//! Values.
+//! Bound value expressions, each with its type.
 
 use crate::leaf::{BlockColumn, NumberLiteral, Operator, ValueType};
 use sqlvalue::SqlType;

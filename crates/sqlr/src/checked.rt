@@ -1,4 +1,4 @@
-//! A query's certificates, checked.
+//! Checks the certificates of a query's blocks.
 
 ghost use Rattle.std.specs.Prelude.{◌≡◌, IfOk, option_map};
 ghost use Rattle.definitions_execution.specs.CheckingRun as run;

@@ -1,4 +1,4 @@
-//! Checking runs.
+//! A checking run: the statements before the last, and then the certificates of the last one's query.
 
 ghost use Rattle.std.specs.Prelude.{ℕ, ◌≡◌, ◌≢◌, ◌<◌, List, IfOk, IfErr, OnOk, OnErr};
 ghost use Rattle.definitions_execution.specs.Step.{AreStatements};
@@ -41,7 +41,7 @@ impl<L: Library> Session<L> {
         match parse_script(self.alloc, script) {
             Ok(statements) => self.check_statements(&statements, certificates, sink),
             Err(ScriptFault::Refused { refused, offset }) => {
-                sink.explain(&refused, &self.database);
+                sink.report(&refused, &self.database);
                 self.put_fault(refused.refusal, offset, sink)
             }
             Err(ScriptFault::Memory) => Err(RunFault::Memory { offset: 0 }),
@@ -125,7 +125,7 @@ impl<L: Library> Session<L> {
         match check_query(self.alloc, &self.database, query, certificates) {
             Ok(Checked::Refused(printed)) => put_refused(&printed, &self.database, sink),
             Ok(Checked::Told(checked)) => {
-                sink.explain_certificates(&checked, &self.database);
+                sink.report_certificates(&checked, &self.database);
                 put_text(&checked.told.text, end_of(checked.told.ended), sink)
             }
             Err(_) => Err(RunFault::Memory {

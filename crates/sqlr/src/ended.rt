@@ -1,4 +1,4 @@
-//! How a run ends.
+//! How a run ends, and the exit status of that.
 
 ghost use Rattle.std.specs.Prelude.{◌≡◌};
 ghost use Rattle.sqlr.specs.Meaning.{status_of};

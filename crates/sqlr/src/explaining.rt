@@ -1,4 +1,4 @@
-//! EXPLAIN.
+//! EXPLAIN: a query is bound and its least plans are spelled.
 
 ghost use Rattle.std.specs.Prelude.{◌≡◌, IfOk, IfErr};
 ghost use Rattle.parse_tree.specs.Trees.{select_of};

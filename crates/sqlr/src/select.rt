@@ -1,4 +1,4 @@
-//! Queries.
+//! SELECT: a query is bound, judged and answered.
 
 ghost use Rattle.std.specs.Prelude.{◌≡◌, IfOk, IfErr};
 ghost use Rattle.parse_tree.specs.Trees.{select_of};

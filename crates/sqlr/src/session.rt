@@ -1,4 +1,4 @@
-//! Sessions.
+//! A session: a database, the library that LOAD asks, and how its scripts are run.
 
 ghost use Rattle.std.specs.Prelude.{◌≡◌, ◌≢◌, [], None, IfOk, IfErr, OnErr};
 ghost use Rattle.definitions.specs.Printing.{fault_text};
@@ -87,7 +87,7 @@ impl<L: Library> Session<L> {
         match parse_script(self.alloc, script) {
             Ok(statements) => self.run_statements(&statements, sink),
             Err(ScriptFault::Refused { refused, offset }) => {
-                sink.explain(&refused, &self.database);
+                sink.report(&refused, &self.database);
                 self.put_fault(refused.refusal, offset, sink)
             }
             Err(ScriptFault::Memory) => Err(RunFault::Memory { offset: 0 }),
@@ -242,7 +242,7 @@ pub(crate) fn tell_cause<S: Sink>(sink: &mut S, refused: &Option<Refused>, datab
     ensures counted { S.failures sink.new ≡ S.failures sink.old }
 {
     if let Some(refused) = refused {
-        sink.explain(refused, database);
+        sink.report(refused, database);
     }
 }
 

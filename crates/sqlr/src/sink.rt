@@ -28,14 +28,14 @@ pub trait Sink {
 
     /// Is told why a script or a statement is refused, before its line is put, with the database that it
     /// was refused over (own). It does nothing, unless a sink has another body.
-    fn explain(&mut self, _refused: &Refused, _database: &Database)
+    fn report(&mut self, _refused: &Refused, _database: &Database)
         ensures taken { taken self.new ≡ taken self.old }
         ensures counted { failures self.new ≡ failures self.old }
     {}
 
     /// Is told what was told of the certificates of a query's blocks, before its lines are put, with the
     /// database that the query is over (own). It does nothing, unless a sink has another body.
-    fn explain_certificates(&mut self, _checked: &CheckedFile, _database: &Database)
+    fn report_certificates(&mut self, _checked: &CheckedFile, _database: &Database)
         requires { AllByRecursion (IsFormedSomewhere _database.now) (map block_of _checked.now.blocks.items) }
         ensures taken { taken self.new ≡ taken self.old }
         ensures counted { failures self.new ≡ failures self.old }

@@ -46,7 +46,7 @@ impl<L: Ledger, R: Runtime + AllocGlobal, W: Write + Drop> Sink for Output<'_, '
         }
     }
 
-    fn explain(&mut self, refused: &Refused, database: &Database) {
+    fn report(&mut self, refused: &Refused, database: &Database) {
         self.refused = self.refused.saturating_add(1);
         if self.refused > MAX_MESSAGES {
             return;
@@ -55,7 +55,7 @@ impl<L: Ledger, R: Runtime + AllocGlobal, W: Write + Drop> Sink for Output<'_, '
         self.standard_error.print(report);
     }
 
-    fn explain_certificates(&mut self, checked: &CheckedFile, database: &Database) {
+    fn report_certificates(&mut self, checked: &CheckedFile, database: &Database) {
         let name = self.certificates_name;
         let report = self.reporter.report_certificates(name, checked, database);
         self.standard_error.print(report);

@@ -1,4 +1,4 @@
-//! Comparison of values.
+//! How two values compare, unknown with null, and how all values rank, null first.
 
 ghost use Rattle.std.specs.Prelude.{◌≡◌, ◌*◌, ◌^◌, nat_abs, slice_index_or};
 ghost use Rattle.std.specs.Ordering.{nat_cmp};

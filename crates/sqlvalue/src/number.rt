@@ -1,4 +1,4 @@
-//! Exact numbers.
+//! Exact numbers: units at a scale.
 
 ghost use Rattle.std.specs.Prelude.{◌≡◌, ◌/◌, ◌%◌, ◌^◌, ◌<◌, ◌≤◌, pos, int_lt, nat_abs, neg_ℤ};
 ghost use Rattle.definitions.specs.Limits.{most_digits, greatest_scale};

@@ -1,4 +1,4 @@
-//! Patterns of LIKE.
+//! The patterns of LIKE.
 
 ghost use Rattle.std.specs.Prelude.{◌≡◌, ◌==◌, ◌&&◌, ◌||◌, [], drop, length, nat_lt, slice_index_or};
 ghost use Rattle.definitions.specs.Pattern as spec;

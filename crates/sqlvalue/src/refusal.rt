@@ -1,4 +1,4 @@
-//! Refusals.
+//! The refusals E01 to E22 with their labels and SQLSTATEs, and the faults of fields.
 
 ghost use Rattle.std.specs.Prelude.{◌≡◌};
 ghost use Rattle.definitions.specs.Refusal as spec;

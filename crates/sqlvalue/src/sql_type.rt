@@ -1,4 +1,4 @@
-//! The types of columns.
+//! The types of columns, and which parameters they may have.
 
 ghost use Rattle.std.specs.Prelude.{◌≡◌, ◌≤◌, ◌↔◌, IsOk, IfOk, IfErr};
 ghost use Rattle.definitions.specs.Limits.{greatest_precision};

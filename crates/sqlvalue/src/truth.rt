@@ -1,4 +1,4 @@
-//! Truth values.
+//! The truth values true, false and unknown, and AND, OR and NOT of them.
 
 ghost use Rattle.std.specs.Prelude.{◌≡◌};
 ghost use Rattle.definitions.specs.Truth as spec;

@@ -1,4 +1,4 @@
-//! Values.
+//! Values: null, an exact number, or a text.
 
 use crate::number::Num;
 

@@ -1,4 +1,4 @@
-//! Syntax faults.
+//! Syntax faults: what stands there, and what could have stood there.
 
 ghost use Rattle.std.specs.Prelude.{◌≡◌, slice_get};
 ghost use Rattle.syntax.specs.Reading.{TellsStop, start_or};

@@ -1,4 +1,4 @@
-//! From tokens to statements.
+//! The rules of the grammar: from tokens to the trees of statements.
 #![tactic(auto)]
 
 mod element;

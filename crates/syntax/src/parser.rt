@@ -1,4 +1,4 @@
-//! Scripts.
+//! Reads a whole script.
 
 ghost use Rattle.std.specs.Prelude.{◌≡◌, [], IfOk, IfErr};
 ghost use Rattle.definitions.specs.Grammar.{Derives};

@@ -1,4 +1,4 @@
-//! Statements other than queries.
+//! Reads the statements other than queries.
 
 ghost use Rattle.std.specs.Prelude.{◌≡◌, [], IfOk, map, option_map};
 ghost use Rattle.definitions.specs.Grammar as grammar;

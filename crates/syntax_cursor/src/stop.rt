@@ -1,4 +1,4 @@
-//! Where reading stops.
+//! Where the reading of tokens stops, and why.
 
 ghost use Rattle.std.specs.Prelude.{◌≡◌};
 ghost use Rattle.syntax_cursor.specs.declared.stop.ParseStop.TheVariants as stops;

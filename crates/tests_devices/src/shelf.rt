@@ -1,4 +1,4 @@
-//! Files in memory.
+//! A library of files in memory.
 
 use sqlr::{FetchFault, Fetched, Library};
 use std::alloc::Global;

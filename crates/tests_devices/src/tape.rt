@@ -43,12 +43,12 @@ impl<L: Ledger> Sink for Tape<'_, L> {
         }
     }
 
-    fn explain(&mut self, refused: &Refused, database: &Database) {
+    fn report(&mut self, refused: &Refused, database: &Database) {
         let report = self.reporter.report(refused, database);
         let _ = push(&mut self.messages, report);
     }
 
-    fn explain_certificates(&mut self, checked: &CheckedFile, database: &Database) {
+    fn report_certificates(&mut self, checked: &CheckedFile, database: &Database) {
         let report = self
             .reporter
             .report_certificates(CERTIFICATES_NAME, checked, database);

@@ -1,4 +1,4 @@
-//! Columns for tests.
+//! Columns of given values, for tests.
 
 ghost use Rattle.std.specs.Prelude.{◌≡◌, length, IfOk};
 ghost use Rattle.columns.specs.Columns.{cells_of};

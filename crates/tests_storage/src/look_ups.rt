@@ -1,4 +1,4 @@
-//! Look-ups.
+//! Look-ups by keys and ranges, compared with what was worked out by hand.
 
 ghost use Rattle.std.specs.Prelude.{◌≡◌};
 

@@ -1,4 +1,4 @@
-//! Orders of rows.
+//! The order of rows of equal keys, compared with what was worked out by hand.
 
 use crate::columns_of::integers;
 use indexes::{OrderedIndex, SortedIndex, UniqueIndex};

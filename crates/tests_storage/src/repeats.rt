@@ -1,4 +1,4 @@
-//! Repeated keys.
+//! Repeated keys, compared with what was worked out by hand.
 
 use crate::columns_of::integers;
 use indexes::{RepeatedKey, UniqueFault, UniqueIndex};

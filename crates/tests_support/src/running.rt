@@ -1,4 +1,4 @@
-//! Plans that are run.
+//! Runs a plan, and keeps what it gave and how many rows it opened.
 
 ghost use Rattle.std.specs.Prelude.{◌≡◌};
 ghost use Rattle.estimate.specs.Estimated.{IsFormed};

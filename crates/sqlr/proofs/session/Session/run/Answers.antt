@@ -21,4 +21,4 @@ pub returns-in-Err-Refused-clause-library : goal.returns-in-Err-Refused-clause-l
 returns-in-Err-Refused-clause-library g c = line_unasked _ _ _ _ _ c.put_fault.ensures.breaks
 
 pub returns-in-Err-Refused-clause-sink : goal.returns-in-Err-Refused-clause-sink
-returns-in-Err-Refused-clause-sink g c = rw c.explain.ensures.counted at c.put_fault.ensures.blamed
+returns-in-Err-Refused-clause-sink g c = rw c.report.ensures.counted at c.put_fault.ensures.blamed
