@@ -11,15 +11,15 @@ returns-in_err-conjunct c =
     at_exit plan_said (WrappedIn (version_of c.args.version) around.Merge (plan_said c.args.outer) c.args.text.now) c.from_residual.result c.in_err-conjunct.field-0.0 c.from_residual.ensures.1
     (first _ _ _ _ (merge_tells (version_of c.args.version) (plan_said c.args.outer) c.args.text.now) _ c.in_err-conjunct.ensures)
 
-pub returns-in_err-read_sort : goal.returns-in_err-read_sort
-returns-in_err-read_sort c =
-    at_exit plan_said (WrappedIn (version_of c.args.version) around.Merge (plan_said c.args.outer) c.args.text.now) c.from_residual-in_err-read_sort.result c.in_err-read_sort.field-0.0 c.from_residual-in_err-read_sort.ensures.1
-    (second _ _ _ _ (merge_tells (version_of c.args.version) (plan_said c.args.outer) c.args.text.now) c.in_ok-conjunct.conjunct c.in_ok-conjunct.text.now c.in_ok-conjunct.ensures _ (first_refused _ _ _ c.in_err-read_sort.ensures))
+pub returns-in_err-sorted : goal.returns-in_err-sorted
+returns-in_err-sorted c =
+    at_exit plan_said (WrappedIn (version_of c.args.version) around.Merge (plan_said c.args.outer) c.args.text.now) c.from_residual-in_err-sorted.result c.in_err-sorted.field-0.0 c.from_residual-in_err-sorted.ensures.1
+    (second _ _ _ _ (merge_tells (version_of c.args.version) (plan_said c.args.outer) c.args.text.now) c.in_ok-conjunct.conjunct c.in_ok-conjunct.text.now c.in_ok-conjunct.ensures _ (first_refused _ _ _ c.in_err-sorted.ensures))
 
 pub returns-in_err-path : goal.returns-in_err-path
 returns-in_err-path c =
     at_exit plan_said (WrappedIn (version_of c.args.version) around.Merge (plan_said c.args.outer) c.args.text.now) c.from_residual-in_err-path.result c.in_err-path.field-0.0 c.from_residual-in_err-path.ensures.1
-    (second _ _ _ _ (merge_tells (version_of c.args.version) (plan_said c.args.outer) c.args.text.now) c.in_ok-conjunct.conjunct c.in_ok-conjunct.text.now c.in_ok-conjunct.ensures _ (then_refused _ _ c.in_ok-read_sort.sorted c.in_ok-read_sort.text.now _ c.in_ok-read_sort.ensures c.in_err-path.ensures))
+    (second _ _ _ _ (merge_tells (version_of c.args.version) (plan_said c.args.outer) c.args.text.now) c.in_ok-conjunct.conjunct c.in_ok-conjunct.text.now c.in_ok-conjunct.ensures _ (then_refused _ _ c.in_ok-sorted.sorted c.in_ok-sorted.text.now _ c.in_ok-sorted.ensures c.in_err-path.ensures))
 
 pub returns-in_err-outer : goal.returns-in_err-outer
 returns-in_err-outer c = at_memory plan_said (WrappedIn (version_of c.args.version) around.Merge (plan_said c.args.outer) c.args.text.now) c.from_residual-in_err-outer.result c.from_residual-in_err-outer.ensures.1

@@ -13,7 +13,7 @@ returns-in_ok-push-2 c = λ space uses way right path.
     let a = c.args in
     let item = item_of a.item in
     let old = map merge_told a.merges.now.items in
-    let cost : c.saturated-sort_summary.result ≡ saturated (a.item.cost + a.way.sort_cost) = c.saturated-sort_summary.ensures.exact ∙ ap₂ (λ n m. saturated (n + m)) c.from.ensures c.from-2.ensures in
+    let cost : c.saturated-sorted.result ≡ saturated (a.item.cost + a.way.sort_cost) = c.saturated-sorted.ensures.exact ∙ ap₂ (λ n m. saturated (n + m)) c.from.ensures c.from-2.ensures in
     let first : map merge_told c.push.new.self.items ≡ old ++ with_sort space a.way way item right path ∷ [] =
     pushed a.merges.now.items c.push.new.self.items c.in_ok-listed.field-0 (with_sort space a.way way item right path) c.in_ok-push.ensures.items
     (c.in_ok-listed.ensures ∙ ap (listed space a.way way item right path true) cost) in
@@ -28,7 +28,7 @@ returns-else-goes_by c = λ space uses way right path.
     let a = c.args in
     let item = item_of a.item in
     let old = map merge_told a.merges.now.items in
-    let cost : c.saturated-sort_summary.result ≡ saturated (a.item.cost + a.way.sort_cost) = c.saturated-sort_summary.ensures.exact ∙ ap₂ (λ n m. saturated (n + m)) c.from.ensures c.from-2.ensures in
+    let cost : c.saturated-sorted.result ≡ saturated (a.item.cost + a.way.sort_cost) = c.saturated-sorted.ensures.exact ∙ ap₂ (λ n m. saturated (n + m)) c.from.ensures c.from-2.ensures in
     let first : map merge_told c.push.new.self.items ≡ old ++ with_sort space a.way way item right path ∷ [] =
     pushed a.merges.now.items c.push.new.self.items c.in_ok-listed.field-0 (with_sort space a.way way item right path) c.in_ok-push.ensures.items
     (c.in_ok-listed.ensures ∙ ap (listed space a.way way item right path true) cost) in

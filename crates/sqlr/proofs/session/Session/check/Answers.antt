@@ -9,10 +9,10 @@ pub returns-in-Ok-clause-breaks : goal.returns-in-Ok-clause-breaks
 returns-in-Ok-clause-breaks g c = (rw c.deref.ensures.value at c.check_statements.ensures.breaks) _ c.in-Ok.ensures.statements
 
 pub returns-in-Err-Refused-clause-checks : goal.returns-in-Err-Refused-clause-checks
-returns-in-Err-Refused-clause-checks g c = fault_put _ _ _ _ _ _ _ _ (rw c.in-Err-Refused.field-0-is at c.in-Err-Refused.ensures.fault) (rw c.explain.ensures.taken at c.put_fault.ensures.prints)
+returns-in-Err-Refused-clause-checks g c = fault_put _ _ _ _ _ _ _ _ (rw c.in-Err-Refused.field-0-is at c.in-Err-Refused.ensures.fault) (rw c.report.ensures.taken at c.put_fault.ensures.prints)
 
 pub returns-in-Err-Refused-clause-breaks : goal.returns-in-Err-Refused-clause-breaks
-returns-in-Err-Refused-clause-breaks g c = fault_begun _ _ _ _ _ _ _ _ _ (rw c.in-Err-Refused.field-0-is at c.in-Err-Refused.ensures.fault) (rw c.explain.ensures.taken at c.put_fault.ensures.breaks)
+returns-in-Err-Refused-clause-breaks g c = fault_begun _ _ _ _ _ _ _ _ _ (rw c.in-Err-Refused.field-0-is at c.in-Err-Refused.ensures.fault) (rw c.report.ensures.taken at c.put_fault.ensures.breaks)
 
 pub returns-in-Err-Memory-clause-breaks : goal.returns-in-Err-Memory-clause-breaks
 returns-in-Err-Memory-clause-breaks g c = nothing_read _ _ _ _ _ _ 0

@@ -9,10 +9,10 @@ pub returns-in-Ok-clause-breaks : goal.returns-in-Ok-clause-breaks
 returns-in-Ok-clause-breaks g c = script_broke _ _ _ _ _ _ _ _ _ c.in-Ok.ensures.statements (rw c.deref.ensures.value at c.run_statements.ensures.breaks)
 
 pub returns-in-Err-Refused-clause-runs : goal.returns-in-Err-Refused-clause-runs
-returns-in-Err-Refused-clause-runs g c = line_printed _ _ _ _ _ _ _ (rw c.in-Err-Refused.field-0-is at c.in-Err-Refused.ensures.fault) (rw c.explain.ensures.taken at c.put_fault.ensures.prints)
+returns-in-Err-Refused-clause-runs g c = line_printed _ _ _ _ _ _ _ (rw c.in-Err-Refused.field-0-is at c.in-Err-Refused.ensures.fault) (rw c.report.ensures.taken at c.put_fault.ensures.prints)
 
 pub returns-in-Err-Refused-clause-breaks : goal.returns-in-Err-Refused-clause-breaks
-returns-in-Err-Refused-clause-breaks g c = line_broke _ _ _ _ _ _ _ _ (rw c.in-Err-Refused.field-0-is at c.in-Err-Refused.ensures.fault) (rw c.explain.ensures.taken at c.put_fault.ensures.breaks)
+returns-in-Err-Refused-clause-breaks g c = line_broke _ _ _ _ _ _ _ _ (rw c.in-Err-Refused.field-0-is at c.in-Err-Refused.ensures.fault) (rw c.report.ensures.taken at c.put_fault.ensures.breaks)
 
 pub returns-in-Err-Memory-clause-breaks : goal.returns-in-Err-Memory-clause-breaks
 returns-in-Err-Memory-clause-breaks g c = nothing_done _ _ _ _ _ 0
