@@ -31,7 +31,8 @@ pub(crate) fn index_matches(
     columns: &[usize],
 ) -> Result<Vec<IndexMatch>, AllocError>
     requires short { length columns.now ≤ most_index_columns }
-    ensures exact { IfOk result (λ chains. map chain_told chains.items ≡ spec.index_matches (block_of estimate.now.block) table columns.now) }
+    ensures exact { IfOk result (λ chains. map chain_told chains.items
+        ≡ spec.index_matches (block_of estimate.now.block) table columns.now) }
 {
     let mut chains = Vec::new(alloc);
     let mut rest = columns;
@@ -53,8 +54,10 @@ fn with_column(
     matches: &[MatchingTerm],
     others: &[IndexMatch],
 ) -> Result<Vec<IndexMatch>, AllocError>
-    requires room { AllByRecursion (λ (c : spec.IndexMatch). length c.conjuncts < most_index_columns) (map chain_told others.now) }
-    ensures exact { IfOk result (λ chains. map chain_told chains.items ≡ spec.with_column (map chain_told others.now) (map match_told matches.now)) }
+    requires room { AllByRecursion (λ (c : spec.IndexMatch). length c.conjuncts
+        < most_index_columns) (map chain_told others.now) }
+    ensures exact { IfOk result (λ chains. map chain_told chains.items
+        ≡ spec.with_column (map chain_told others.now) (map match_told matches.now)) }
 {
     let mut chains = Vec::new(alloc);
     'matches: for found in matches {
@@ -84,8 +87,10 @@ fn push_before(
     found: MatchingTerm,
     others: &[IndexMatch],
 ) -> Result<(), AllocError>
-    requires room { AllByRecursion (λ (c : spec.IndexMatch). length c.conjuncts < most_index_columns) (map chain_told others.now) }
-    ensures exact { OnOk result (map chain_told chains.new.items ≡ map chain_told chains.old.items ++ map (spec.before (match_told found)) (map chain_told others.now)) }
+    requires room { AllByRecursion (λ (c : spec.IndexMatch). length c.conjuncts
+        < most_index_columns) (map chain_told others.now) }
+    ensures exact { OnOk result (map chain_told chains.new.items
+        ≡ map chain_told chains.old.items ++ map (spec.before (match_told found)) (map chain_told others.now)) }
 {
     'others: for other in others {
         chains.push(before(found, other)?)?;

@@ -26,7 +26,8 @@ pub(crate) fn column_matches(
     estimate: &Estimate,
     column: BlockColumn,
 ) -> Result<Vec<MatchingTerm>, AllocError>
-    ensures exact { IfOk result (λ matches. map match_told matches.items ≡ spec.column_matches (block_of estimate.now.block) (column_of column)) }
+    ensures exact { IfOk result (λ matches. map match_told matches.items
+        ≡ spec.column_matches (block_of estimate.now.block) (column_of column)) }
 {
     let mut matches = Vec::new(alloc);
     'numbers: for number in 0..estimate.conjuncts().len() {
@@ -43,7 +44,9 @@ fn push_match(
     number: usize,
 ) -> Result<(), AllocError>
     requires there { number < length (queries.conjuncts (block_of estimate.now.block)) }
-    ensures exact { OnOk result (map match_told matches.new.items ≡ map match_told matches.old.items ++ filter_map (spec.match_at (block_of estimate.now.block) (column_of column)) (number ∷ [])) }
+    ensures exact { OnOk result (map match_told matches.new.items
+        ≡ map match_told matches.old.items ++ filter_map
+        (spec.match_at (block_of estimate.now.block) (column_of column)) (number ∷ [])) }
 {
     if let Some(found) = match_at(estimate, column, number) {
         matches.push(found)?;
@@ -54,7 +57,8 @@ fn push_match(
 /// How a conjunct matches a column, if it does.
 fn match_at(estimate: &Estimate, column: BlockColumn, number: usize) -> Option<MatchingTerm>
     requires there { number < length (queries.conjuncts (block_of estimate.now.block)) }
-    ensures exact { option_map match_told result ≡ spec.match_at (block_of estimate.now.block) (column_of column) number }
+    ensures exact { option_map match_told result ≡ spec.match_at (block_of estimate.now.block) (column_of column)
+        number }
 {
     let conjunct = estimate.conjuncts()[number];
     if !conjunct.early {

@@ -45,10 +45,17 @@ pub fn table_paths(
     backward: bool,
 ) -> Result<Vec<TablePath>, AllocError>
     requires table { table < length (block_of estimate.now.block).tables }
-    requires indexes { (t : stored.Table) → table_at estimate.now.database (block_of estimate.now.block) table ≡ Some t → AllByRecursion (λ number. number < length t.indexes) indexes.now }
-    ensures paths { IfOk result (λ paths. (version : Version) → indexes.now ≡ indexes_at version estimate.now.database (block_of estimate.now.block) table → directions_with backward ≡ directions version → (known : Tables) → open_paths known paths.items ≡ spec.paths_of version estimate.now.database (block_of estimate.now.block) known table) }
-    ensures reads { IfOk result (λ paths. AllByRecursion (λ (x : FoundPath). Reads estimate.now.database (block_of estimate.now.block) table x.path) (map path_told paths.items)) }
-    ensures costs { IfOk result (λ paths. AllByRecursion (CostsAsPath estimate.now.database (block_of estimate.now.block) table) (map path_told paths.items)) }
+    requires indexes { (t : stored.Table) → table_at estimate.now.database (block_of estimate.now.block) table
+        ≡ Some t → AllByRecursion (λ number. number < length t.indexes) indexes.now }
+    ensures paths { IfOk result (λ paths. (version : Version) →
+        indexes.now ≡ indexes_at version estimate.now.database (block_of estimate.now.block) table →
+        directions_with backward ≡ directions version → (known : Tables) →
+        open_paths known paths.items ≡ spec.paths_of version estimate.now.database (block_of estimate.now.block) known
+        table) }
+    ensures reads { IfOk result (λ paths. AllByRecursion (λ (x : FoundPath).
+        Reads estimate.now.database (block_of estimate.now.block) table x.path) (map path_told paths.items)) }
+    ensures costs { IfOk result (λ paths. AllByRecursion
+        (CostsAsPath estimate.now.database (block_of estimate.now.block) table) (map path_told paths.items)) }
 {
     let mut paths = Vec::new(alloc);
     paths.push(segment_path(estimate, table))?;
@@ -79,8 +86,11 @@ fn push_index(
     backward: bool,
 ) -> Result<(), AllocError>
     requires table { table < length (block_of estimate.now.block).tables }
-    requires index { (t : stored.Table) → table_at estimate.now.database (block_of estimate.now.block) table ≡ Some t → number < length t.indexes }
-    ensures exact { OnOk result (map path_told paths.new.items ≡ map path_told paths.old.items ++ number_found estimate.now.database (block_of estimate.now.block) table (directions_with backward) number) }
+    requires index { (t : stored.Table) → table_at estimate.now.database (block_of estimate.now.block) table
+        ≡ Some t → number < length t.indexes }
+    ensures exact { OnOk result (map path_told paths.new.items
+        ≡ map path_told paths.old.items ++ number_found estimate.now.database (block_of estimate.now.block) table
+        (directions_with backward) number) }
 {
     let found = estimate.table(table);
     // A look at its length tells what holds of a table.
@@ -116,8 +126,13 @@ impl IndexScan {
         chains: &[IndexMatch],
         backward: bool,
     ) -> Result<(), AllocError>
-        requires there { AllByRecursion (λ (c : matches.IndexMatch). AllByRecursion (λ conjunct. conjunct < length (queries.conjuncts (block_of estimate.now.block))) c.conjuncts) (map chain_told chains.now) }
-        ensures exact { OnOk result ((i : stored.Index) → IsSizeOf estimate.now.database (block_of estimate.now.block) self.table i self.size → map path_told paths.new.items ≡ map path_told paths.old.items ++ scans_found estimate.now.database (block_of estimate.now.block) self.table self.number i (map chain_told chains.now) backward) }
+        requires there { AllByRecursion (λ (c : matches.IndexMatch).
+            AllByRecursion (λ conjunct. conjunct < length (queries.conjuncts (block_of estimate.now.block)))
+            c.conjuncts) (map chain_told chains.now) }
+        ensures exact { OnOk result ((i : stored.Index) →
+            IsSizeOf estimate.now.database (block_of estimate.now.block) self.table i self.size →
+            map path_told paths.new.items ≡ map path_told paths.old.items ++ scans_found estimate.now.database
+            (block_of estimate.now.block) self.table self.number i (map chain_told chains.now) backward) }
     {
         paths.push(self.whole(backward))?;
         'chains: for chain in chains {
@@ -127,7 +142,9 @@ impl IndexScan {
     }
 
     fn whole(self, backward: bool) -> TablePath
-        ensures exact { (db : stored.Database) (block : b.Block) (i : stored.Index) → IsSizeOf db block self.table i self.size → path_told result ≡ whole_found db block self.table self.number i backward }
+        ensures exact { (db : stored.Database) (block : b.Block) (i : stored.Index) →
+            IsSizeOf db block self.table i self.size →
+            path_told result ≡ whole_found db block self.table self.number i backward }
     {
         TablePath {
             path: Path::Index {
@@ -146,8 +163,12 @@ impl IndexScan {
         chain: &IndexMatch,
         backward: bool,
     ) -> Result<TablePath, AllocError>
-        requires there { AllByRecursion (λ conjunct. conjunct < length (queries.conjuncts (block_of estimate.now.block))) (chain_told chain.now).conjuncts }
-        ensures exact { IfOk result (λ path. (i : stored.Index) → IsSizeOf estimate.now.database (block_of estimate.now.block) self.table i self.size → path_told path ≡ matching_found estimate.now.database (block_of estimate.now.block) self.table self.number i backward (chain_told chain.now)) }
+        requires there { AllByRecursion (λ conjunct. conjunct
+            < length (queries.conjuncts (block_of estimate.now.block))) (chain_told chain.now).conjuncts }
+        ensures exact { IfOk result (λ path. (i : stored.Index) →
+            IsSizeOf estimate.now.database (block_of estimate.now.block) self.table i self.size →
+            path_told path ≡ matching_found estimate.now.database (block_of estimate.now.block) self.table self.number
+            i backward (chain_told chain.now)) }
     {
         Ok(TablePath {
             path: Path::Match {

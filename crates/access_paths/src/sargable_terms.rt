@@ -64,7 +64,8 @@ fn comparison_bound(
 /// The tables of the other side, where one side is the column.
 fn other_side(column: BlockColumn, left: &ValueExpr, right: &ValueExpr) -> Option<TableSet>
     requires few { AreFew (tables_in (value_of left.now ∷ value_of right.now ∷ [])) }
-    ensures exact { option_map set_of result ≡ spec.other_side (column_of column) (value_of left.now) (value_of right.now) }
+    ensures exact { option_map set_of result ≡ spec.other_side (column_of column) (value_of left.now)
+        (value_of right.now) }
 {
     if is_column(column, left) {
         tables_beside(column.table, right)
@@ -83,7 +84,8 @@ fn between_bound(
     high: &ValueExpr,
 ) -> Option<SargableTerm>
     requires few { AreFew (tables_in (value_of value.now ∷ value_of low.now ∷ value_of high.now ∷ [])) }
-    ensures exact { option_map bound_told result ≡ spec.between_bound (column_of column) (value_of value.now) (value_of low.now) (value_of high.now) }
+    ensures exact { option_map bound_told result ≡ spec.between_bound (column_of column) (value_of value.now)
+        (value_of low.now) (value_of high.now) }
 {
     if !is_column(column, value) {
         return None;

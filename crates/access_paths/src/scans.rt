@@ -61,7 +61,8 @@ pub(crate) struct IndexSize {
 impl IndexSize {
     /// The size of an index of a table.
     pub fn of(table: &Table, index: &Index) -> IndexSize
-        ensures { (db : Database) (block : b.Block) (number : ℕ) → table_at db block number ≡ Some table.now → IsSizeOf db block number index.now.index result }
+        ensures { (db : Database) (block : b.Block) (number : ℕ) → table_at db block number ≡ Some table.now →
+            IsSizeOf db block number index.now.index result }
     {
         let pages = u128::from(index.statistics().pages);
         let size = table.statistics();
@@ -77,15 +78,19 @@ impl IndexSize {
 
     /// A scan of the whole index.
     pub fn whole(self) -> ScanCost
-        ensures { (db : Database) (block : b.Block) (number : ℕ) (i : table.Index) → IsSizeOf db block number i self → scan_cost_of result ≡ whole_scan db block number i }
+        ensures { (db : Database) (block : b.Block) (number : ℕ) (i : table.Index) → IsSizeOf db block number i self →
+            scan_cost_of result ≡ whole_scan db block number i }
     {
         ScanCost::Pages(self.fetched(self.pages_once, self.pages_by_row))
     }
 
     /// A scan of what a chain matches.
     pub fn matched(self, estimate: &Estimate, chain: &IndexMatch) -> ScanCost
-        requires there { AllByRecursion (λ conjunct. conjunct < length (queries.conjuncts (block_of estimate.now.block))) (chain_told chain.now).conjuncts }
-        ensures { (number : ℕ) (i : table.Index) → IsSizeOf estimate.now.database (block_of estimate.now.block) number i self → scan_cost_of result ≡ matching_scan estimate.now.database (block_of estimate.now.block) number i (chain_told chain.now) }
+        requires there { AllByRecursion (λ conjunct. conjunct
+            < length (queries.conjuncts (block_of estimate.now.block))) (chain_told chain.now).conjuncts }
+        ensures { (number : ℕ) (i : table.Index) → IsSizeOf estimate.now.database (block_of estimate.now.block) number
+            i self → scan_cost_of result ≡ matching_scan estimate.now.database (block_of estimate.now.block) number i
+            (chain_told chain.now) }
     {
         let all_equal = chain.equal && chain.conjuncts.len() == self.columns;
         if self.unique && all_equal {
@@ -99,8 +104,11 @@ impl IndexSize {
     /// The share of pages that a chain matches: one key where two columns or more are all equal to a value, else what its
     /// conjuncts leave.
     fn share_of(self, estimate: &Estimate, chain: &IndexMatch, all_equal: bool, pages: u64) -> u64
-        requires there { AllByRecursion (λ conjunct. conjunct < length (queries.conjuncts (block_of estimate.now.block))) (chain_told chain.now).conjuncts }
-        ensures { (number : ℕ) (i : table.Index) → IsSizeOf estimate.now.database (block_of estimate.now.block) number i self → result ≡ costs.matched estimate.now.database (block_of estimate.now.block) i all_equal (chain_told chain.now).conjuncts pages }
+        requires there { AllByRecursion (λ conjunct. conjunct
+            < length (queries.conjuncts (block_of estimate.now.block))) (chain_told chain.now).conjuncts }
+        ensures { (number : ℕ) (i : table.Index) → IsSizeOf estimate.now.database (block_of estimate.now.block) number
+            i self → result ≡ costs.matched estimate.now.database (block_of estimate.now.block) i all_equal
+            (chain_told chain.now).conjuncts pages }
     {
         if self.columns >= 2 && all_equal {
             share(pages, fraction(1, self.keys.max(1)))
@@ -124,7 +132,8 @@ impl IndexSize {
 
 /// The share of pages that conjuncts leave, each its own of what those before it left.
 fn shares(estimate: &Estimate, conjuncts: &[usize], pages: u64) -> u64
-    requires there { AllByRecursion (λ conjunct. conjunct < length (queries.conjuncts (block_of estimate.now.block))) conjuncts.now }
+    requires there { AllByRecursion (λ conjunct. conjunct
+        < length (queries.conjuncts (block_of estimate.now.block))) conjuncts.now }
     ensures { result ≡ costs.shares estimate.now.database (block_of estimate.now.block) conjuncts.now pages }
 {
     let mut left = pages;

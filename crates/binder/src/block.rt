@@ -36,7 +36,8 @@ pub(crate) fn block<'d, 'q: 'd>(
 ) -> Result<Option<ValueType>, BindFault<'q>>
     requires sight { InSight database.now outer.now }
     requires few { length blocks.old.items ≤ most_blocks }
-    ensures { BlockAnswer database.now outer.now (map block_of blocks.old.items) (map block_of blocks.new.items) (query_of query.now) result }
+    ensures { BlockAnswer database.now outer.now (map block_of blocks.old.items) (map block_of blocks.new.items)
+        (query_of query.now) result }
 {
     let number = blocks.len();
     if number >= MAX_BLOCKS {
@@ -116,7 +117,8 @@ fn bound_clauses<'d, 'q: 'd>(
     requires sight { InSight database.now scopes.now }
     requires shown { IsTrue (takes_functions (place_of place)) }
     requires few { length blocks.old.items ≤ most_blocks }
-    ensures { ClausesAnswer database.now scopes.now (place_of place.entry) (map block_of blocks.old.items) (map block_of blocks.new.items) (query_of query.now) result }
+    ensures { ClausesAnswer database.now scopes.now (place_of place.entry) (map block_of blocks.old.items)
+        (map block_of blocks.new.items) (query_of query.now) result }
 {
     let shown = Clause {
         alloc,
@@ -156,7 +158,8 @@ fn optional_condition<'d, 'q: 'd>(
 ) -> Result<Option<Condition>, BindFault<'q>>
     requires sight { InSight clause.now.database.now clause.now.scopes.now }
     requires few { length blocks.old.items ≤ most_blocks }
-    ensures { OptionAnswer clause.now (progress_of blocks.old.items functions.old.items) (progress_of blocks.new.items functions.new.items) (tree_condition_of expr.now) result }
+    ensures { OptionAnswer clause.now (progress_of blocks.old.items functions.old.items)
+        (progress_of blocks.new.items functions.new.items) (tree_condition_of expr.now) result }
 {
     match expr {
         Some(expr) => Ok(Some(condition(clause, blocks, functions, expr)?)),

@@ -29,7 +29,8 @@ pub(crate) fn condition<'d, 'q: 'd>(
 ) -> Result<Condition, BindFault<'q>>
     requires sight { InSight clause.now.database.now clause.now.scopes.now }
     requires few { length blocks.old.items ≤ most_blocks }
-    ensures { ConditionAnswer clause.now (progress_of blocks.old.items functions.old.items) (progress_of blocks.new.items functions.new.items) (expr_of expr.now) result }
+    ensures { ConditionAnswer clause.now (progress_of blocks.old.items functions.old.items)
+        (progress_of blocks.new.items functions.new.items) (expr_of expr.now) result }
 {
     match expr {
         Expr::Line { others, .. } if are_logical(others) => {
@@ -168,7 +169,8 @@ fn logical<'d, 'q: 'd>(
     requires sight { InSight clause.now.database.now clause.now.scopes.now }
     requires few { length blocks.old.items ≤ most_blocks }
     requires logical { IsLine line.now true }
-    ensures { ConditionAnswer clause.now (progress_of blocks.old.items functions.old.items) (progress_of blocks.new.items functions.new.items) (expr_of line.now) result }
+    ensures { ConditionAnswer clause.now (progress_of blocks.old.items functions.old.items)
+        (progress_of blocks.new.items functions.new.items) (expr_of line.now) result }
 {
     let Expr::Line { first, others } = line else {
         unreachable!()
@@ -196,7 +198,8 @@ fn bound_members<'d, 'q: 'd>(
     requires sight { InSight clause.now.database.now clause.now.scopes.now }
     requires few { length blocks.old.items ≤ most_blocks }
     requires list { IsList list.now }
-    ensures { MembersAnswer clause.now (progress_of blocks.old.items functions.old.items) (progress_of blocks.new.items functions.new.items) value_type (members_in (expr_of list.now)) result }
+    ensures { MembersAnswer clause.now (progress_of blocks.old.items functions.old.items)
+        (progress_of blocks.new.items functions.new.items) value_type (members_in (expr_of list.now)) result }
 {
     let Expr::InList { members, .. } = list else {
         unreachable!()
@@ -224,7 +227,9 @@ pub(crate) fn column_of_query<'d, 'q: 'd>(
 ) -> Result<(usize, ValueType), BindFault<'q>>
     requires sight { InSight clause.now.database.now clause.now.scopes.now }
     requires few { length blocks.old.items ≤ most_blocks }
-    ensures { (functions : List spec.Aggregate) → ColumnAnswer clause.now (record { blocks = map block_of blocks.old.items; functions = functions }) (record { blocks = map block_of blocks.new.items; functions = functions }) (query_of query.now) result }
+    ensures { (functions : List spec.Aggregate) → ColumnAnswer clause.now
+        (record { blocks = map block_of blocks.old.items; functions = functions })
+        (record { blocks = map block_of blocks.new.items; functions = functions }) (query_of query.now) result }
 {
     match inner_block(clause, blocks, query)? {
         (block, Some(value_type)) => Ok((block, value_type)),
@@ -241,7 +246,9 @@ fn inner_block<'d, 'q: 'd>(
 ) -> Result<(usize, Option<ValueType>), BindFault<'q>>
     requires sight { InSight clause.now.database.now clause.now.scopes.now }
     requires few { length blocks.old.items ≤ most_blocks }
-    ensures { (functions : List spec.Aggregate) → QueryAnswer clause.now (record { blocks = map block_of blocks.old.items; functions = functions }) (record { blocks = map block_of blocks.new.items; functions = functions }) (query_of query.now) result }
+    ensures { (functions : List spec.Aggregate) → QueryAnswer clause.now
+        (record { blocks = map block_of blocks.old.items; functions = functions })
+        (record { blocks = map block_of blocks.new.items; functions = functions }) (query_of query.now) result }
 {
     match clause.place {
         ClauseKind::Where => {

@@ -35,7 +35,8 @@ pub(crate) fn result_columns<'d, 'q: 'd>(
 ) -> Result<ResultColumns, BindFault<'q>>
     requires sight { InSight clause.now.database.now clause.now.scopes.now }
     requires few { length blocks.old.items ≤ most_blocks }
-    ensures { ListAnswer clause.now (progress_of blocks.old.items functions.old.items) (progress_of blocks.new.items functions.new.items) (list_of list.now) result }
+    ensures { ListAnswer clause.now (progress_of blocks.old.items functions.old.items)
+        (progress_of blocks.new.items functions.new.items) (list_of list.now) result }
 {
     let list = match list {
         SelectList::Asterisk { .. } => return Ok(all_columns(clause.alloc, clause.scopes)?),
@@ -62,7 +63,8 @@ pub(crate) fn result_columns<'d, 'q: 'd>(
 /// The columns of all tables, in the order of FROM (ISO/IEC 9075:1992, 7.9, syntax rule 4).
 fn all_columns(alloc: Global, scopes: &Scopes) -> Result<ResultColumns, AllocError>
     ensures are { IfOk result (λ r. (db : Tables) → map item_of r.items.items ≡ star_items db scopes.now) }
-    ensures only { IfOk result (λ r. option_map value_type_of r.only ≡ single_type (all_columns (own_scope scopes.now))) }
+    ensures only { IfOk result (λ r. option_map value_type_of r.only
+        ≡ single_type (all_columns (own_scope scopes.now))) }
 {
     let columns = scopes.own_columns(alloc)?;
     let mut items = Vec::new(alloc);
@@ -85,7 +87,8 @@ fn all_columns(alloc: Global, scopes: &Scopes) -> Result<ResultColumns, AllocErr
 
 /// The name of the result column of a number in the header: its AS name, that of a plain column, or one by the number.
 fn header_name(alloc: Global, item: &parse_tree::Item, number: usize) -> Result<String, AllocError>
-    ensures { IfOk result (λ name. string_bytes name ≡ header_name number (result_name (listed_item_of item.now).value (listed_item_of item.now).alias)) }
+    ensures { IfOk result (λ name. string_bytes name ≡ header_name number
+        (result_name (listed_item_of item.now).value (listed_item_of item.now).alias)) }
 {
     match (&item.alias, &item.value) {
         (Some(name), _) => String::from_str(alloc, name.text.as_str()),

@@ -24,7 +24,8 @@ pub fn bind<'d, 'q: 'd>(
 ) -> Result<Vec<Block>, BindFault<'q>>
     requires valid { IsDatabase database.now }
     ensures bound { IfOk result (λ blocks. Binds database.now (select_of query.now) (map block_of blocks.items)) }
-    ensures formed { IfOk result (λ blocks. AreWritten database.now (select_of query.now) → AreFormed database.now (map block_of blocks.items) [] 0) }
+    ensures formed { IfOk result (λ blocks. AreWritten database.now (select_of query.now) →
+        AreFormed database.now (map block_of blocks.items) [] 0) }
     ensures refused { IfErr result (λ f. IfSome (bind_refusal f) (Faulty database.now (select_of query.now))) }
 {
     let mut blocks = Vec::new(alloc);

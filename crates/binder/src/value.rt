@@ -33,7 +33,8 @@ pub(crate) fn value<'d, 'q: 'd>(
 ) -> Result<Typed, BindFault<'q>>
     requires sight { InSight clause.now.database.now clause.now.scopes.now }
     requires few { length blocks.old.items ≤ most_blocks }
-    ensures { ValueAnswer clause.now (progress_of blocks.old.items functions.old.items) (progress_of blocks.new.items functions.new.items) (expr_of expr.now) result }
+    ensures { ValueAnswer clause.now (progress_of blocks.old.items functions.old.items)
+        (progress_of blocks.new.items functions.new.items) (expr_of expr.now) result }
 {
     match expr {
         Expr::Column(reference) => column(clause, reference),
@@ -87,7 +88,8 @@ fn chain<'d, 'q: 'd>(
     requires sight { InSight clause.now.database.now clause.now.scopes.now }
     requires few { length blocks.old.items ≤ most_blocks }
     requires arithmetic { IsLine line.now false }
-    ensures { ValueAnswer clause.now (progress_of blocks.old.items functions.old.items) (progress_of blocks.new.items functions.new.items) (expr_of line.now) result }
+    ensures { ValueAnswer clause.now (progress_of blocks.old.items functions.old.items)
+        (progress_of blocks.new.items functions.new.items) (expr_of line.now) result }
 {
     let Expr::Line { first, others } = line else {
         unreachable!()
@@ -125,7 +127,10 @@ fn set_function<'d, 'q: 'd>(
 ) -> Result<Typed, BindFault<'q>>
     requires sight { InSight clause.now.database.now clause.now.scopes.now }
     requires shown { IsTrue (takes_functions (place_of clause.now.place)) }
-    ensures { (bound : Blocks) → length bound ≤ most_blocks → ValueAnswer clause.now (record { blocks = bound; functions = map bound_function_of functions.old.items }) (record { blocks = bound; functions = map bound_function_of functions.new.items }) (Function (function_of function) distinct (expr_of argument.now)) result }
+    ensures { (bound : Blocks) → length bound ≤ most_blocks →
+        ValueAnswer clause.now (record { blocks = bound; functions = map bound_function_of functions.old.items })
+        (record { blocks = bound; functions = map bound_function_of functions.new.items })
+        (Function (function_of function) distinct (expr_of argument.now)) result }
 {
     let inside = Clause {
         place: ClauseKind::Argument,
@@ -149,7 +154,8 @@ fn aggregate_value(
     function: Aggregate,
     value_type: ValueType,
 ) -> Result<Typed, AllocError>
-    ensures value { IfOk result (λ t. value_of t.value ≡ AggregateValue (length functions.old.items) (value_type_of value_type)) }
+    ensures value { IfOk result (λ t. value_of t.value
+        ≡ AggregateValue (length functions.old.items) (value_type_of value_type)) }
     ensures typed { IfOk result (λ t. t.value_type ≡ value_type) }
     ensures functions { OnOk result (functions.new.items ≡ functions.old.items ++ function ∷ []) }
 {

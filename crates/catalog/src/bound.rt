@@ -52,7 +52,8 @@ pub(crate) fn kept_statistics(
     sql_type: SqlType,
 ) -> Result<IndexStatistics, StatisticsFault>
     requires { spec.IsType (type_of sql_type) }
-    ensures kept { IfOk result (λ kept. StatisticsKept (type_of sql_type) (statistics_of given.now) (index_statistics_of kept)) }
+    ensures kept { IfOk result (λ kept. StatisticsKept (type_of sql_type) (statistics_of given.now)
+        (index_statistics_of kept)) }
     ensures given { OnOk result (IsGiven (statistics_of given.now)) }
     ensures refused { IfErr result (RefusesGiven (type_of sql_type) (statistics_of given.now)) }
 {
@@ -80,7 +81,8 @@ pub(crate) fn kept_statistics(
 /// LOW and HIGH in units at the scale of a type, whose values equal to them they stand for.
 fn kept_range(range: Range, sql_type: SqlType) -> Result<KeyRange, StatisticsFault>
     requires { spec.IsType (type_of sql_type) }
-    ensures kept { IfOk result (λ kept. RangeKept (type_of sql_type) (Some (range_of range)) (Some (key_range_of kept))) }
+    ensures kept { IfOk result (λ kept. RangeKept (type_of sql_type) (Some (range_of range))
+        (Some (key_range_of kept))) }
     ensures rising { OnOk result (¬ (Falls (range_of range))) }
     ensures refused { IfErr result (RefusesRange (type_of sql_type) (range_of range)) }
 {

@@ -133,7 +133,8 @@ pub(crate) fn key_indexes(
 ) -> Result<Vec<Index>, CreateFault>
     requires same { length columns.now ≡ length definitions.now }
     requires filled { AreFilled 0 columns.now }
-    ensures ok { IfOk result (λ made. map (λ (i : StoredIndex). i.index) made.items ≡ without_rows (headers columns.now) (indexes_of_keys 0 (definitions_of definitions.now))) }
+    ensures ok { IfOk result (λ made. map (λ (i : StoredIndex). i.index) made.items
+        ≡ without_rows (headers columns.now) (indexes_of_keys 0 (definitions_of definitions.now))) }
     ensures ordered { IfOk result (λ made. AreOrdered columns.now 0 made.items) }
     ensures err { IfErr result (λ fault. fault ≡ CreateFault.Memory) }
 {

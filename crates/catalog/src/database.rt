@@ -66,7 +66,8 @@ impl Database {
     ) -> Result<(), CreateFault>
         ensures accepted { OnOk result (IsAccepted self.old (CreateTable name.now (definitions_of definitions.now))) }
         ensures made { OnOk result (Makes self.old (CreateTable name.now (definitions_of definitions.now)) self.new) }
-        ensures refused { IfErr result (λ fault. IfSome (create_refusal fault) (Faulty self.old (CreateTable name.now (definitions_of definitions.now)))) }
+        ensures refused { IfErr result (λ fault. IfSome (create_refusal fault)
+            (Faulty self.old (CreateTable name.now (definitions_of definitions.now)))) }
         ensures err { OnErr result (self.new ≡ self.old) }
     {
         if self.tables.len() >= MAX_TABLES {
@@ -126,7 +127,8 @@ impl Database {
     ) -> Result<(), TableStatisticsFault>
         ensures accepted { OnOk result (IsAccepted self.old (SetTableStatistics table.now rows pages)) }
         ensures made { OnOk result (Makes self.old (SetTableStatistics table.now rows pages) self.new) }
-        ensures refused { IfErr result (λ fault. Faulty self.old (SetTableStatistics table.now rows pages) (table_statistics_refusal fault)) }
+        ensures refused { IfErr result (λ fault. Faulty self.old (SetTableStatistics table.now rows pages)
+            (table_statistics_refusal fault)) }
         ensures err { OnErr result (self.new ≡ self.old) }
     {
         match self.place(table) {
@@ -143,9 +145,13 @@ impl Database {
         columns: &[Name],
         statistics: &parse_tree::IndexStatistics,
     ) -> Result<(), StatisticsFault>
-        ensures accepted { OnOk result (IsAccepted self.old (SetIndexStatistics table.now (map name_of columns.now) (statistics_of statistics.now))) }
-        ensures made { OnOk result (Makes self.old (SetIndexStatistics table.now (map name_of columns.now) (statistics_of statistics.now)) self.new) }
-        ensures refused { IfErr result (λ fault. IfSome (statistics_refusal fault) (Faulty self.old (SetIndexStatistics table.now (map name_of columns.now) (statistics_of statistics.now)))) }
+        ensures accepted { OnOk result (IsAccepted self.old
+            (SetIndexStatistics table.now (map name_of columns.now) (statistics_of statistics.now))) }
+        ensures made { OnOk result (Makes self.old (SetIndexStatistics table.now (map name_of columns.now)
+            (statistics_of statistics.now)) self.new) }
+        ensures refused { IfErr result (λ fault. IfSome (statistics_refusal fault)
+            (Faulty self.old (SetIndexStatistics table.now (map name_of columns.now)
+            (statistics_of statistics.now)))) }
         ensures err { OnErr result (self.new ≡ self.old) }
     {
         let alloc = self.alloc;

@@ -33,8 +33,10 @@ pub(crate) fn grow(
     requires filled { AreFilled len columns.old }
     requires few { len ≤ most_rows }
     requires ordered { AreOrdered columns.old len indexes.now }
-    ensures ok { IfOk result (λ grown. (t : spec.Table) → IsOf columns.old indexes.now len t → Grows t bytes.now indexes.now columns.old columns.new grown) }
-    ensures refused { IfErr result (λ fault. (t : spec.Table) → IsOf columns.old indexes.now len t → RefusesTable t bytes.now fault) }
+    ensures ok { IfOk result (λ grown. (t : spec.Table) → IsOf columns.old indexes.now len t →
+        Grows t bytes.now indexes.now columns.old columns.new grown) }
+    ensures refused { IfErr result (λ fault. (t : spec.Table) → IsOf columns.old indexes.now len t →
+        RefusesTable t bytes.now fault) }
     ensures err { OnErr result (Extends columns.old columns.new) }
 {
     let room = (MAX_ROWS - len) as u64;

@@ -83,7 +83,8 @@ pub(crate) fn numbers(
     columns: &[TableColumn],
     names: &[Name],
 ) -> Result<Vec<usize>, ListFault>
-    ensures found { IfOk result (λ numbers. column_numbers (headers columns.now) (map name_of names.now) ≡ Some numbers.items) }
+    ensures found { IfOk result (λ numbers. column_numbers (headers columns.now) (map name_of names.now)
+        ≡ Some numbers.items) }
     ensures there { IfOk result (λ numbers. AllByRecursion (λ n. n < length columns.now) numbers.items) }
     ensures many { IfOk result (λ numbers. length numbers.items ≡ length names.now) }
     ensures some { OnOk result (0 < length names.now) }

@@ -147,7 +147,8 @@ impl Table {
     /// The type of a column.
     pub fn sql_type(&self, column: usize) -> SqlType
         requires { column < length self.now.columns }
-        ensures exact { option_map (λ (c : spec.Column). c.type) (slice_get self.now.columns column) ≡ Some (type_of result) }
+        ensures exact { option_map (λ (c : spec.Column). c.type) (slice_get self.now.columns column)
+            ≡ Some (type_of result) }
         ensures valid { IsType (type_of result) }
     {
         self.columns[column].sql_type()
@@ -156,7 +157,8 @@ impl Table {
     /// What is asked of a column's values.
     pub fn constraint(&self, column: usize) -> Constraint
         requires { column < length self.now.columns }
-        ensures { option_map (λ (c : spec.Column). c.constraint) (slice_get self.now.columns column) ≡ Some (constraint_of result) }
+        ensures { option_map (λ (c : spec.Column). c.constraint) (slice_get self.now.columns column)
+            ≡ Some (constraint_of result) }
     {
         self.columns[column].constraint()
     }
@@ -185,7 +187,8 @@ impl Table {
         requires in_rows { first + rows ≤ length self.now.rows }
         requires in_columns { column < length self.now.columns }
         ensures met { result.0 ≡ true_word (op_of op) (value_of value.now) (cells_in self.now column first rows) }
-        ensures unknown { result.1 ≡ unknown_word (op_of op) (value_of value.now) (cells_in self.now column first rows) }
+        ensures unknown { result.1 ≡ unknown_word (op_of op) (value_of value.now)
+            (cells_in self.now column first rows) }
     {
         self.columns[column].scan(op, value, first, rows)
     }
@@ -217,7 +220,8 @@ impl Table {
     /// LOAD of the bytes of a file (own): adds a row for each record, and says how many. An `Err`
     /// leaves the table as it was.
     pub(crate) fn load(&mut self, alloc: Global, bytes: &[u8]) -> Result<u64, LoadFault>
-        ensures ok { IfOk result (λ n. LoadsTable self.old bytes.now n (λ rows. self.new ≡ change.with_rows self.old rows)) }
+        ensures ok { IfOk result (λ n. LoadsTable self.old bytes.now n (λ rows. self.new
+            ≡ change.with_rows self.old rows)) }
         ensures refused { IfErr result (RefusesTable self.old bytes.now) }
         ensures err { OnErr result (self.new ≡ self.old) }
     {
@@ -261,7 +265,8 @@ impl Table {
     fn new_list(&self, alloc: Global, names: &[Name]) -> Result<Vec<usize>, IndexFault>
         ensures ok { IfOk result (λ list. MayIndex self.now (map name_of names.now) list.items) }
         ensures there { IfOk result (λ list. AreIndexColumns (length self.now.columns) list.items) }
-        ensures refused { IfErr result (λ fault. (unique : Bool) → RefusesNewIndex self.now unique (map name_of names.now) fault) }
+        ensures refused { IfErr result (λ fault. (unique : Bool) →
+            RefusesNewIndex self.now unique (map name_of names.now) fault) }
     {
         let list = match numbers(alloc, self.columns.as_slice(), names) {
             Ok(list) => list,
@@ -299,7 +304,8 @@ impl Table {
         pages: u128,
     ) -> Result<(), TableStatisticsFault>
         ensures given { OnOk result (IsCount rows × IsPageCount pages) }
-        ensures set { OnOk result (self.new ≡ change.with_table_statistics self.old (record { rows = rows; pages = pages })) }
+        ensures set { OnOk result (self.new ≡ change.with_table_statistics self.old
+            (record { rows = rows; pages = pages })) }
         ensures refused { IfErr result (RefusesTableStatistics rows pages) }
         ensures err { OnErr result (self.new ≡ self.old) }
     {

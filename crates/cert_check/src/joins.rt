@@ -40,7 +40,8 @@ fn join_fails_at(space: &Space<'_>, certificate: &Certificate, state: State) -> 
     requires set { set_of state.tables < 2 ^ (space_in space.now).table_count }
     requires bound { state.cost ≡ bound (certificate_of certificate.now) (set_of state.tables) state.order }
     requires small { state.cost ≤ limit }
-    ensures { Decides result (JoinFails (space_in space.now) (certificate_of certificate.now) (set_of state.tables) state.order) }
+    ensures { Decides result (JoinFails (space_in space.now) (certificate_of certificate.now) (set_of state.tables)
+        state.order) }
 {
     'tables: for table in 0..space.table_count() {
         if join_fails_by(space, certificate, state, table) {
@@ -58,7 +59,8 @@ fn join_fails_by(space: &Space<'_>, certificate: &Certificate, state: State, tab
     requires set { set_of state.tables < 2 ^ (space_in space.now).table_count }
     requires bound { state.cost ≡ bound (certificate_of certificate.now) (set_of state.tables) state.order }
     requires small { state.cost ≤ limit }
-    ensures { Decides result (JoinFailsBy (space_in space.now) (certificate_of certificate.now) (set_of state.tables) state.order table) }
+    ensures { Decides result (JoinFailsBy (space_in space.now) (certificate_of certificate.now) (set_of state.tables)
+        state.order table) }
 {
     if !space.can_join_next(state.tables, table) {
         return false;
@@ -91,7 +93,8 @@ fn loop_leads_below(space: &Space<'_>, state: State, table: usize, reach: u64) -
 fn merge_leads_below(space: &Space<'_>, state: State, table: usize, reach: u64) -> bool
     requires table { table < (space_in space.now).table_count }
     requires set { set_of state.tables < 2 ^ (space_in space.now).table_count }
-    ensures { Decides result (MergeLeadsBelow (space_in space.now) (set_of state.tables) state.order table state.cost reach) }
+    ensures { Decides result (MergeLeadsBelow (space_in space.now) (set_of state.tables) state.order table state.cost
+        reach) }
 {
     'merges: for item in space.merges(state.tables, table) {
         if merge_is_below(space, state, table, item, reach) {
@@ -110,7 +113,8 @@ fn merge_is_below(
     reach: u64,
 ) -> bool
     requires set { set_of state.tables < 2 ^ (space_in space.now).table_count }
-    ensures { Decides result (GoesBy (space_in space.now) (set_of state.tables) state.order item.entry.conjunct table × (saturated (state.cost + item.entry.cost) < reach)) }
+    ensures { Decides result (GoesBy (space_in space.now) (set_of state.tables) state.order item.entry.conjunct table
+        × (saturated (state.cost + item.entry.cost) < reach)) }
 {
     space.goes_by(state.tables, state.order, item.conjunct, table)
         && saturated(u128::from(state.cost) + u128::from(item.cost)) < reach

@@ -32,7 +32,8 @@ pub fn check(space: &Space<'_>, plan: &Plan, certificate: &Certificate) -> Verdi
 /// What `check` answers of any plan outside the space (own).
 pub fn check_outside(space: &Space<'_>, certificate: &Certificate) -> Verdict
     requires { IsCertificate (space_in space.now) (certificate_of certificate.now) }
-    ensures { (plan : plan.Plan) → (InSpace (space_in space.now) plan → ⊥) → IsVerdict (space_in space.now) (certificate_of certificate.now) plan (verdict_of result) }
+    ensures { (plan : plan.Plan) → (InSpace (space_in space.now) plan → ⊥) →
+        IsVerdict (space_in space.now) (certificate_of certificate.now) plan (verdict_of result) }
 {
     check_rules(space, certificate, false)
 }
@@ -40,7 +41,8 @@ pub fn check_outside(space: &Space<'_>, certificate: &Certificate) -> Verdict
 /// The first rule that fails, where a plan is known to meet the target or not.
 fn check_rules(space: &Space<'_>, certificate: &Certificate, met: bool) -> Verdict
     requires { IsCertificate (space_in space.now) (certificate_of certificate.now) }
-    ensures { (plan : plan.Plan) → Decides met (IsMet (space_in space.now) (certificate_of certificate.now) plan) → IsVerdict (space_in space.now) (certificate_of certificate.now) plan (verdict_of result) }
+    ensures { (plan : plan.Plan) → Decides met (IsMet (space_in space.now) (certificate_of certificate.now) plan) →
+        IsVerdict (space_in space.now) (certificate_of certificate.now) plan (verdict_of result) }
 {
     if let Some(place) = access_failing(space, certificate) {
         return Verdict::Refused {

@@ -36,7 +36,8 @@ fn sort_fails_at(space: &Space<'_>, certificate: &Certificate, state: State) -> 
     requires form { IsCertificate (space_in space.now) (certificate_of certificate.now) }
     requires set { set_of state.tables < 2 ^ (space_in space.now).table_count }
     requires bound { state.cost ≡ bound (certificate_of certificate.now) (set_of state.tables) state.order }
-    ensures { Decides result (SortFails (space_in space.now) (certificate_of certificate.now) (set_of state.tables) state.order) }
+    ensures { Decides result (SortFails (space_in space.now) (certificate_of certificate.now) (set_of state.tables)
+        state.order) }
 {
     let sorted = saturated(u128::from(state.cost) + u128::from(space.sort_cost(state.tables)));
     'orders: for order in space.sorts(state.tables) {

@@ -20,7 +20,8 @@ pub(crate) fn final_order(
     all: TableSet,
 ) -> Option<usize>
     requires { set_of all ≡ whole (space_in space.now) }
-    ensures { MatchOption result (NoneFinal (space_in space.now) (certificate_of certificate.now)) (FinalAt (space_in space.now) (certificate_of certificate.now)) }
+    ensures { MatchOption result (NoneFinal (space_in space.now) (certificate_of certificate.now))
+        (FinalAt (space_in space.now) (certificate_of certificate.now)) }
 {
     'states: for state in &certificate.states {
         if is_final(space, all, *state) {

@@ -69,7 +69,8 @@ impl<'a> BlockSpace<'a> {
 
 /// The columns of the indexes of a block's tables.
 fn indexes_of(alloc: Global, estimate: &Estimate<'_>) -> Result<Vec<Vec<Vec<usize>>>, AllocError>
-    ensures { IfOk result (λ all. map columns_in all.items ≡ map (indexes_at estimate.now.database) (block_of estimate.now.block).tables) }
+    ensures { IfOk result (λ all. map columns_in all.items
+        ≡ map (indexes_at estimate.now.database) (block_of estimate.now.block).tables) }
 {
     let mut all = Vec::new(alloc);
     'tables: for number in 0..estimate.table_count() {

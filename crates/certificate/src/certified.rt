@@ -47,7 +47,8 @@ impl CertifiedBlock<'_> {
 
     /// How an index is written: by its number from 1, in the first version by its column from 1.
     pub(crate) fn index_written(&self, table: usize, index: usize) -> u128
-        ensures { result ≡ spec.index_written (version_of self.now.version) (indexes_of (block_in self.now) table) index }
+        ensures { result ≡ spec.index_written (version_of self.now.version) (indexes_of (block_in self.now) table)
+            index }
     {
         match self.version {
             Version::One => match self.columns(table, index).first() {

@@ -120,7 +120,8 @@ fn path_meant(block: &CertifiedBlock<'_>, path: &WrittenPath) -> Option<Path>
 }
 
 fn index_meant(block: &CertifiedBlock<'_>, table: u64, index: u64) -> usize
-    ensures { result ≡ spec.index_meant (version_of block.now.version) (indexes_of (block_in block.now) (table - 1)) index }
+    ensures { result ≡ spec.index_meant (version_of block.now.version) (indexes_of (block_in block.now) (table - 1))
+        index }
 {
     match block.version {
         Version::One => {
@@ -132,7 +133,8 @@ fn index_meant(block: &CertifiedBlock<'_>, table: u64, index: u64) -> usize
 
 /// The numbers of conjuncts; none where they are more than may match an index.
 fn conjuncts_meant(conjuncts: &[u64]) -> Option<ArrayVec<usize, MAX_MATCHED>>
-    ensures { MatchOption result (most_index_columns < length conjuncts.now) (λ numbers. numbers.items ≡ map (λ number. number - 1) conjuncts.now) }
+    ensures { MatchOption result (most_index_columns < length conjuncts.now) (λ numbers. numbers.items
+        ≡ map (λ number. number - 1) conjuncts.now) }
 {
     if conjuncts.len() > MAX_MATCHED {
         return None;

@@ -84,8 +84,10 @@ fn certificate_meant(
 
 /// Whether the numbers of a text but those of its states are there.
 fn text_there(block: &CertifiedBlock<'_>, said: &Written) -> Result<(), Missing>
-    ensures ok { OnOk result ((said.now.block ≡ block.now.number + 1) × PlanIsThere (block_in block.now) (plan_said said.now.plan)) }
-    ensures err { OnErr result ((said.now.block ≡ block.now.number + 1) × PlanIsThere (block_in block.now) (plan_said said.now.plan) → ⊥) }
+    ensures ok { OnOk result ((said.now.block ≡ block.now.number + 1) ×
+        PlanIsThere (block_in block.now) (plan_said said.now.plan)) }
+    ensures err { OnErr result ((said.now.block ≡ block.now.number + 1) ×
+        PlanIsThere (block_in block.now) (plan_said said.now.plan) → ⊥) }
 {
     if u128::from(said.block) != u128::from(block.number) + 1 {
         return Err(Missing::Block(said.block));

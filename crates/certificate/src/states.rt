@@ -27,7 +27,8 @@ pub(crate) fn states_meant(
     said: &[WrittenState],
 ) -> Result<Vec<State>, TextFault>
     requires few { length block.now.indexes.now ≤ most_from_tables }
-    ensures ok { IfOk result (λ states. (map state_of states.items ≡ map state_said said.now) × All (StateIsThere (block_in block.now)) (map state_said said.now)) }
+    ensures ok { IfOk result (λ states. (map state_of states.items ≡ map state_said said.now) ×
+        All (StateIsThere (block_in block.now)) (map state_said said.now)) }
     ensures err { IfErr result (AreLacking (block_in block.now) (map state_said said.now)) }
 {
     let mut states = Vec::new(alloc);
@@ -50,7 +51,8 @@ fn state_meant(
     said: &WrittenState,
 ) -> Result<State, Missing>
     requires few { length block.now.indexes.now ≤ most_from_tables }
-    ensures ok { IfOk result (λ state. (state_of state ≡ state_said said.now) × StateIsThere (block_in block.now) (state_said said.now)) }
+    ensures ok { IfOk result (λ state. (state_of state ≡ state_said said.now) ×
+        StateIsThere (block_in block.now) (state_said said.now)) }
     ensures err { OnErr result (StateIsThere (block_in block.now) (state_said said.now) → ⊥) }
 {
     let Some(tables) = tables_meant(block.indexes.len(), said.tables) else {
@@ -77,7 +79,8 @@ fn state_meant(
 fn tables_meant(count: usize, number: u64) -> Option<TableSet>
     requires few { count ≤ most_from_tables }
     ensures exact { IfSome result (λ tables. set_of tables ≡ number) }
-    ensures there { MatchOption result ((0 < number) × (number ≤ first_tables count) → ⊥) (λ _. (0 < number) × (number ≤ first_tables count)) }
+    ensures there { MatchOption result ((0 < number) × (number ≤ first_tables count) →
+        ⊥) (λ _. (0 < number) × (number ≤ first_tables count)) }
 {
     if 0 < number && number <= TableSet::first(count).place() as u64 {
         Some(TableSet::at(number as usize))

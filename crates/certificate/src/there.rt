@@ -77,8 +77,10 @@ fn table_there(block: &CertifiedBlock<'_>, table: u64) -> Result<(), Missing>
 }
 
 fn index_there(block: &CertifiedBlock<'_>, table: u64, index: u64) -> Result<(), Missing>
-    ensures ok { OnOk result (IsIndex (version_of block.now.version) (indexes_of (block_in block.now) (table - 1)) index) }
-    ensures err { OnErr result (IsIndex (version_of block.now.version) (indexes_of (block_in block.now) (table - 1)) index → ⊥) }
+    ensures ok { OnOk result (IsIndex (version_of block.now.version) (indexes_of (block_in block.now) (table - 1))
+        index) }
+    ensures err { OnErr result (IsIndex (version_of block.now.version) (indexes_of (block_in block.now) (table - 1))
+        index → ⊥) }
 {
     let indexes = block.indexes_of(from_zero(table));
     if is_index(block.version, indexes, index) {

@@ -24,7 +24,8 @@ pub fn write_text(
     plan: &Plan,
     certificate: &Certificate,
 ) -> Result<Vec<u8>, AllocError>
-    ensures { (of : c.CertifiedBlock) → IsOf of block.now → IfOk result (λ text. text.items ≡ spelling of (plan_of plan.now) (certificate_of certificate.now)) }
+    ensures { (of : c.CertifiedBlock) → IsOf of block.now →
+        IfOk result (λ text. text.items ≡ spelling of (plan_of plan.now) (certificate_of certificate.now)) }
 {
     let mut text = Vec::new(alloc);
     let version = u128::from(version_number(block.version));
@@ -62,7 +63,8 @@ fn write_lines(
     plan: &Plan,
     certificate: &Certificate,
 ) -> Result<(), AllocError>
-    ensures { OnOk result (text.new.items ≡ text.old.items ++ lines_of (plan_written (block_in block.now) (plan_of plan.now)) (certificate_of certificate.now)) }
+    ensures { OnOk result (text.new.items ≡ text.old.items ++ lines_of
+        (plan_written (block_in block.now) (plan_of plan.now)) (certificate_of certificate.now)) }
 {
     text.extend_from_slice(b"PLAN ")?;
     write_plan(text, block, plan)?;
@@ -73,7 +75,8 @@ fn write_lines(
 }
 
 fn write_plan(text: &mut Vec<u8>, block: &CertifiedBlock<'_>, plan: &Plan) -> Result<(), AllocError>
-    ensures { OnOk result (text.new.items ≡ text.old.items ++ spec.plan_text (plan_written (block_in block.now) (plan_of plan.now))) }
+    ensures { OnOk result (text.new.items ≡ text.old.items ++ spec.plan_text
+        (plan_written (block_in block.now) (plan_of plan.now))) }
 {
     match plan {
         Plan::Access(path) => {
@@ -114,7 +117,9 @@ fn write_merged(
     conjunct: usize,
     inner: &Inner,
 ) -> Result<(), AllocError>
-    ensures { OnOk result (text.new.items ≡ text.old.items ++ (codes "," ++ decimal (conjunct + 1) ++ codes "," ++ spec.sorted_text inner.now.sorted ++ spec.path_text (path_written (block_in block.now) (path_of inner.now.path)) ++ codes ")")) }
+    ensures { OnOk result (text.new.items ≡ text.old.items ++
+        (codes "," ++ decimal (conjunct + 1) ++ codes "," ++ spec.sorted_text inner.now.sorted ++ spec.path_text
+        (path_written (block_in block.now) (path_of inner.now.path)) ++ codes ")")) }
 {
     text.extend_from_slice(b",")?;
     write_number(text, from_one(conjunct))?;
@@ -128,7 +133,9 @@ fn write_inner(
     block: &CertifiedBlock<'_>,
     inner: &Inner,
 ) -> Result<(), AllocError>
-    ensures { OnOk result (text.new.items ≡ text.old.items ++ (spec.sorted_text inner.now.sorted ++ spec.path_text (path_written (block_in block.now) (path_of inner.now.path)))) }
+    ensures { OnOk result (text.new.items ≡ text.old.items ++
+        (spec.sorted_text inner.now.sorted ++ spec.path_text
+        (path_written (block_in block.now) (path_of inner.now.path)))) }
 {
     if inner.sorted {
         text.extend_from_slice(b"SORTED ")?;
@@ -137,7 +144,8 @@ fn write_inner(
 }
 
 fn write_path(text: &mut Vec<u8>, block: &CertifiedBlock<'_>, path: &Path) -> Result<(), AllocError>
-    ensures { OnOk result (text.new.items ≡ text.old.items ++ spec.path_text (path_written (block_in block.now) (path_of path.now))) }
+    ensures { OnOk result (text.new.items ≡ text.old.items ++ spec.path_text
+        (path_written (block_in block.now) (path_of path.now))) }
 {
     match path {
         Path::Segment { table } => {
@@ -172,7 +180,8 @@ fn write_path(text: &mut Vec<u8>, block: &CertifiedBlock<'_>, path: &Path) -> Re
 }
 
 fn write_conjuncts(text: &mut Vec<u8>, conjuncts: &[usize]) -> Result<(), AllocError>
-    ensures { OnOk result (text.new.items ≡ text.old.items ++ spec.conjuncts_text (map (λ number. number + 1) conjuncts.now)) }
+    ensures { OnOk result (text.new.items ≡ text.old.items ++ spec.conjuncts_text (map (λ number.
+        number + 1) conjuncts.now)) }
 {
     'conjuncts: for conjunct in conjuncts {
         text.extend_from_slice(b"/")?;

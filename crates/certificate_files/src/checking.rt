@@ -60,7 +60,8 @@ pub fn check_file(
     requires valid { IsDatabase database.now }
     requires formed { AllByRecursion (IsFormedSomewhere database.now) (map block_of blocks.now) }
     requires few { length blocks.now ≤ most_blocks }
-    ensures { IfOk result (λ told. AreTold current_version (certified_from database.now 0 (map block_of blocks.now)) (lines_of file.now) told.text.items (check_ended_of told.ended)) }
+    ensures { IfOk result (λ told. AreTold current_version (certified_from database.now 0 (map block_of blocks.now))
+        (lines_of file.now) told.text.items (check_ended_of told.ended)) }
 {
     let mut text = Vec::new(alloc);
     let mut all = Vec::new(alloc);

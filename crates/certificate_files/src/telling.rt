@@ -47,7 +47,8 @@ pub(crate) fn block_told(
 ) -> Result<Told, AllocError>
     requires valid { IsDatabase database.now }
     requires formed { IsFormedSomewhere database.now (block_of block.now) }
-    ensures told { IfOk result (λ told. IsTold (certified database.now number (block_of block.now) (version_of version)) bytes.now (told_of told)) }
+    ensures told { IfOk result (λ told. IsTold (certified database.now number (block_of block.now)
+        (version_of version)) bytes.now (told_of told)) }
     ensures text { IfOk result IsOfText }
 {
     let own = BlockSpace::new(alloc, database, block, number, version)?;
@@ -59,7 +60,8 @@ pub(crate) fn block_told(
 
 /// What is told of a text that has a fault.
 fn fault_told(fault: TextFault) -> Result<Told, AllocError>
-    ensures told { (block : CertifiedBlock) (bytes : List ℕ) → HasTextFault block bytes fault → IfOk result (λ told. IsTold block bytes (told_of told)) }
+    ensures told { (block : CertifiedBlock) (bytes : List ℕ) → HasTextFault block bytes fault →
+        IfOk result (λ told. IsTold block bytes (told_of told)) }
     ensures text { IfOk result IsOfText }
 {
     match fault {
@@ -73,7 +75,8 @@ fn fault_told(fault: TextFault) -> Result<Told, AllocError>
 /// What is told of what a text spells.
 fn spelled_told(space: &Space<'_>, spelled: &Spelled) -> Told
     requires { IsCertificate (space_in space.now) (certificate_of spelled.now.certificate) }
-    ensures told { (plan : spec.Plan) → StandsFor (space_in space.now) plan spelled.now.plan → IsToldBy (space_in space.now) plan (certificate_of spelled.now.certificate) (told_of result) }
+    ensures told { (plan : spec.Plan) → StandsFor (space_in space.now) plan spelled.now.plan →
+        IsToldBy (space_in space.now) plan (certificate_of spelled.now.certificate) (told_of result) }
     ensures text { IsOfText result }
 {
     match verdict_on(space, spelled) {
@@ -85,7 +88,8 @@ fn spelled_told(space: &Space<'_>, spelled: &Spelled) -> Told
 /// The verdict on it.
 fn verdict_on(space: &Space<'_>, spelled: &Spelled) -> Verdict
     requires { IsCertificate (space_in space.now) (certificate_of spelled.now.certificate) }
-    ensures { (plan : spec.Plan) → StandsFor (space_in space.now) plan spelled.now.plan → IsVerdict (space_in space.now) (certificate_of spelled.now.certificate) plan (verdict_of result) }
+    ensures { (plan : spec.Plan) → StandsFor (space_in space.now) plan spelled.now.plan →
+        IsVerdict (space_in space.now) (certificate_of spelled.now.certificate) plan (verdict_of result) }
 {
     match &spelled.plan {
         Some(plan) => check(space, plan, &spelled.certificate),

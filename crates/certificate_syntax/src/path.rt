@@ -123,7 +123,8 @@ fn conjuncts<'a>(
 /// What is amiss where a match goes by so many conjuncts.
 fn match_fault(version: Version, count: usize) -> Option<Expected>
     ensures { (numbers : List ℕ) → length numbers ≡ count → IsTrue (list_all is_number numbers)
-        → MatchOption result (is_match (version_of version) numbers ≡ true) (λ _. is_match (version_of version) numbers ≡ false) }
+        → MatchOption result (is_match (version_of version) numbers ≡ true)
+        (λ _. is_match (version_of version) numbers ≡ false) }
 {
     match version {
         Version::One => match count {

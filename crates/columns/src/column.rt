@@ -83,8 +83,10 @@ impl Column {
     ) -> (u64, u64)
         requires few { rows ≤ 64 }
         requires within { first + rows ≤ length (cells_of self.now).values }
-        ensures met { result.0 ≡ true_word (op_of op) (value_of value.now) (part_of first rows (cells_of self.now).values) }
-        ensures unknown { result.1 ≡ unknown_word (op_of op) (value_of value.now) (part_of first rows (cells_of self.now).values) }
+        ensures met { result.0 ≡ true_word (op_of op) (value_of value.now)
+            (part_of first rows (cells_of self.now).values) }
+        ensures unknown { result.1 ≡ unknown_word (op_of op) (value_of value.now)
+            (part_of first rows (cells_of self.now).values) }
     {
         match self {
             Column::Numbers(column) => column.scan(op, value, first, rows),
@@ -126,7 +128,8 @@ impl Column {
     /// Adds the value that another column of the same type has in a row. An `Err` leaves the column as it was.
     pub fn push_from(&mut self, other: &Column, row: usize) -> Result<(), AllocError>
         requires alike { (cells_of self.old).type ≡ (cells_of other.now).type }
-        ensures ok { OnOk result (cells_of self.new ≡ record (cells_of self.old) { values = (cells_of self.old).values ++ value_in (cells_of other.now) row ∷ [] }) }
+        ensures ok { OnOk result (cells_of self.new ≡ record
+            (cells_of self.old) { values = (cells_of self.old).values ++ value_in (cells_of other.now) row ∷ [] }) }
         ensures err { OnErr result (cells_of self.new ≡ cells_of self.old) }
         ensures held { OnOk result (IsHeld (cells_of other.now).type (value_in (cells_of other.now) row)) }
     {
@@ -141,7 +144,8 @@ impl Column {
     /// where no value of the column compares with the limit's, which is null or of the other kind
     /// (ISO/IEC 9075:1992, 8.2).
     pub fn start<'a>(&self, limit: Bound<Value<'a>>) -> Option<LowerBound<'a>>
-        ensures some { IfSome result (λ start. (cell : spec.Value) → IsHeld (cells_of self.now).type cell → starts start cell ≡ (not (is_null_value cell) && is_from (limit_of limit.entry) cell)) }
+        ensures some { IfSome result (λ start. (cell : spec.Value) → IsHeld (cells_of self.now).type cell →
+            starts start cell ≡ (not (is_null_value cell) && is_from (limit_of limit.entry) cell)) }
         ensures meets { IfSome result (λ start. AreMet (cells_of self.now).type (limit_of limit.entry)) }
         ensures none { IsNone result → AreApart (cells_of self.now).type (limit_of limit.entry) }
     {

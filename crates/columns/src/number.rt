@@ -81,7 +81,10 @@ impl NumberColumn {
 
     /// Adds a row with a number of these units at the type's scale, or with a null. An `Err` leaves the column as it was.
     pub fn push(&mut self, units: Option<i64>) -> Result<(), AllocError>
-        ensures ok { OnOk result (self.new ≡ record self.old { values = self.old.values ++ number_or_null self.old.type units ∷ [] }) }
+        ensures ok { OnOk result (self.new ≡ record self.old {
+          values = self.old.values ++ number_or_null
+              self.old.type units ∷ [];
+        }) }
         ensures err { OnErr result (self.new ≡ self.old) }
     {
         self.units.reserve(1)?;
@@ -142,7 +145,10 @@ impl NumberColumn {
     /// Adds the number that another column of the same type has in a row. An `Err` leaves the column as it was.
     pub fn push_from(&mut self, other: &NumberColumn, row: usize) -> Result<(), AllocError>
         requires alike { self.old.type ≡ other.now.type }
-        ensures ok { OnOk result (self.new ≡ record self.old { values = self.old.values ++ value_in other.now row ∷ [] }) }
+        ensures ok { OnOk result (self.new ≡ record self.old {
+          values = self.old.values ++ value_in other.now row ∷
+              [];
+        }) }
         ensures err { OnErr result (self.new ≡ self.old) }
         ensures held { IsHeld other.now.type (value_in other.now row) }
     {
@@ -164,7 +170,8 @@ impl NumberColumn {
     /// The values from a limit on, nulls being none of them, made ready for look-ups in columns of this type; `None`
     /// where the limit's value is no number (ISO/IEC 9075:1992, 8.2).
     pub fn start<'a>(&self, limit: Bound<Value<'a>>) -> Option<LowerBound<'a>>
-        ensures some { IfSome result (λ start. (cell : spec.Value) → IsHeld self.now.type cell → starts start cell ≡ (not (is_null_value cell) && is_from (limit_of limit.entry) cell)) }
+        ensures some { IfSome result (λ start. (cell : spec.Value) → IsHeld self.now.type cell →
+            starts start cell ≡ (not (is_null_value cell) && is_from (limit_of limit.entry) cell)) }
         ensures meets { IfSome result (λ start. AreMet self.now.type (limit_of limit.entry)) }
         ensures none { IsNone result → AreApart self.now.type (limit_of limit.entry) }
     {

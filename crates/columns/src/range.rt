@@ -29,7 +29,8 @@ pub(crate) struct Neighbours {
 /// general rule 2).
 pub(crate) fn range_of(op: ComparisonOperator, value: Num, scale: u8) -> UnitRange
     requires { scale ≤ greatest_precision }
-    ensures { (u : ℤ) → FitsSigned w64 u → agrees (op_of op) (number_cmp u scale value.units value.scale) ≡ is_in result u }
+    ensures { (u : ℤ) → FitsSigned w64 u → agrees (op_of op) (number_cmp u scale value.units value.scale)
+        ≡ is_in result u }
 {
     let (least, greatest) = (i128::from(i64::MIN), i128::from(i64::MAX));
     let Neighbours { below, at_most } = nearest(value, scale);
@@ -49,8 +50,10 @@ pub(crate) fn range_of(op: ComparisonOperator, value: Num, scale: u8) -> UnitRan
 /// The units of a scale next to a number. Past the limits of 64 bits they may be any beyond those.
 pub(crate) fn nearest(value: Num, scale: u8) -> Neighbours
     requires { scale ≤ greatest_precision }
-    ensures below { (u : ℤ) → FitsSigned w64 u → int_lt (u *ℤ pos (10 ^ value.scale)) (value.units *ℤ pos (10 ^ scale)) ≡ int_le u result.below }
-    ensures at_most { (u : ℤ) → FitsSigned w64 u → int_le (u *ℤ pos (10 ^ value.scale)) (value.units *ℤ pos (10 ^ scale)) ≡ int_le u result.at_most }
+    ensures below { (u : ℤ) → FitsSigned w64 u → int_lt (u *ℤ pos (10 ^ value.scale))
+        (value.units *ℤ pos (10 ^ scale)) ≡ int_le u result.below }
+    ensures at_most { (u : ℤ) → FitsSigned w64 u → int_le (u *ℤ pos (10 ^ value.scale))
+        (value.units *ℤ pos (10 ^ scale)) ≡ int_le u result.at_most }
 {
     if value.scale <= scale {
         let at_most = value

@@ -79,7 +79,10 @@ impl TextColumn {
     /// the cells as they were.
     pub fn push(&mut self, text: Option<&str>) -> Result<(), AllocError>
         requires { IfSome text (λ t. FitsIn self.old.type t.now) }
-        ensures ok { OnOk result (self.new ≡ record self.old { values = self.old.values ++ text_or_null self.old.type (option_copied text.entry) ∷ [] }) }
+        ensures ok { OnOk result (self.new ≡ record self.old {
+          values = self.old.values ++ text_or_null self.old.type
+              (option_copied text.entry) ∷ [];
+        }) }
         ensures err { OnErr result (self.new ≡ self.old) }
     {
         let length = self.characters.len();
@@ -166,7 +169,10 @@ impl TextColumn {
     /// Adds the text that another column of the same type has in a row. An `Err` leaves the column as it was.
     pub fn push_from(&mut self, other: &TextColumn, row: usize) -> Result<(), AllocError>
         requires alike { self.old.type ≡ other.now.type }
-        ensures ok { OnOk result (self.new ≡ record self.old { values = self.old.values ++ value_in other.now row ∷ [] }) }
+        ensures ok { OnOk result (self.new ≡ record self.old {
+          values = self.old.values ++ value_in other.now row ∷
+              [];
+        }) }
         ensures err { OnErr result (self.new ≡ self.old) }
         ensures held { IsHeld other.now.type (value_in other.now row) }
     {
@@ -176,7 +182,8 @@ impl TextColumn {
     /// The values from a limit on, nulls being none of them, made ready for look-ups in columns of this type; `None`
     /// where the limit's value is no text (ISO/IEC 9075:1992, 8.2).
     pub fn start<'a>(&self, limit: Bound<Value<'a>>) -> Option<LowerBound<'a>>
-        ensures some { IfSome result (λ start. (cell : spec.Value) → IsHeld self.now.type cell → starts start cell ≡ (not (is_null_value cell) && is_from_limit (limit_of limit.entry) cell)) }
+        ensures some { IfSome result (λ start. (cell : spec.Value) → IsHeld self.now.type cell →
+            starts start cell ≡ (not (is_null_value cell) && is_from_limit (limit_of limit.entry) cell)) }
         ensures meets { IfSome result (λ start. AreMet self.now.type (limit_of limit.entry)) }
         ensures none { IsNone result → AreApart self.now.type (limit_of limit.entry) }
     {

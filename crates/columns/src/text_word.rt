@@ -53,7 +53,8 @@ pub(crate) fn texts_word(
 ) -> u64
     requires few { rows ≤ 64 }
     requires within { rows * length ≤ list_length characters.now }
-    ensures { result ≡ word_of (map (λ text. agrees (op_of op) (text_cmp text value.now)) (texts_in length rows characters.now)) }
+    ensures { result ≡ word_of (map (λ text. agrees (op_of op) (text_cmp text value.now))
+        (texts_in length rows characters.now)) }
 {
     let wanted = Wanted::of(op);
     let (head, tail) = value.split_at(length.min(value.len()));
@@ -71,7 +72,8 @@ pub(crate) fn texts_word(
 /// spaces compare with the value's tail, where there is one.
 fn order_of(text: &[u8], head: &[u8], past: Ordering) -> Ordering
     requires { list_length head.now ≤ list_length text.now }
-    ensures { (tail : List ℕ) → past ≡ text_cmp [] tail → (list_length head.now ≡ list_length text.now) ⊎ (tail ≡ []) → result ≡ text_cmp text.now (head.now ++ tail) }
+    ensures { (tail : List ℕ) → past ≡ text_cmp [] tail →
+        (list_length head.now ≡ list_length text.now) ⊎ (tail ≡ []) → result ≡ text_cmp text.now (head.now ++ tail) }
 {
     let (front, rest) = text.split_at(head.len());
     match front.cmp(head) {

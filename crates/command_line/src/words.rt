@@ -68,7 +68,8 @@ fn run_request(alloc: Global, run: &ArgMatches<'_>) -> Result<Option<Request>, A
 }
 
 fn check_request(alloc: Global, check: &ArgMatches<'_>) -> Result<Option<Request>, AllocError>
-    ensures { IfOk result (λ r. option_map asked r ≡ spec.check_of (first_value (found_of check.now) (codes "SCRIPT")) (first_value (found_of check.now) (codes "CERTIFICATES"))) }
+    ensures { IfOk result (λ r. option_map asked r ≡ spec.check_of (first_value (found_of check.now) (codes "SCRIPT"))
+        (first_value (found_of check.now) (codes "CERTIFICATES"))) }
 {
     let Some(script) = check.get_str("SCRIPT") else {
         return Ok(None);

@@ -28,7 +28,8 @@ pub fn conjuncts<'a>(
     condition: &'a Option<Condition>,
 ) -> Result<Vec<Conjunct<'a>>, AllocError>
     requires few { IfSome (option_map condition_of condition.now) NamesFew }
-    ensures whole { IfOk result (λ cs. map condition_in cs.items ≡ conjuncts_of_option (option_map condition_of condition.now)) }
+    ensures whole { IfOk result (λ cs. map condition_in cs.items
+        ≡ conjuncts_of_option (option_map condition_of condition.now)) }
     ensures late { IfOk result (λ cs. AllByRecursion IsJudged cs.items) }
     ensures tables { IfOk result (λ cs. AllByRecursion HasItsTables cs.items) }
 {
@@ -47,7 +48,8 @@ fn push_conjuncts<'a>(
     requires few { NamesFew (condition_of condition.now) }
     requires late { AllByRecursion IsJudged conjuncts.old.items }
     requires tables { AllByRecursion HasItsTables conjuncts.old.items }
-    ensures whole { OnOk result (map condition_in conjuncts.new.items ≡ map condition_in conjuncts.old.items ++ conjuncts_of (condition_of condition.now)) }
+    ensures whole { OnOk result (map condition_in conjuncts.new.items
+        ≡ map condition_in conjuncts.old.items ++ conjuncts_of (condition_of condition.now)) }
     ensures late { OnOk result (AllByRecursion IsJudged conjuncts.new.items) }
     ensures tables { OnOk result (AllByRecursion HasItsTables conjuncts.new.items) }
 {

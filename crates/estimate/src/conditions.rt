@@ -17,7 +17,8 @@ use query_tree::Condition;
 /// The share of rows on which a condition of a block is taken to be true, in millionths (Selinger et al. 1979, table 1; some
 /// numbers are own). The tables are those of the block, in the order of FROM.
 pub fn selectivity(tables: &[&Table], condition: &Condition) -> u32
-    ensures exact { (db : Database) (block : Block) → AreTablesOf db block (tables_of tables.now) → result ≡ spec.selectivity db block (condition_of condition.now) }
+    ensures exact { (db : Database) (block : Block) → AreTablesOf db block (tables_of tables.now) →
+        result ≡ spec.selectivity db block (condition_of condition.now) }
     ensures below { result ≤ million }
 {
     match condition {

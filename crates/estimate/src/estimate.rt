@@ -119,7 +119,8 @@ impl<'a> Estimate<'a> {
     /// The share of rows on which a conjunct is taken to be true, in millionths.
     pub fn selectivity(&self, conjunct: usize) -> u64
         requires { conjunct < length (plans.plan_conjuncts self.now.database (block_of self.now.block)) }
-        ensures { result ≡ selectivity_of (slice_get (plans.plan_conjuncts self.now.database (block_of self.now.block)) conjunct) }
+        ensures { result ≡ selectivity_of (slice_get (plans.plan_conjuncts self.now.database
+            (block_of self.now.block)) conjunct) }
     {
         u64::from(self.conjuncts[conjunct].selectivity)
     }
@@ -144,7 +145,8 @@ impl<'a> Estimate<'a> {
     /// completes (section 5: QCARD).
     pub fn joined_with(&self, taken: TableSet, rows: u64, table: usize) -> u64
         requires { table < length (block_of self.now.block).tables }
-        ensures exact { result ≡ spec.joined_with self.now.database (block_of self.now.block) (set_of taken) rows table }
+        ensures exact { result ≡ spec.joined_with self.now.database (block_of self.now.block) (set_of taken) rows
+            table }
         ensures below { result ≤ limit }
     {
         let product = saturated(u128::from(rows) * u128::from(self.sizes[table].rows));

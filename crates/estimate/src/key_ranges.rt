@@ -40,7 +40,8 @@ impl Extent {
 
     /// The part of the range above a number; its keys are at a scale.
     pub(crate) fn part_above(self, key_scale: u8, number: Num) -> u32
-        ensures exact { result ≡ spec.part_above (range_of self) (spec.drawn (range_of self) key_scale number.units number.scale) }
+        ensures exact { result ≡ spec.part_above (range_of self)
+            (spec.drawn (range_of self) key_scale number.units number.scale) }
         ensures below { result ≤ million }
     {
         let key = self.drawn(key_scale, number);
@@ -49,7 +50,8 @@ impl Extent {
 
     /// The part of the range below a number.
     pub(crate) fn part_below(self, key_scale: u8, number: Num) -> u32
-        ensures exact { result ≡ spec.part_below (range_of self) (spec.drawn (range_of self) key_scale number.units number.scale) }
+        ensures exact { result ≡ spec.part_below (range_of self)
+            (spec.drawn (range_of self) key_scale number.units number.scale) }
         ensures below { result ≤ million }
     {
         let key = self.drawn(key_scale, number);
@@ -58,7 +60,9 @@ impl Extent {
 
     /// The part of the range between two numbers; one millionth where the first is the greater.
     pub(crate) fn part_between(self, key_scale: u8, low: Num, high: Num) -> u32
-        ensures exact { result ≡ spec.part_between (range_of self) (spec.drawn (range_of self) key_scale low.units low.scale) (spec.drawn (range_of self) key_scale high.units high.scale) }
+        ensures exact { result ≡ spec.part_between (range_of self)
+            (spec.drawn (range_of self) key_scale low.units low.scale)
+            (spec.drawn (range_of self) key_scale high.units high.scale) }
         ensures below { result ≤ million }
     {
         let from = self.drawn(key_scale, low);

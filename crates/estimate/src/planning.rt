@@ -25,8 +25,11 @@ pub(crate) fn plan_conjuncts<'a>(
     condition: &'a Option<Condition>,
 ) -> Result<Vec<PlanConjunct<'a>>, AllocError>
     requires few { IfSome (option_map condition_of condition.now) NamesFew }
-    ensures conditions { IfOk result (λ cs. map condition_told cs.items ≡ conjuncts_of_option (option_map condition_of condition.now)) }
-    ensures exact { IfOk result (λ cs. (db : Database) (block : Block) → AreTablesOf db block (tables_of tables.now) → map conjunct_of cs.items ≡ map (spec.plan_conjunct db block) (conjuncts_of_option (option_map condition_of condition.now))) }
+    ensures conditions { IfOk result (λ cs. map condition_told cs.items
+        ≡ conjuncts_of_option (option_map condition_of condition.now)) }
+    ensures exact { IfOk result (λ cs. (db : Database) (block : Block) → AreTablesOf db block (tables_of tables.now) →
+        map conjunct_of cs.items ≡ map (spec.plan_conjunct db block)
+        (conjuncts_of_option (option_map condition_of condition.now))) }
 {
     let parts = conjuncts(alloc, condition)?;
     let mut planned = Vec::new(alloc);
@@ -40,7 +43,8 @@ fn plan_conjunct<'a>(tables: &[&Table], conjunct: Conjunct<'a>) -> PlanConjunct<
     requires late { IsJudged conjunct }
     requires tables { HasItsTables conjunct }
     ensures condition { condition_told result ≡ condition_in conjunct.entry }
-    ensures exact { (db : Database) (block : Block) → AreTablesOf db block (tables_of tables.now) → conjunct_of result ≡ spec.plan_conjunct db block (condition_in conjunct.entry) }
+    ensures exact { (db : Database) (block : Block) → AreTablesOf db block (tables_of tables.now) →
+        conjunct_of result ≡ spec.plan_conjunct db block (condition_in conjunct.entry) }
 {
     PlanConjunct {
         condition: conjunct.condition,

@@ -39,7 +39,8 @@ pub(crate) fn comparison_share(
     left: Side,
     right: Side,
 ) -> u32
-    ensures exact { (db : Database) (block : Block) → AreTablesOf db block (tables_of tables.now) → result ≡ spec.comparison_share db block (op_of op) (side_in left) (side_in right) }
+    ensures exact { (db : Database) (block : Block) → AreTablesOf db block (tables_of tables.now) →
+        result ≡ spec.comparison_share db block (op_of op) (side_in left) (side_in right) }
     ensures below { result ≤ million }
 {
     match op {
@@ -56,7 +57,8 @@ pub(crate) fn comparison_share(
 
 /// `=`: one of the keys of the column, or of that of two columns that has more of them.
 fn equal_share(tables: &[&Table], left: Side, right: Side) -> u32
-    ensures exact { (db : Database) (block : Block) → AreTablesOf db block (tables_of tables.now) → result ≡ spec.equal_share db block (side_in left) (side_in right) }
+    ensures exact { (db : Database) (block : Block) → AreTablesOf db block (tables_of tables.now) →
+        result ≡ spec.equal_share db block (side_in left) (side_in right) }
     ensures below { result ≤ million }
 {
     match (left.column(), right.column()) {
@@ -83,7 +85,8 @@ fn greater_of(a: Option<u64>, b: Option<u64>) -> Option<u64>
 
 /// `>` and `>=`: the part of a column's range above a number, or below one that stands on the left.
 fn greater_share(tables: &[&Table], left: Side, right: Side) -> u32
-    ensures exact { (db : Database) (block : Block) → AreTablesOf db block (tables_of tables.now) → result ≡ spec.greater_share db block (side_in left) (side_in right) }
+    ensures exact { (db : Database) (block : Block) → AreTablesOf db block (tables_of tables.now) →
+        result ≡ spec.greater_share db block (side_in left) (side_in right) }
     ensures below { result ≤ million }
 {
     match (left, right) {
@@ -99,7 +102,9 @@ fn greater_share(tables: &[&Table], left: Side, right: Side) -> u32
 
 /// The part of a column's range above a number; a third where it is not known.
 fn share_above(tables: &[&Table], column: BlockColumn, scale: u8, number: Num) -> u32
-    ensures exact { (db : Database) (block : Block) → AreTablesOf db block (tables_of tables.now) → result ≡ spec.part_or db block (column_of column) (λ range. part_above range (drawn range scale number.units number.scale)) fractions.one_third }
+    ensures exact { (db : Database) (block : Block) → AreTablesOf db block (tables_of tables.now) →
+        result ≡ spec.part_or db block (column_of column) (λ range.
+        part_above range (drawn range scale number.units number.scale)) fractions.one_third }
     ensures below { result ≤ million }
 {
     match range_over(tables, column) {
@@ -110,7 +115,9 @@ fn share_above(tables: &[&Table], column: BlockColumn, scale: u8, number: Num) -
 
 /// The part of a column's range below a number; a third where it is not known.
 fn share_below(tables: &[&Table], column: BlockColumn, scale: u8, number: Num) -> u32
-    ensures exact { (db : Database) (block : Block) → AreTablesOf db block (tables_of tables.now) → result ≡ spec.part_or db block (column_of column) (λ range. part_below range (drawn range scale number.units number.scale)) fractions.one_third }
+    ensures exact { (db : Database) (block : Block) → AreTablesOf db block (tables_of tables.now) →
+        result ≡ spec.part_or db block (column_of column) (λ range.
+        part_below range (drawn range scale number.units number.scale)) fractions.one_third }
     ensures below { result ≤ million }
 {
     match range_over(tables, column) {
@@ -121,7 +128,8 @@ fn share_below(tables: &[&Table], column: BlockColumn, scale: u8, number: Num) -
 
 /// BETWEEN: the part of a column's range between two numbers.
 pub(crate) fn between_share(tables: &[&Table], value: Side, low: Side, high: Side) -> u32
-    ensures exact { (db : Database) (block : Block) → AreTablesOf db block (tables_of tables.now) → result ≡ spec.between_share db block (side_in value) (side_in low) (side_in high) }
+    ensures exact { (db : Database) (block : Block) → AreTablesOf db block (tables_of tables.now) →
+        result ≡ spec.between_share db block (side_in value) (side_in low) (side_in high) }
     ensures below { result ≤ million }
 {
     let Side::PlainColumn { column, scale } = value else {
@@ -137,7 +145,10 @@ pub(crate) fn between_share(tables: &[&Table], value: Side, low: Side, high: Sid
 
 /// The part of a column's range between two numbers; a quarter where it is not known.
 fn share_between(tables: &[&Table], column: BlockColumn, scale: u8, low: Num, high: Num) -> u32
-    ensures exact { (db : Database) (block : Block) → AreTablesOf db block (tables_of tables.now) → result ≡ spec.part_or db block (column_of column) (λ range. part_between range (drawn range scale low.units low.scale) (drawn range scale high.units high.scale)) fractions.one_quarter }
+    ensures exact { (db : Database) (block : Block) → AreTablesOf db block (tables_of tables.now) →
+        result ≡ spec.part_or db block (column_of column) (λ range.
+        part_between range (drawn range scale low.units low.scale) (drawn range scale high.units high.scale))
+        fractions.one_quarter }
     ensures below { result ≤ million }
 {
     match range_over(tables, column) {
@@ -148,7 +159,8 @@ fn share_between(tables: &[&Table], column: BlockColumn, scale: u8, low: Num, hi
 
 /// IN with a list: as many times one key as there are members, NULL too, but at most a half.
 pub(crate) fn list_share(tables: &[&Table], value: Side, members: usize) -> u32
-    ensures exact { (db : Database) (block : Block) → AreTablesOf db block (tables_of tables.now) → result ≡ spec.list_share db block (side_in value) members }
+    ensures exact { (db : Database) (block : Block) → AreTablesOf db block (tables_of tables.now) →
+        result ≡ spec.list_share db block (side_in value) members }
     ensures below { result ≤ million }
 {
     match value {

@@ -48,7 +48,8 @@ impl SetEstimates {
     /// How many rows a set of tables is taken to give (Selinger et al. 1979, section 5: QCARD). It takes constant time.
     pub fn cardinality(&self, tables: TableSet) -> u64
         requires set { set_of tables < 2 ^ tables_in self.now }
-        ensures exact { (db : Database) (block : Block) → AreEstimates db block self.now → result ≡ spec.cardinality db block (set_of tables) }
+        ensures exact { (db : Database) (block : Block) → AreEstimates db block self.now →
+            result ≡ spec.cardinality db block (set_of tables) }
         ensures below { result ≤ limit }
     {
         self.estimates[tables.place()].rows
@@ -58,7 +59,8 @@ impl SetEstimates {
     /// time.
     pub fn sort_cost(&self, tables: TableSet) -> u64
         requires set { set_of tables < 2 ^ tables_in self.now }
-        ensures exact { (db : Database) (block : Block) → AreEstimates db block self.now → result ≡ spec.sort_cost db block (set_of tables) }
+        ensures exact { (db : Database) (block : Block) → AreEstimates db block self.now →
+            result ≡ spec.sort_cost db block (set_of tables) }
         ensures below { result ≤ limit }
     {
         self.estimates[tables.place()].sort_cost
@@ -76,7 +78,8 @@ fn add_table(
     requires whole { length estimates.old.items ≡ 2 ^ table }
     requires exact { AreExact estimate.now.database (block_of estimate.now.block) estimates.old.items }
     ensures whole { IfOk result (λ _. length estimates.new.items ≡ 2 ^ (table + 1)) }
-    ensures exact { IfOk result (λ _. AreExact estimate.now.database (block_of estimate.now.block) estimates.new.items) }
+    ensures exact { IfOk result (λ _. AreExact estimate.now.database (block_of estimate.now.block)
+        estimates.new.items) }
 {
     'sets: for place in 0..estimates.len() {
         let set = TableSet::at(place);

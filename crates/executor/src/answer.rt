@@ -34,9 +34,12 @@ pub fn answer_text<'a>(
 ) -> Result<(Vec<u8>, u64), AnswerFault>
     requires plain { IsPlain (block_of block.now) }
     requires formed { IsFormedBlock database.now (block_of block.now ∷ []) [] 0 (block_of block.now) }
-    ensures rows { IfOk result (λ r. (rows : List Row) × AllowedOf database.now (block_of block.now ∷ []) (Rows rows) × (r.0.items ≡ shown (names_of (block_of block.now ∷ [])) (Rows rows))) }
+    ensures rows { IfOk result (λ r. (rows : List Row) ×
+        AllowedOf database.now (block_of block.now ∷ []) (Rows rows) ×
+        (r.0.items ≡ shown (names_of (block_of block.now ∷ [])) (Rows rows))) }
     ensures work { IfOk result (λ r. IsTotal current_version database.now (block_of block.now ∷ []) r.1) }
-    ensures raised { IfErr result (λ fault. IfRaised fault (λ raise. AllowedOf database.now (block_of block.now ∷ []) (Exception raise))) }
+    ensures raised { IfErr result (λ fault. IfRaised fault (λ raise.
+        AllowedOf database.now (block_of block.now ∷ []) (Exception raise))) }
 {
     let source = BlockSource::new(alloc, database, block)?;
     let (space, plan) = least_plan(alloc, database, block)?;
@@ -56,9 +59,12 @@ fn run<'s>(
     requires formed { IsFormedBlock source.now.database (block_in source.now ∷ []) [] 0 (block_in source.now) }
     requires orders { orders_in orders.now ≡ orders_of current_version source.now.database (block_in source.now) }
     requires least { IsLeast (space_of current_version source.now.database (block_in source.now)) (plan_of plan.now) }
-    ensures rows { IfOk result (λ r. (rows : List Row) × AllowedOf source.now.database (block_in source.now ∷ []) (Rows rows) × (r.0.items ≡ shown (names_of (block_in source.now ∷ [])) (Rows rows))) }
+    ensures rows { IfOk result (λ r. (rows : List Row) ×
+        AllowedOf source.now.database (block_in source.now ∷ []) (Rows rows) ×
+        (r.0.items ≡ shown (names_of (block_in source.now ∷ [])) (Rows rows))) }
     ensures work { IfOk result (λ r. IsTotal current_version source.now.database (block_in source.now ∷ []) r.1) }
-    ensures raised { IfErr result (λ fault. IfRaised fault (λ raise. AllowedOf source.now.database (block_in source.now ∷ []) (Exception raise))) }
+    ensures raised { IfErr result (λ fault. IfRaised fault (λ raise.
+        AllowedOf source.now.database (block_in source.now ∷ []) (Exception raise))) }
 {
     let mut line = open(alloc, source, orders, plan, &NoOuterRows)?;
     let text = crate::answer_rows::answer_text(alloc, source, block, &NoOuterRows, &mut line)?;

@@ -36,9 +36,13 @@ pub fn answer_text<P: TupleSource, A: OuterRows>(
     requires surrounded { IsSurrounded source.now (A.combinations around.now) }
     requires well { P.IsWell pull.old (A.combinations around.now) }
     requires width { P.width pull.old ≡ length (block_in source.now).tables }
-    requires arranged { ArrangePassing source.now (A.combinations around.now) (P.left pull.old (A.combinations around.now)) }
-    ensures rows { IfOk result (λ text. (rows : List Row) × MayTell source.now (A.combinations around.now) (Rows rows) × (text.items ≡ table_text (names_of source.now) rows)) }
-    ensures raised { IfErr result (λ fault. IfRaised fault (λ raise. MayTell source.now (A.combinations around.now) (Exception raise))) }
+    requires arranged { ArrangePassing source.now (A.combinations around.now)
+        (P.left pull.old (A.combinations around.now)) }
+    ensures rows { IfOk result (λ text. (rows : List Row) ×
+        MayTell source.now (A.combinations around.now) (Rows rows) ×
+        (text.items ≡ table_text (names_of source.now) rows)) }
+    ensures raised { IfErr result (λ fault. IfRaised fault (λ raise.
+        MayTell source.now (A.combinations around.now) (Exception raise))) }
     ensures taken { OnOk result (P.left pull.new (A.combinations around.now) ≡ []) }
     ensures well { OnOk result (P.IsWell pull.new (A.combinations around.now)) }
     ensures work { P.work pull.new (A.combinations around.now) ≡ P.work pull.old (A.combinations around.now) }
@@ -68,9 +72,12 @@ fn take<A: OuterRows>(
     requires database { IsDatabase source.now.database }
     requires surrounded { IsSurrounded source.now (A.combinations around.now) }
     requires counted { IsCounted lines.old }
-    ensures taken { OnOk result (HaveTakenOneMore source.now (A.combinations around.now) (numbers_in (length (block_in source.now).tables) composite.now) lines.old lines.new) }
+    ensures taken { OnOk result (HaveTakenOneMore source.now (A.combinations around.now)
+        (numbers_in (length (block_in source.now).tables) composite.now) lines.old lines.new) }
     ensures counted { OnOk result (IsCounted lines.new) }
-    ensures raised { IfErr result (λ fault. IfRaised fault (Contains (late_raises_on source.now (A.combinations around.now) (numbers_in (length (block_in source.now).tables) composite.now)))) }
+    ensures raised { IfErr result (λ fault. IfRaised fault
+        (Contains (late_raises_on source.now (A.combinations around.now)
+        (numbers_in (length (block_in source.now).tables) composite.now)))) }
 {
     let place = RowContext {
         source,

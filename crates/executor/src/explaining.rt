@@ -25,7 +25,8 @@ pub fn explain_text(
     requires valid { IsDatabase database.now }
     requires formed { AllByRecursion (IsFormedSomewhere database.now) (map block_of blocks.now) }
     requires few { length blocks.now ≤ most_blocks }
-    ensures { IfOk result (λ text. AreExplained current_version (certified_from database.now 0 (map block_of blocks.now)) text.items) }
+    ensures { IfOk result (λ text. AreExplained current_version
+        (certified_from database.now 0 (map block_of blocks.now)) text.items) }
 {
     let mut text = Vec::new(alloc);
     let mut number = 0;
@@ -47,7 +48,8 @@ fn block_text(
     requires valid { IsDatabase database.now }
     requires formed { IsFormedSomewhere database.now (block_of block.now) }
     requires few { number < most_blocks }
-    ensures { IfOk result (λ text. IsExplained (certified database.now number (block_of block.now) current_version) text.items) }
+    ensures { IfOk result (λ text. IsExplained (certified database.now number (block_of block.now) current_version)
+        text.items) }
 {
     let own = BlockSpace::new(alloc, database, block, number, Version::Three)?;
     let (plan, certificate, _) = optimise(alloc, &own.space)?;

@@ -36,7 +36,8 @@ pub(crate) fn try_all<S: Environment>(conditions: &[&Condition], env: &S) -> Res
     requires { AllByRecursion (CanEvaluate (S.environment env.now)) (conditions_of conditions.now) }
     ensures truth { IfOk result (λ all. all ≡ are_true_in (S.environment env.now) (conditions_of conditions.now)) }
     ensures quiet { OnOk result (raised_in (S.environment env.now) (conditions_of conditions.now) ≡ []) }
-    ensures raised { IfErr result (λ raise. Contains (raised_in (S.environment env.now) (conditions_of conditions.now)) (raise_of raise)) }
+    ensures raised { IfErr result (λ raise. Contains (raised_in (S.environment env.now)
+        (conditions_of conditions.now)) (raise_of raise)) }
 {
     let mut all = true;
     'conditions: for condition in conditions {

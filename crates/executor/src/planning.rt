@@ -25,7 +25,8 @@ pub(crate) fn least_plan<'a>(
 ) -> Result<(Space<'a>, Plan), AllocError>
     requires formed { IsFormedSomewhere database.now (block_of block.now) }
     ensures space { IfOk result (λ r. space_in r.0 ≡ space_of current_version database.now (block_of block.now)) }
-    ensures least { IfOk result (λ r. IsLeast (space_of current_version database.now (block_of block.now)) (plan_of r.1)) }
+    ensures least { IfOk result (λ r. IsLeast (space_of current_version database.now (block_of block.now))
+        (plan_of r.1)) }
 {
     let estimate = Estimate::new(alloc, database, block)?;
     let space = Space::new(alloc, estimate, Version::Three)?;

@@ -16,7 +16,8 @@ use std::alloc::AllocError;
 
 /// The names of the result columns.
 pub(crate) fn write_header(out: &mut Vec<u8>, items: &[Item]) -> Result<(), AllocError>
-    ensures { OnOk result (out.new.items ≡ out.old.items ++ fields_line (map (λ (i : b.Item). i.name) (items_of items.now))) }
+    ensures { OnOk result (out.new.items ≡ out.old.items ++ fields_line (map (λ (i : b.Item).
+        i.name) (items_of items.now))) }
 {
     'items: for (i, item) in items.iter().enumerate() {
         if i > 0 {
@@ -35,9 +36,11 @@ pub(crate) fn write_row<S: Environment>(
     env: &S,
 ) -> Result<(), AnswerFault>
     requires { AllByRecursion (CanGive (S.environment env.now)) (items_of items.now) }
-    ensures text { OnOk result (out.new.items ≡ out.old.items ++ row_line (row_in (S.environment env.now) (items_of items.now))) }
+    ensures text { OnOk result (out.new.items ≡ out.old.items ++ row_line
+        (row_in (S.environment env.now) (items_of items.now))) }
     ensures quiet { OnOk result (row_raises_in (S.environment env.now) (items_of items.now) ≡ []) }
-    ensures raised { IfErr result (λ fault. IfRaised fault (Contains (row_raises_in (S.environment env.now) (items_of items.now)))) }
+    ensures raised { IfErr result (λ fault. IfRaised fault
+        (Contains (row_raises_in (S.environment env.now) (items_of items.now)))) }
 {
     'items: for (i, item) in items.iter().enumerate() {
         if i > 0 {

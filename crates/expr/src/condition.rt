@@ -107,7 +107,10 @@ fn between(
     low: Result<Value, Raise>,
     high: Result<Value, Raise>,
 ) -> Result<Tri, Raise>
-    ensures { (m l h : Meaning spec.Value) → MayAnswer m (answer_of operand.entry) → MayAnswer l (answer_of low.entry) → MayAnswer h (answer_of high.entry) → MayAnswer (meaning.on_two and (meaning.on_two (is.compared GreaterOrEquals) m l) (meaning.on_two (is.compared LessOrEquals) m h)) (truth_answer_of result) }
+    ensures { (m l h : Meaning spec.Value) → MayAnswer m (answer_of operand.entry) →
+        MayAnswer l (answer_of low.entry) → MayAnswer h (answer_of high.entry) →
+        MayAnswer (meaning.on_two and (meaning.on_two (is.compared GreaterOrEquals) m l)
+        (meaning.on_two (is.compared LessOrEquals) m h)) (truth_answer_of result) }
 {
     both(
         compared(ComparisonOperator::GreaterOrEquals, operand, low),
@@ -123,7 +126,10 @@ fn is_member<'a, S: Environment>(
 ) -> Result<Tri, Raise>
     requires fits { AllByRecursion (FitsTypes (S.environment env.now)) (member_values (map member_of members.now)) }
     requires typed { AllByRecursion IsTyped (member_values (map member_of members.now)) }
-    ensures { (m : Meaning spec.Value) → MayAnswer m (answer_of operand.entry) → MayAnswer (meaning.on_two (is.compared_with_any Equals) m (meaning.in_order (map (meaning.member (S.environment env.now)) (map member_of members.now)))) (truth_answer_of result) }
+    ensures { (m : Meaning spec.Value) → MayAnswer m (answer_of operand.entry) →
+        MayAnswer (meaning.on_two (is.compared_with_any Equals) m
+        (meaning.in_order (map (meaning.member (S.environment env.now)) (map member_of members.now))))
+        (truth_answer_of result) }
 {
     let mut any = nowhere(operand);
     for member in members {
@@ -141,7 +147,8 @@ fn is_member<'a, S: Environment>(
 
 /// That a value is equal to no member yet.
 fn nowhere(operand: Result<Value, Raise>) -> Result<Tri, Raise>
-    ensures { (m : Meaning spec.Value) → MayAnswer m (answer_of operand.entry) → MayAnswer (meaning.on_one (λ v. is.False) m) (truth_answer_of result) }
+    ensures { (m : Meaning spec.Value) → MayAnswer m (answer_of operand.entry) →
+        MayAnswer (meaning.on_one (λ v. is.False) m) (truth_answer_of result) }
 {
     match operand {
         Ok(_) => Ok(Tri::False),

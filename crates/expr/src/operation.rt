@@ -17,7 +17,8 @@ use sqlvalue::{Num, Raise, Value, add, div, mul, sub};
 
 /// A value under a sign: minus, or else plus (ISO/IEC 9075:1992, 6.12).
 pub(crate) fn signed<'a>(minus: bool, operand: Result<Value<'a>, Raise>) -> Result<Value<'a>, Raise>
-    ensures { (m : Meaning spec.Value) → MayAnswer m (answer_of operand.entry) → MayAnswer (meaning.on_one (meaning.signed minus) m) (answer_of result) }
+    ensures { (m : Meaning spec.Value) → MayAnswer m (answer_of operand.entry) →
+        MayAnswer (meaning.on_one (meaning.signed minus) m) (answer_of result) }
 {
     match operand {
         Ok(Value::Num(number)) if minus => Ok(Value::Num(number.negated())),
@@ -33,7 +34,8 @@ pub(crate) fn operated<'a>(
     right: Result<Value<'a>, Raise>,
 ) -> Result<Value<'a>, Raise>
     requires { FitsBoth (operator_of operator) (answer_of left) (answer_of right) }
-    ensures { (m n : Meaning spec.Value) → MayAnswer m (answer_of left.entry) → MayAnswer n (answer_of right.entry) → MayAnswer (meaning.and_then_two (meaning.operation (operator_of operator)) m n) (answer_of result) }
+    ensures { (m n : Meaning spec.Value) → MayAnswer m (answer_of left.entry) → MayAnswer n (answer_of right.entry) →
+        MayAnswer (meaning.and_then_two (meaning.operation (operator_of operator)) m n) (answer_of result) }
 {
     match (left, right) {
         (Ok(Value::Num(a)), Ok(Value::Num(b))) => match calculated(operator, a, b) {
@@ -60,7 +62,8 @@ fn calculated(operator: Operator, a: Num, b: Num) -> Result<Num, Raise>
 /// A subquery as a value, by the first values of its rows: null of no row, an exception of more than one
 /// (ISO/IEC 9075:1992, 7.11).
 pub(crate) fn only_value<'a>(rows: Result<&'a [Value<'a>], Raise>) -> Result<Value<'a>, Raise>
-    ensures { (m : Meaning (List Row)) → MayAnswer (meaning.on_one meaning.column_values m) (values_answer_of rows.entry) → MayAnswer (meaning.and_then meaning.only_value m) (answer_of result) }
+    ensures { (m : Meaning (List Row)) → MayAnswer (meaning.on_one meaning.column_values m)
+        (values_answer_of rows.entry) → MayAnswer (meaning.and_then meaning.only_value m) (answer_of result) }
 {
     match rows {
         Ok([]) => Ok(Value::Null),

@@ -22,7 +22,8 @@ pub(crate) fn compared(
     left: Result<Value, Raise>,
     right: Result<Value, Raise>,
 ) -> Result<Tri, Raise>
-    ensures { (m n : Meaning spec.Value) → MayAnswer m (answer_of left.entry) → MayAnswer n (answer_of right.entry) → MayAnswer (meaning.on_two (truth.compared (op_of op)) m n) (truth_answer_of result) }
+    ensures { (m n : Meaning spec.Value) → MayAnswer m (answer_of left.entry) → MayAnswer n (answer_of right.entry) →
+        MayAnswer (meaning.on_two (truth.compared (op_of op)) m n) (truth_answer_of result) }
 {
     match (left, right) {
         (Ok(a), Ok(b)) => Ok(op.compared(&a, &b)),
@@ -32,7 +33,9 @@ pub(crate) fn compared(
 
 /// IS NULL (ISO/IEC 9075:1992, 8.6).
 pub(crate) fn is_null(negated: bool, operand: Result<Value, Raise>) -> Result<Tri, Raise>
-    ensures { (m : Meaning spec.Value) → MayAnswer m (answer_of operand.entry) → MayAnswer (meaning.on_one (λ v. truth.unless negated (truth.known (truth.is_null v))) m) (truth_answer_of result) }
+    ensures { (m : Meaning spec.Value) → MayAnswer m (answer_of operand.entry) →
+        MayAnswer (meaning.on_one (λ v. truth.unless negated (truth.known (truth.is_null v))) m)
+        (truth_answer_of result) }
 {
     match operand {
         Ok(Value::Null) => Ok(Tri::from(!negated)),
@@ -43,7 +46,8 @@ pub(crate) fn is_null(negated: bool, operand: Result<Value, Raise>) -> Result<Tr
 
 /// LIKE (ISO/IEC 9075:1992, 8.5).
 pub(crate) fn fits(operand: Result<Value, Raise>, pattern: &str) -> Result<Tri, Raise>
-    ensures { (m : Meaning spec.Value) → MayAnswer m (answer_of operand.entry) → MayAnswer (meaning.on_one (patterns.like pattern.now) m) (truth_answer_of result) }
+    ensures { (m : Meaning spec.Value) → MayAnswer m (answer_of operand.entry) →
+        MayAnswer (meaning.on_one (patterns.like pattern.now) m) (truth_answer_of result) }
 {
     match operand {
         Ok(Value::Text(text)) => Ok(Tri::from(like(text, pattern))),
@@ -54,7 +58,8 @@ pub(crate) fn fits(operand: Result<Value, Raise>, pattern: &str) -> Result<Tri, 
 
 /// A truth value behind NOT, where it is negated.
 pub(crate) fn unless(negated: bool, operand: Result<Tri, Raise>) -> Result<Tri, Raise>
-    ensures { (m : Meaning truth.Truth) → MayAnswer m (truth_answer_of operand) → MayAnswer (meaning.on_one (truth.unless negated) m) (truth_answer_of result) }
+    ensures { (m : Meaning truth.Truth) → MayAnswer m (truth_answer_of operand) →
+        MayAnswer (meaning.on_one (truth.unless negated) m) (truth_answer_of result) }
 {
     match operand {
         Ok(truth) if negated => Ok(truth.not()),
@@ -63,7 +68,8 @@ pub(crate) fn unless(negated: bool, operand: Result<Tri, Raise>) -> Result<Tri, 
 }
 
 pub(crate) fn opposite(operand: Result<Tri, Raise>) -> Result<Tri, Raise>
-    ensures { (m : Meaning truth.Truth) → MayAnswer m (truth_answer_of operand) → MayAnswer (meaning.on_one truth.opposite m) (truth_answer_of result) }
+    ensures { (m : Meaning truth.Truth) → MayAnswer m (truth_answer_of operand) →
+        MayAnswer (meaning.on_one truth.opposite m) (truth_answer_of result) }
 {
     match operand {
         Ok(truth) => Ok(truth.not()),
@@ -73,7 +79,8 @@ pub(crate) fn opposite(operand: Result<Tri, Raise>) -> Result<Tri, Raise>
 
 /// AND of two (ISO/IEC 9075:1992, 8.12).
 pub(crate) fn both(left: Result<Tri, Raise>, right: Result<Tri, Raise>) -> Result<Tri, Raise>
-    ensures { (m n : Meaning truth.Truth) → MayAnswer m (truth_answer_of left) → MayAnswer n (truth_answer_of right) → MayAnswer (meaning.on_two truth.and m n) (truth_answer_of result) }
+    ensures { (m n : Meaning truth.Truth) → MayAnswer m (truth_answer_of left) → MayAnswer n (truth_answer_of right) →
+        MayAnswer (meaning.on_two truth.and m n) (truth_answer_of result) }
 {
     match (left, right) {
         (Ok(a), Ok(b)) => Ok(a.and(b)),
@@ -83,7 +90,8 @@ pub(crate) fn both(left: Result<Tri, Raise>, right: Result<Tri, Raise>) -> Resul
 
 /// OR of two (ISO/IEC 9075:1992, 8.12).
 pub(crate) fn either(left: Result<Tri, Raise>, right: Result<Tri, Raise>) -> Result<Tri, Raise>
-    ensures { (m n : Meaning truth.Truth) → MayAnswer m (truth_answer_of left) → MayAnswer n (truth_answer_of right) → MayAnswer (meaning.on_two truth.or m n) (truth_answer_of result) }
+    ensures { (m n : Meaning truth.Truth) → MayAnswer m (truth_answer_of left) → MayAnswer n (truth_answer_of right) →
+        MayAnswer (meaning.on_two truth.or m n) (truth_answer_of result) }
 {
     match (left, right) {
         (Ok(a), Ok(b)) => Ok(a.or(b)),
@@ -93,7 +101,8 @@ pub(crate) fn either(left: Result<Tri, Raise>, right: Result<Tri, Raise>) -> Res
 
 /// EXISTS (ISO/IEC 9075:1992, 8.8).
 pub(crate) fn has_row(rows: Result<&[Value], Raise>) -> Result<Tri, Raise>
-    ensures { (m : Meaning (List Row)) → MayAnswer (meaning.on_one meaning.column_values m) (values_answer_of rows.entry) → MayAnswer (meaning.on_one truth.has_row m) (truth_answer_of result) }
+    ensures { (m : Meaning (List Row)) → MayAnswer (meaning.on_one meaning.column_values m)
+        (values_answer_of rows.entry) → MayAnswer (meaning.on_one truth.has_row m) (truth_answer_of result) }
 {
     match rows {
         Ok([]) => Ok(Tri::False),
@@ -109,7 +118,9 @@ pub(crate) fn quantified(
     operand: Result<Value, Raise>,
     rows: Result<&[Value], Raise>,
 ) -> Result<Tri, Raise>
-    ensures { (m : Meaning spec.Value) (n : Meaning (List spec.Value)) → MayAnswer m (answer_of operand.entry) → MayAnswer n (values_answer_of rows.entry) → MayAnswer (meaning.on_two (meaning.quantified (quantifier_of quantifier) (op_of op)) m n) (truth_answer_of result) }
+    ensures { (m : Meaning spec.Value) (n : Meaning (List spec.Value)) → MayAnswer m (answer_of operand.entry) →
+        MayAnswer n (values_answer_of rows.entry) → MayAnswer
+        (meaning.on_two (meaning.quantified (quantifier_of quantifier) (op_of op)) m n) (truth_answer_of result) }
 {
     match (operand, rows) {
         (Ok(value), Ok(values)) => Ok(match quantifier {

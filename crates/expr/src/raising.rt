@@ -136,7 +136,8 @@ fn type_size(sql_type: SqlType) -> Size
 
 /// The size of two operands with an operator between them, where that cannot raise.
 fn joined_size(operator: Operator, left: Option<Size>, right: Option<Size>) -> Option<Size>
-    ensures { option_map size_of result ≡ safe_joined (operator_of operator) (option_map size_of left) (option_map size_of right) }
+    ensures { option_map size_of result ≡ safe_joined (operator_of operator) (option_map size_of left)
+        (option_map size_of right) }
 {
     let (a, b) = (left?, right?);
     let (digits, scale) = match operator {

@@ -29,7 +29,8 @@ pub(crate) fn compared_in_short<'a, S: Environment>(
     right: &'a ValueExpr,
     env: &'a S,
 ) -> Option<Tri>
-    ensures { IfSome result (λ t. meaning.truth (S.environment env.now) (b.Compare (op_of op) (tree_of left.now) (tree_of right.now)) ≡ Is (truth_of t)) }
+    ensures { IfSome result (λ t. meaning.truth (S.environment env.now)
+        (b.Compare (op_of op) (tree_of left.now) (tree_of right.now)) ≡ Is (truth_of t)) }
 {
     shorts_compared(op, short_value(left, env)?, short_value(right, env)?)
 }
@@ -99,7 +100,8 @@ fn number(units: Option<i64>, scale: u8) -> Option<Short>
 
 /// Two operands with an operator between them: null where one is null (ISO/IEC 9075:1992, 6.12).
 fn joined(operator: Operator, left: Short, right: Short) -> Option<Short>
-    ensures { IfSome result (λ s. meaning.operation (operator_of operator) (short_of left) (short_of right) ≡ Is (short_of s)) }
+    ensures { IfSome result (λ s. meaning.operation (operator_of operator) (short_of left) (short_of right)
+        ≡ Is (short_of s)) }
 {
     match (left, right) {
         (Short::Number { units: a, scale: m }, Short::Number { units: b, scale: n }) =>

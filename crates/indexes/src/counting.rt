@@ -30,7 +30,8 @@ pub(crate) fn counted(
     requires filled { AreFilled rows columns.now }
     requires few { rows ≤ most_rows }
     requires run { IsRun (map (key_of numbers.now) (rows_of rows columns.now)) (run_of order.now).entries }
-    ensures { index_statistics_of result ≡ index_statistics (headers columns.now) (rows_of rows columns.now) numbers.now }
+    ensures { index_statistics_of result ≡ index_statistics (headers columns.now) (rows_of rows columns.now)
+        numbers.now }
 {
     IndexStatistics {
         keys: order.key_count() as u64,

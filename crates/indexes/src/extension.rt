@@ -49,7 +49,8 @@ pub fn extended(
     requires filled { AreFilled rows columns.now }
     requires few { rows ≤ most_rows }
     requires beginnings { AllByRecursion (IsBeginningOf (length columns.now) (rows_of rows columns.now)) indexes.now }
-    ensures ok { IfOk result (λ made. AreExtended (headers columns.now) (rows_of rows columns.now) indexes.now made.items) }
+    ensures ok { IfOk result (λ made. AreExtended (headers columns.now) (rows_of rows columns.now) indexes.now
+        made.items) }
     ensures refused { IfErr result (RefusesExtension indexes.now (rows_of rows columns.now)) }
 {
     let mut made = Vec::new(alloc);

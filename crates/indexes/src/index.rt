@@ -87,8 +87,10 @@ impl Index {
         requires filled { AreFilled rows columns.now }
         requires few { rows ≤ most_rows }
         requires beginning { IsBeginning (rows_of rows columns.now) self.now }
-        ensures ok { IfOk result (IsIndexOn (headers columns.now) (rows_of rows columns.now) self.now.index.columns self.now.index.unique) }
-        ensures refused { IfErr result (RefusesIndexOn (rows_of rows columns.now) self.now.index.columns self.now.index.unique) }
+        ensures ok { IfOk result (IsIndexOn (headers columns.now) (rows_of rows columns.now) self.now.index.columns
+            self.now.index.unique) }
+        ensures refused { IfErr result (RefusesIndexOn (rows_of rows columns.now) self.now.index.columns
+            self.now.index.unique) }
     {
         let keys = match key_columns(alloc, columns, self.columns.as_slice()) {
             Ok(keys) => keys,

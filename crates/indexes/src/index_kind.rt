@@ -52,7 +52,8 @@ impl IndexKind {
     pub(crate) fn extended(&self, alloc: Global, keys: &[&Column]) -> Result<IndexKind, UniqueFault>
         requires table { AreOfHeight (height (columns_of keys.now)) (columns_of keys.now) }
         requires few { height (columns_of keys.now) < 2 ^ 32 }
-        requires beginning { IsRun (take (length (run_of self.now).entries) (keys_in (columns_of keys.now))) (run_of self.now).entries }
+        requires beginning { IsRun (take (length (run_of self.now).entries) (keys_in (columns_of keys.now)))
+            (run_of self.now).entries }
         ensures ok { IfOk result (IsOrderOf (columns_of keys.now) (is_unique self.now)) }
         ensures refused { IfErr result (RefusesOrder (columns_of keys.now) (is_unique self.now)) }
     {
@@ -107,7 +108,8 @@ impl IndexKind {
 
     pub(crate) fn range(&self, values: &[Value], low: Bound<Value>, high: Bound<Value>) -> &[u32]
         requires { length values.now < length (run_of self.now).types }
-        ensures { result.now ≡ rows_of (range_part (map value_of values.now) (limit_of low.entry) (limit_of high.entry) (run_of self.now).entries) }
+        ensures { result.now ≡ rows_of (range_part (map value_of values.now) (limit_of low.entry)
+            (limit_of high.entry) (run_of self.now).entries) }
     {
         match self {
             IndexKind::Sorted(index) => index.range(values, low, high),

@@ -53,7 +53,10 @@ impl KeyColumn {
         column: &Column,
         rows: &[u32],
     ) -> Result<KeyColumn, AllocError>
-        ensures { IfOk result (λ keys. keys ≡ record (cells_of column.now) { values = map (value_in (cells_of column.now)) rows.now }) }
+        ensures { IfOk result (λ keys. keys ≡ record (cells_of column.now) {
+          values = map
+              (value_in (cells_of column.now)) rows.now;
+        }) }
     {
         let values = every(alloc, column, rows, 1)?;
         let heads = every(alloc, column, rows, PAGE)?;
@@ -79,7 +82,10 @@ impl KeyColumn {
         requires inside { within.to ≤ length self.now.values }
         requires ordered { AreInOrder self.now within }
         ensures inside { IsWithin result within }
-        ensures exact { (place : ℕ) → within.from ≤ place → place < within.to → is_within result place ≡ (not (is_null (value_in self.now place)) && is_from (limit_of low.entry) (value_in self.now place) && is_up_to (limit_of high.entry) (value_in self.now place)) }
+        ensures exact { (place : ℕ) → within.from ≤ place → place < within.to →
+            is_within result place ≡ (not (is_null (value_in self.now place)) &&
+            is_from (limit_of low.entry) (value_in self.now place) &&
+            is_up_to (limit_of high.entry) (value_in self.now place)) }
     {
         let Some(start) = self.values.start(low) else {
             return Stretch {
@@ -157,7 +163,12 @@ fn turned<'a>(bound: Bound<Value<'a>>) -> Bound<Value<'a>>
 fn every(alloc: Global, column: &Column, rows: &[u32], step: usize) -> Result<Column, AllocError>
     requires { 0 < step }
     ensures held { IfOk result (λ taken. AllByRecursion (IsHeld (cells_of taken).type) (cells_of taken).values) }
-    ensures values { IfOk result (λ taken. cells_of taken ≡ record (cells_of column.now) { values = map (λ place. value_in (cells_of column.now) (slice_index_or rows.now (place * step) 0)) (range_with_len 0 (div_ceil (length rows.now) step)) }) }
+    ensures values { IfOk result (λ taken. cells_of taken
+        ≡ record (cells_of column.now) {
+          values = map (λ place.
+              value_in (cells_of column.now) (slice_index_or rows.now (place * step) 0))
+              (range_with_len 0 (div_ceil (length rows.now) step));
+        }) }
 {
     let mut taken = Column::like(alloc, column);
     for place in 0..rows.len().div_ceil(step) {

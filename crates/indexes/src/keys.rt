@@ -11,7 +11,8 @@ use std::cmp::Ordering;
 /// How two rows of a table stand in an index of some of its columns: as their keys rank, and else by their numbers
 /// (own).
 pub(crate) fn order_of_rows(keys: &[&Column], a: u32, b: u32) -> Ordering
-    ensures { result ≡ ordering_then (key_rank (key_in (columns_of keys.now) a) (key_in (columns_of keys.now) b)) (nat_cmp a b) }
+    ensures { result ≡ ordering_then (key_rank (key_in (columns_of keys.now) a) (key_in (columns_of keys.now) b))
+        (nat_cmp a b) }
 {
     rank_of_keys(keys, a, b).then(a.cmp(&b))
 }

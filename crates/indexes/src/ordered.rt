@@ -31,5 +31,6 @@ pub trait OrderedIndex {
     /// another (ISO/IEC 9075:1992, 8.2): none, where one of the values or bounds is null.
     fn range(&self, values: &[Value], low: Bound<Value>, high: Bound<Value>) -> &[u32]
         requires { length values.now < width self.now }
-        ensures { result.now ≡ rows_of (range_part (map value_of values.now) (limit_of low.entry) (limit_of high.entry) (entries self.now)) };
+        ensures { result.now ≡ rows_of (range_part (map value_of values.now) (limit_of low.entry)
+            (limit_of high.entry) (entries self.now)) };
 }

@@ -80,7 +80,8 @@ impl KeyRun {
     /// (ISO/IEC 9075:1992, 8.2).
     pub(crate) fn range(&self, values: &[Value], low: Bound<Value>, high: Bound<Value>) -> &[u32]
         requires { length values.now < length self.now.types }
-        ensures { result.now ≡ rows_of (range_part (map value_of values.now) (limit_of low.entry) (limit_of high.entry) self.now.entries) }
+        ensures { result.now ≡ rows_of (range_part (map value_of values.now) (limit_of low.entry)
+            (limit_of high.entry) self.now.entries) }
     {
         let beginning = self.stretch(values);
         self.part(self.columns[values.len()].range(low, high, beginning))

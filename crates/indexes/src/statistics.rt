@@ -25,7 +25,11 @@ impl TableStatistics {
         requires narrow { length columns.now ≤ most_columns }
         requires types { AllByRecursion (λ (c : spec.Column). IsType c.type) (headers columns.now) }
         requires few { rows ≤ most_rows }
-        ensures { table_statistics_of result ≡ record { rows = rows; pages = pages_for rows (row_width (headers columns.now)) } }
+        ensures { table_statistics_of result ≡ record {
+          rows = rows;
+          pages = pages_for rows
+              (row_width (headers columns.now));
+        } }
     {
         TableStatistics {
             rows: rows as u64,

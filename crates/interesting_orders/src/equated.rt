@@ -51,7 +51,8 @@ impl EquatedColumns {
     ) -> Result<EquatedColumns, AllocError>
         requires tables { tables ≤ most_from_tables }
         ensures sets { IfOk result (λ e. sets_under e ≡ 2 ^ tables) }
-        ensures exact { (space : Space) → space.conjuncts ≡ map conjunct_of conjuncts.now → IfOk result (AreEquated space) }
+        ensures exact { (space : Space) → space.conjuncts ≡ map conjunct_of conjuncts.now →
+            IfOk result (AreEquated space) }
     {
         let columns = equated_columns(alloc, conjuncts)?;
         let equations = equations_of(alloc, &columns, conjuncts)?;
@@ -77,7 +78,8 @@ impl EquatedColumns {
         requires set { set_of tables < sets_under self.now }
         requires a { a < places_in self.now }
         requires b { b < places_in self.now }
-        ensures { (space : Space) → AreEquated space self.now → Decides result (SameClass space (set_of tables) (column_in self.now a) (column_in self.now b)) }
+        ensures { (space : Space) → AreEquated space self.now →
+            Decides result (SameClass space (set_of tables) (column_in self.now a) (column_in self.now b)) }
     {
         self.classes.are_equal(tables, a, b)
     }
@@ -85,7 +87,8 @@ impl EquatedColumns {
     /// Whether two columns are of one class under a set of tables.
     fn are_equal(&self, tables: TableSet, a: BlockColumn, b: BlockColumn) -> bool
         requires set { set_of tables < sets_under self.now }
-        ensures { (space : Space) → AreEquated space self.now → Decides result (SameClass space (set_of tables) (column_of a) (column_of b)) }
+        ensures { (space : Space) → AreEquated space self.now →
+            Decides result (SameClass space (set_of tables) (column_of a) (column_of b)) }
     {
         if are_equal(a, b) {
             return true;
@@ -99,7 +102,8 @@ impl EquatedColumns {
     /// Whether rows in one order are in another, too, on all rows of plans on a set of tables.
     pub fn satisfies(&self, tables: TableSet, order: &[SortKey], wanted: &[SortKey]) -> bool
         requires set { set_of tables < sets_under self.now }
-        ensures { (space : Space) → AreEquated space self.now → Decides result (Satisfies space (set_of tables) (order_of order.now) (order_of wanted.now)) }
+        ensures { (space : Space) → AreEquated space self.now →
+            Decides result (Satisfies space (set_of tables) (order_of order.now) (order_of wanted.now)) }
     {
         if order.len() < wanted.len() {
             return false;
@@ -115,7 +119,9 @@ impl EquatedColumns {
     /// Whether one key serves for another.
     fn serves(&self, tables: TableSet, key: SortKey, wanted: SortKey) -> bool
         requires set { set_of tables < sets_under self.now }
-        ensures { (space : Space) → AreEquated space self.now → Decides result (((key_of key).descending ≡ (key_of wanted).descending) × SameClass space (set_of tables) (key_of key).column (key_of wanted).column) }
+        ensures { (space : Space) → AreEquated space self.now →
+            Decides result (((key_of key).descending ≡ (key_of wanted).descending) ×
+            SameClass space (set_of tables) (key_of key).column (key_of wanted).column) }
     {
         key.descending == wanted.descending && self.are_equal(tables, key.column, wanted.column)
     }
@@ -165,7 +171,8 @@ impl EquatedColumns {
     pub fn partners(&self, tables: TableSet, lead: usize) -> Option<TableSet>
         requires set { set_of tables < sets_under self.now }
         requires within { lead < places_in self.now }
-        ensures { (space : Space) → AreEquated space self.now → AreThose (IsOpened space (set_of tables) (column_in self.now lead)) (option_map set_of result) }
+        ensures { (space : Space) → AreEquated space self.now →
+            AreThose (IsOpened space (set_of tables) (column_in self.now lead)) (option_map set_of result) }
     {
         let mut partners = Some(TableSet::none());
         'equations: for equation in &self.equations {
@@ -190,7 +197,9 @@ impl EquatedColumns {
         requires lead { lead < places_in self.now }
         requires from { from < places_in self.now }
         requires to { to < places_in self.now }
-        ensures { (space : Space) → AreEquated space self.now → IsWithSide space (set_of tables) (column_in self.now lead) (column_in self.now from) (column_in self.now to) (option_map set_of partners) (option_map set_of result) }
+        ensures { (space : Space) → AreEquated space self.now →
+            IsWithSide space (set_of tables) (column_in self.now lead) (column_in self.now from)
+            (column_in self.now to) (option_map set_of partners) (option_map set_of result) }
     {
         if self.table(from) != self.table(to) && self.are_joined(tables, lead, from) {
             with_table(partners, self.table(to))

@@ -34,7 +34,8 @@ pub(crate) fn label(
     requires paired { length labels.old ≡ length columns.now }
     requires between { All (IsBetween (length columns.now)) equations.now }
     ensures len { length labels.new ≡ length labels.old }
-    ensures sound { (space : Space) → All (Holds space (map column_of columns.now)) equations.now → AreSound space (set_of tables) (map column_of columns.now) labels.new }
+    ensures sound { (space : Space) → All (Holds space (map column_of columns.now)) equations.now →
+        AreSound space (set_of tables) (map column_of columns.now) labels.new }
     ensures joined { All (Joins (set_of tables) (map column_of columns.now) labels.new) equations.now }
 {
     separate(labels);
@@ -49,7 +50,8 @@ pub(crate) fn label(
 /// Whether the tables of both columns of an equation are in a set.
 fn has_both(tables: TableSet, columns: &[BlockColumn], equation: Equality) -> bool
     requires { IsBetween (length columns.now) equation }
-    ensures { Decides result (Has (set_of tables) (column_at (map column_of columns.now) equation.left).table × Has (set_of tables) (column_at (map column_of columns.now) equation.right).table) }
+    ensures { Decides result (Has (set_of tables) (column_at (map column_of columns.now) equation.left).table ×
+        Has (set_of tables) (column_at (map column_of columns.now) equation.right).table) }
 {
     tables.has(columns[equation.left].table) && tables.has(columns[equation.right].table)
 }
@@ -80,7 +82,8 @@ impl EquivalenceClasses {
         requires between { All (IsBetween (length columns.now)) equations.now }
         ensures columns { IfOk result (λ c. columns_in c ≡ length columns.now) }
         ensures sets { IfOk result (λ c. sets_in c ≡ 2 ^ tables) }
-        ensures classes { (space : Space) → AreEquations space (map column_of columns.now) equations.now → IfOk result (AreClasses space (map column_of columns.now)) }
+        ensures classes { (space : Space) → AreEquations space (map column_of columns.now) equations.now →
+            IfOk result (AreClasses space (map column_of columns.now)) }
     {
         let mut row = vec![in alloc; 0; columns.len()]?;
         let mut labels = Vec::new(alloc);
@@ -101,7 +104,9 @@ impl EquivalenceClasses {
         requires set { set_of tables < sets_in self.now }
         requires a { a < columns_in self.now }
         requires b { b < columns_in self.now }
-        ensures { (space : Space) (columns : List o.BlockColumn) → length columns ≡ columns_in self.now → AreClasses space columns self.now → Decides result (SameClass space (set_of tables) (column_at columns a) (column_at columns b)) }
+        ensures { (space : Space) (columns : List o.BlockColumn) → length columns ≡ columns_in self.now →
+            AreClasses space columns self.now → Decides result
+            (SameClass space (set_of tables) (column_at columns a) (column_at columns b)) }
     {
         let row = tables.place() * self.columns;
         self.labels[row + a] == self.labels[row + b]

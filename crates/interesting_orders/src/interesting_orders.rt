@@ -47,7 +47,9 @@ impl InterestingOrders {
     ) -> Result<InterestingOrders, AllocError>
         requires tables { tables ≤ most_from_tables }
         ensures sets { IfOk result (λ u. sets_in u ≡ 2 ^ tables) }
-        ensures exact { (space : Space) → space.table_count ≡ tables → space.conjuncts ≡ map conjunct_of conjuncts.now → space.orders ≡ orders_in orders.now → space.required ≡ order_of required.now → IfOk result (AreUses space) }
+        ensures exact { (space : Space) → space.table_count ≡ tables →
+            space.conjuncts ≡ map conjunct_of conjuncts.now → space.orders ≡ orders_in orders.now →
+            space.required ≡ order_of required.now → IfOk result (AreUses space) }
     {
         let equated = EquatedColumns::new(alloc, conjuncts, tables)?;
         let orders = order_uses(alloc, &equated, orders, required, TableSet::first(tables))?;
@@ -61,7 +63,8 @@ impl InterestingOrders {
     /// What the order of a number serves for; one that has no number is empty.
     fn at(&self, order: usize) -> OrderUse
         ensures within { IsWithin (places_in self.now.equated) result.lead }
-        ensures exact { (space : Space) → AreUses space self.now → IsUse space self.now.equated (order_at space order) result }
+        ensures exact { (space : Space) → AreUses space self.now →
+            IsUse space self.now.equated (order_at space order) result }
     {
         match self.orders.get(order) {
             Some(found) => *found,
@@ -76,7 +79,8 @@ impl InterestingOrders {
 
     /// Whether rows of all tables in an order are in the one that the block asks for. This and the calls below take constant time.
     pub fn gives_required(&self, order: usize) -> bool
-        ensures { (space : Space) → AreUses space self.now → Decides result (Satisfies space (whole space) (order_at space order) space.required) }
+        ensures { (space : Space) → AreUses space self.now →
+            Decides result (Satisfies space (whole space) (order_at space order) space.required) }
     {
         self.at(order).gives_required
     }
@@ -95,14 +99,17 @@ impl InterestingOrders {
 
     /// Whether an order is asked for and rows of all tables in this one are in it.
     fn gives_asked(&self, order: usize) -> bool
-        ensures { (space : Space) → AreUses space self.now → Decides result ((space.required ≢ []) × Satisfies space (whole space) (order_at space order) space.required) }
+        ensures { (space : Space) → AreUses space self.now →
+            Decides result ((space.required ≢ []) × Satisfies space (whole space) (order_at space order)
+            space.required) }
     {
         self.asked && self.at(order).gives_required
     }
 
     /// Whether a merge that is still to come may go by an order.
     fn opens_merge(&self, tables: TableSet, order: usize) -> bool
-        ensures { (space : Space) → AreUses space self.now → Decides result (OpensMerge space (set_of tables) (order_at space order)) }
+        ensures { (space : Space) → AreUses space self.now →
+            Decides result (OpensMerge space (set_of tables) (order_at space order)) }
     {
         !are_within(self.at(order).partners, tables)
     }
@@ -134,7 +141,8 @@ impl InterestingOrders {
     /// Whether rows of plans on a set of tables in one order are in another, too. It goes through the keys.
     pub fn satisfies(&self, tables: TableSet, order: &[SortKey], wanted: &[SortKey]) -> bool
         requires set { set_of tables < sets_in self.now }
-        ensures { (space : Space) → AreUses space self.now → Decides result (Satisfies space (set_of tables) (order_of order.now) (order_of wanted.now)) }
+        ensures { (space : Space) → AreUses space self.now →
+            Decides result (Satisfies space (set_of tables) (order_of order.now) (order_of wanted.now)) }
     {
         self.equated.satisfies(tables, order, wanted)
     }
@@ -142,7 +150,8 @@ impl InterestingOrders {
     /// Whether an order of a set of tables goes by the set's column of a merge conjunct, by which a table comes next.
     pub fn goes_by(&self, tables: TableSet, order: usize, conjunct: usize, table: usize) -> bool
         requires set { set_of tables < sets_in self.now }
-        ensures { (space : Space) → AreUses space self.now → Decides result (GoesBy space (set_of tables) order conjunct table) }
+        ensures { (space : Space) → AreUses space self.now →
+            Decides result (GoesBy space (set_of tables) order conjunct table) }
     {
         let Some(lead) = self.at(order).lead else {
             return false;

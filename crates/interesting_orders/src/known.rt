@@ -19,7 +19,8 @@ pub fn known_indexes(
     table: &Table,
 ) -> Result<Vec<usize>, AllocError>
     ensures exact { IfOk result (λ numbers. numbers.items ≡ spec.known_indexes (version_of version) table.now) }
-    ensures there { IfOk result (λ numbers. AllByRecursion (λ number. number < length table.now.indexes) numbers.items) }
+    ensures there { IfOk result (λ numbers. AllByRecursion (λ number. number
+        < length table.now.indexes) numbers.items) }
 {
     match version {
         Version::One => column_indexes(alloc, table),
@@ -30,7 +31,8 @@ pub fn known_indexes(
 /// The numbers of all indexes.
 fn all_indexes(alloc: Global, table: &Table) -> Result<Vec<usize>, AllocError>
     ensures exact { IfOk result (λ numbers. numbers.items ≡ range_with_len 0 (length table.now.indexes)) }
-    ensures there { IfOk result (λ numbers. AllByRecursion (λ number. number < length table.now.indexes) numbers.items) }
+    ensures there { IfOk result (λ numbers. AllByRecursion (λ number. number
+        < length table.now.indexes) numbers.items) }
 {
     let mut numbers = Vec::new(alloc);
     'indexes: for number in 0..table.index_count() {
@@ -41,8 +43,10 @@ fn all_indexes(alloc: Global, table: &Table) -> Result<Vec<usize>, AllocError>
 
 /// The numbers of the indexes on one column, in the order of the columns.
 fn column_indexes(alloc: Global, table: &Table) -> Result<Vec<usize>, AllocError>
-    ensures exact { IfOk result (λ numbers. numbers.items ≡ filter_map (index_on_column table.now) (range_with_len 0 (length table.now.columns))) }
-    ensures there { IfOk result (λ numbers. AllByRecursion (λ number. number < length table.now.indexes) numbers.items) }
+    ensures exact { IfOk result (λ numbers. numbers.items
+        ≡ filter_map (index_on_column table.now) (range_with_len 0 (length table.now.columns))) }
+    ensures there { IfOk result (λ numbers. AllByRecursion (λ number. number
+        < length table.now.indexes) numbers.items) }
 {
     let mut numbers = Vec::new(alloc);
     'columns: for column in 0..table.width() {

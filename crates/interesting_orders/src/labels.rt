@@ -16,7 +16,8 @@ pub(crate) fn separate(labels: &mut [usize])
 /// Gives the places that have one label another.
 pub(crate) fn relabel(labels: &mut [usize], from: usize, to: usize)
     ensures len { length labels.new ≡ length labels.old }
-    ensures merged { (i : ℕ) → i < length labels.old → slice_index_or labels.new i 0 ≡ merged from to (slice_index_or labels.old i 0) }
+    ensures merged { (i : ℕ) → i < length labels.old →
+        slice_index_or labels.new i 0 ≡ merged from to (slice_index_or labels.old i 0) }
 {
     'places: for i in 0..labels.len() {
         if labels[i] == from {

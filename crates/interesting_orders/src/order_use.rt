@@ -37,7 +37,8 @@ pub(crate) fn order_uses(
 ) -> Result<Vec<OrderUse>, AllocError>
     requires set { set_of whole < sets_under equated.now }
     ensures within { IfOk result (λ uses. All (λ (u : OrderUse). IsWithin (places_in equated.now) u.lead) uses.items) }
-    ensures exact { IfOk result (λ uses. AreUsesOf equated.now (set_of whole) (order_of required.now) (orders_in orders.now) uses.items) }
+    ensures exact { IfOk result (λ uses. AreUsesOf equated.now (set_of whole) (order_of required.now)
+        (orders_in orders.now) uses.items) }
 {
     let mut uses = Vec::new(alloc);
     'orders: for order in orders {
@@ -70,7 +71,8 @@ fn order_use(
 fn partners(equated: &EquatedColumns, whole: TableSet, lead: Option<usize>) -> Option<TableSet>
     requires set { set_of whole < sets_under equated.now }
     requires within { IsWithin (places_in equated.now) lead }
-    ensures { (space : Space) → AreEquated space equated.now → AreThose (IsReached space equated.now (set_of whole) lead) (option_map set_of result) }
+    ensures { (space : Space) → AreEquated space equated.now →
+        AreThose (IsReached space equated.now (set_of whole) lead) (option_map set_of result) }
 {
     match lead {
         Some(lead) => equated.partners(whole, lead),

@@ -90,7 +90,8 @@ pub(crate) fn equations_of(
     columns: &[BlockColumn],
     conjuncts: &[PlanConjunct],
 ) -> Result<Vec<Option<Equality>>, AllocError>
-    ensures { IfOk result (λ equations. AreStated (map column_of columns.now) (map conjunct_of conjuncts.now) equations.items) }
+    ensures { IfOk result (λ equations. AreStated (map column_of columns.now) (map conjunct_of conjuncts.now)
+        equations.items) }
 {
     let mut equations = Vec::new(alloc);
     'conjuncts: for conjunct in conjuncts {

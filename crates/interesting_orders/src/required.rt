@@ -48,7 +48,8 @@ fn group_order(alloc: Global, columns: &[BlockColumn]) -> Result<Vec<SortKey>, A
 
 /// The order of keys of ORDER BY, if they are all columns, else none.
 fn item_order(alloc: Global, items: &[Item], order: &[Key]) -> Result<Vec<SortKey>, AllocError>
-    ensures { IfOk result (λ keys. order_of keys.items ≡ order_by (map bound.item_of items.now) (map bound.key_of order.now)) }
+    ensures { IfOk result (λ keys. order_of keys.items
+        ≡ order_by (map bound.item_of items.now) (map bound.key_of order.now)) }
 {
     let mut keys = Vec::new(alloc);
     'keys: for key in order {

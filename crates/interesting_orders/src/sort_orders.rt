@@ -50,7 +50,8 @@ impl SortOrders {
         required: &[SortKey],
     ) -> Result<SortOrders, AllocError>
         requires required { order_of required.now ≡ spec.required_of (block_of estimate.now.block) }
-        ensures { IfOk result (λ orders. orders ≡ spec.orders_of (version_of version) estimate.now.database (block_of estimate.now.block)) }
+        ensures { IfOk result (λ orders. orders ≡ spec.orders_of (version_of version) estimate.now.database
+            (block_of estimate.now.block)) }
     {
         let mut orders = SortOrders {
             orders: Vec::new(alloc),
@@ -90,8 +91,10 @@ impl SortOrders {
         backward: bool,
     ) -> usize
         requires table { table < length (block_of estimate.now.block).tables }
-        requires index { IfSome (table_at estimate.now.database (block_of estimate.now.block) table) (λ (t : tables.Table). index < length t.indexes) }
-        ensures { result ≡ numbering.number_of self.now (spec.index_order estimate.now.database (block_of estimate.now.block) table index backward) }
+        requires index { IfSome (table_at estimate.now.database (block_of estimate.now.block) table)
+            (λ (t : tables.Table). index < length t.indexes) }
+        ensures { result ≡ numbering.number_of self.now
+            (spec.index_order estimate.now.database (block_of estimate.now.block) table index backward) }
     {
         let columns = estimate.table(table).index(index).columns();
         'orders: for number in 0..self.orders.len() {
@@ -114,7 +117,8 @@ impl SortOrders {
 
     /// Adds the orders of merge conjuncts: each of the two columns, ascending.
     fn add_merges(&mut self, alloc: Global, conjuncts: &[PlanConjunct]) -> Result<(), AllocError>
-        ensures { OnOk result (self.new ≡ fold added self.old (numbering.merge_orders (map conjunct_of conjuncts.now))) }
+        ensures { OnOk result (self.new ≡ fold added self.old
+            (numbering.merge_orders (map conjunct_of conjuncts.now))) }
     {
         'conjuncts: for conjunct in conjuncts {
             if let Some((x, y)) = merge_columns(conjunct) {
@@ -132,7 +136,8 @@ impl SortOrders {
         estimate: &Estimate,
         version: Version,
     ) -> Result<(), AllocError>
-        ensures { OnOk result (self.new ≡ fold added self.old (spec.index_orders (version_of version) estimate.now.database (block_of estimate.now.block))) }
+        ensures { OnOk result (self.new ≡ fold added self.old
+            (spec.index_orders (version_of version) estimate.now.database (block_of estimate.now.block))) }
     {
         'tables: for table in 0..estimate.table_count() {
             self.add_table(alloc, version, table, estimate.table(table))?;
@@ -165,7 +170,8 @@ impl SortOrders {
         table: usize,
         columns: &[usize],
     ) -> Result<(), AllocError>
-        ensures { OnOk result (self.new ≡ fold added self.old (map (index_keys table columns.now) (directions (version_of version)))) }
+        ensures { OnOk result (self.new ≡ fold added self.old
+            (map (index_keys table columns.now) (directions (version_of version)))) }
     {
         self.add(index_order(alloc, table, columns, false)?)?;
         if version.reads_backward() {
@@ -215,7 +221,8 @@ fn is_same(a: SortKey, b: SortKey) -> bool
 
 /// The columns of a merge conjunct: it is early, and they are of two tables.
 fn merge_columns(conjunct: &PlanConjunct) -> Option<(BlockColumn, BlockColumn)>
-    ensures { column_orders result ≡ (if conjunct.now.early then numbering.side_orders (conjunct_of conjunct.now).equated else []) }
+    ensures { column_orders result ≡ (if conjunct.now.early then numbering.side_orders
+        (conjunct_of conjunct.now).equated else []) }
 {
     match conjunct.equated {
         Some((x, y)) if conjunct.early && x.table != y.table => Some((x, y)),

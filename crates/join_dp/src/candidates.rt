@@ -34,7 +34,8 @@ fn add_accesses<'a>(space: &'a Space<'_>, table: usize, row: &mut SetCandidates<
     requires few { (space_in space.now).table_count ≤ most_from_tables }
     requires table { table < (space_in space.now).table_count }
     requires size { length row.old.found ≡ length (space_in space.now).orders }
-    ensures made { (states : List solving.Solved) → AreUnsorted (space_in space.now) states (only table) row.old.found → AreUnsorted (space_in space.now) states (only table) row.new.found }
+    ensures made { (states : List solving.Solved) → AreUnsorted (space_in space.now) states (only table) row.old.found
+        → AreUnsorted (space_in space.now) states (only table) row.new.found }
     ensures below { Below row.new.found row.old.found }
     ensures low { LowByAccesses (space_in space.now) table row.new.found }
     ensures steps { row.new.steps ≤ row.old.steps + length ((space_in space.now).paths no_tables table) }
@@ -53,7 +54,8 @@ fn add_accesses<'a>(space: &'a Space<'_>, table: usize, row: &mut SetCandidates<
 /// Whether plans of an order allow a join.
 fn goes_with<'a>(space: &'a Space<'_>, added: AddedJoin<'a>, order: usize) -> bool
     requires set { set_of added.tables < 2 ^ (space_in space.now).table_count }
-    ensures { Decides result (GoesWith (space_in space.now) (set_of added.entry.tables) order added.entry.table (join_of added.entry.join)) }
+    ensures { Decides result (GoesWith (space_in space.now) (set_of added.entry.tables) order added.entry.table
+        (join_of added.entry.join)) }
 {
     match added.join {
         Join::Loop { .. } => true,
@@ -75,10 +77,13 @@ fn add_join_on<'a>(
     requires from { from < length (states_in states.now) }
     requires on { (at (states_in states.now) from).tables ≡ set_of added.tables }
     requires added { IsAdded (space_in space.now) (set_of added.tables) added.table (join_of added.join) added.cost }
-    requires made { AreUnsorted (space_in space.now) (states_in states.now) (with_table (set_of added.tables) added.table) row.old.found }
-    ensures made { AreUnsorted (space_in space.now) (states_in states.now) (with_table (set_of added.entry.tables) added.entry.table) row.new.found }
+    requires made { AreUnsorted (space_in space.now) (states_in states.now)
+        (with_table (set_of added.tables) added.table) row.old.found }
+    ensures made { AreUnsorted (space_in space.now) (states_in states.now)
+        (with_table (set_of added.entry.tables) added.entry.table) row.new.found }
     ensures below { Below row.new.found row.old.found }
-    ensures low { LowByJoinOn (space_in space.now) (states_in states.now) (set_of added.entry.tables) added.entry.table (join_of added.entry.join) from row.new.found }
+    ensures low { LowByJoinOn (space_in space.now) (states_in states.now) (set_of added.entry.tables)
+        added.entry.table (join_of added.entry.join) from row.new.found }
     ensures steps { row.new.steps ≤ row.old.steps + 1 }
 {
     let state = states.at(from);
@@ -111,10 +116,13 @@ fn add_join<'a>(
     requires few_states { AreFew (length (space_in space.now).orders) (starts_in states.now) }
     requires known { set_of added.tables + 1 < length (starts_in states.now) }
     requires added { IsAdded (space_in space.now) (set_of added.tables) added.table (join_of added.join) added.cost }
-    requires made { AreUnsorted (space_in space.now) (states_in states.now) (with_table (set_of added.tables) added.table) row.old.found }
-    ensures made { AreUnsorted (space_in space.now) (states_in states.now) (with_table (set_of added.entry.tables) added.entry.table) row.new.found }
+    requires made { AreUnsorted (space_in space.now) (states_in states.now)
+        (with_table (set_of added.tables) added.table) row.old.found }
+    ensures made { AreUnsorted (space_in space.now) (states_in states.now)
+        (with_table (set_of added.entry.tables) added.entry.table) row.new.found }
     ensures below { Below row.new.found row.old.found }
-    ensures low { LowByJoin (space_in space.now) (states_in states.now) (set_of added.entry.tables) added.entry.table (join_of added.entry.join) row.new.found }
+    ensures low { LowByJoin (space_in space.now) (states_in states.now) (set_of added.entry.tables) added.entry.table
+        (join_of added.entry.join) row.new.found }
     ensures steps { row.new.steps ≤ row.old.steps + length (space_in space.now).orders }
 {
     let places = states.places(added.tables);
@@ -139,12 +147,16 @@ fn add_loop<'a>(
     requires few_states { AreFew (length (space_in space.now).orders) (starts_in states.now) }
     requires known { set_of tables + 1 < length (starts_in states.now) }
     requires follows { MayFollow (space_in space.now) (set_of tables) table }
-    requires made { AreUnsorted (space_in space.now) (states_in states.now) (with_table (set_of tables) table) row.old.found }
-    ensures made { AreUnsorted (space_in space.now) (states_in states.now) (with_table (set_of tables) table) row.new.found }
+    requires made { AreUnsorted (space_in space.now) (states_in states.now) (with_table (set_of tables) table)
+        row.old.found }
+    ensures made { AreUnsorted (space_in space.now) (states_in states.now) (with_table (set_of tables) table)
+        row.new.found }
     ensures below { Below row.new.found row.old.found }
-    ensures least { (path : Path) → IsJoin (space_in space.now) (set_of tables) table (steps.Loop path) → result ≤ join_cost (space_in space.now) (set_of tables) (steps.Loop path) }
+    ensures least { (path : Path) → IsJoin (space_in space.now) (set_of tables) table (steps.Loop path) →
+        result ≤ join_cost (space_in space.now) (set_of tables) (steps.Loop path) }
     ensures low { LowByDearer (space_in space.now) (states_in states.now) (set_of tables) table result row.new.found }
-    ensures steps { row.new.steps ≤ row.old.steps + length (space_in space.now).orders * length ((space_in space.now).paths (set_of tables) table) }
+    ensures steps { row.new.steps ≤ row.old.steps + length (space_in space.now).orders * length
+        ((space_in space.now).paths (set_of tables) table) }
 {
     let Some(item) = cheapest_path(space, tables, table) else {
         return u64::MAX;
@@ -176,11 +188,15 @@ fn add_cheaper_join<'a>(
     requires few_states { AreFew (length (space_in space.now).orders) (starts_in states.now) }
     requires known { set_of added.tables + 1 < length (starts_in states.now) }
     requires added { IsAdded (space_in space.now) (set_of added.tables) added.table (join_of added.join) added.cost }
-    requires made { AreUnsorted (space_in space.now) (states_in states.now) (with_table (set_of added.tables) added.table) row.old.found }
-    requires low { LowByDearer (space_in space.now) (states_in states.now) (set_of added.tables) added.table known row.old.found }
-    ensures made { AreUnsorted (space_in space.now) (states_in states.now) (with_table (set_of added.entry.tables) added.entry.table) row.new.found }
+    requires made { AreUnsorted (space_in space.now) (states_in states.now)
+        (with_table (set_of added.tables) added.table) row.old.found }
+    requires low { LowByDearer (space_in space.now) (states_in states.now) (set_of added.tables) added.table known
+        row.old.found }
+    ensures made { AreUnsorted (space_in space.now) (states_in states.now)
+        (with_table (set_of added.entry.tables) added.entry.table) row.new.found }
     ensures below { Below row.new.found row.old.found }
-    ensures low { LowByJoin (space_in space.now) (states_in states.now) (set_of added.entry.tables) added.entry.table (join_of added.entry.join) row.new.found }
+    ensures low { LowByJoin (space_in space.now) (states_in states.now) (set_of added.entry.tables) added.entry.table
+        (join_of added.entry.join) row.new.found }
     ensures steps { row.new.steps ≤ row.old.steps + length (space_in space.now).orders }
 {
     if known <= added.cost {
@@ -205,12 +221,17 @@ fn add_merges<'a>(
     requires few_states { AreFew (length (space_in space.now).orders) (starts_in states.now) }
     requires known { set_of tables + 1 < length (starts_in states.now) }
     requires follows { MayFollow (space_in space.now) (set_of tables) table }
-    requires made { AreUnsorted (space_in space.now) (states_in states.now) (with_table (set_of tables) table) row.old.found }
+    requires made { AreUnsorted (space_in space.now) (states_in states.now) (with_table (set_of tables) table)
+        row.old.found }
     requires low { LowByDearer (space_in space.now) (states_in states.now) (set_of tables) table known row.old.found }
-    ensures made { AreUnsorted (space_in space.now) (states_in states.now) (with_table (set_of tables) table) row.new.found }
+    ensures made { AreUnsorted (space_in space.now) (states_in states.now) (with_table (set_of tables) table)
+        row.new.found }
     ensures below { Below row.new.found row.old.found }
-    ensures low { (number : ℕ) (inner : Inner) → IsJoin (space_in space.now) (set_of tables) table (steps.Merge number inner) → LowByJoin (space_in space.now) (states_in states.now) (set_of tables) table (steps.Merge number inner) row.new.found }
-    ensures steps { (merges : List CostedMerge) × AreMerges (space_in space.now) (set_of tables) table merges × (row.new.steps ≤ row.old.steps + length (space_in space.now).orders * length merges) }
+    ensures low { (number : ℕ) (inner : Inner) → IsJoin (space_in space.now) (set_of tables) table
+        (steps.Merge number inner) → LowByJoin (space_in space.now) (states_in states.now) (set_of tables) table
+        (steps.Merge number inner) row.new.found }
+    ensures steps { (merges : List CostedMerge) × AreMerges (space_in space.now) (set_of tables) table merges ×
+        (row.new.steps ≤ row.old.steps + length (space_in space.now).orders * length merges) }
 {
     'merges: for item in space.merges(tables, table) {
         let join = Join::Merge {
@@ -257,7 +278,8 @@ fn add_last<'a>(
     ensures made { AreUnsorted (space_in space.now) (states_in states.now) (set_of tables) row.new.found }
     ensures below { Below row.new.found row.old.found }
     ensures low { LowByLast (space_in space.now) (states_in states.now) (set_of tables) table row.new.found }
-    ensures steps { (sorts : ℕ → ℕ) (joins : ℕ → ℕ → ℕ) → AreCounts (space_in space.now) sorts joins → row.new.steps ≤ row.old.steps + most_last (space_in space.now) sorts joins (set_of tables) table }
+    ensures steps { (sorts : ℕ → ℕ) (joins : ℕ → ℕ → ℕ) → AreCounts (space_in space.now) sorts joins →
+        row.new.steps ≤ row.old.steps + most_last (space_in space.now) sorts joins (set_of tables) table }
 {
     if !tables.has(table) {
         return;
@@ -284,11 +306,15 @@ fn add_sorts_of<'a>(
     requires set { set_of tables < 2 ^ (space_in space.now).table_count }
     requires size { length row.old.found ≡ length (space_in space.now).orders }
     requires stands { StandsIn row.old.found (candidate_of cheapest) }
-    ensures made { (states : List solving.Solved) → AreUnsorted (space_in space.now) states (set_of tables) row.old.found → AreMade (space_in space.now) states (set_of tables) row.new.found }
+    ensures made { (states : List solving.Solved) → AreUnsorted (space_in space.now) states (set_of tables)
+        row.old.found → AreMade (space_in space.now) states (set_of tables) row.new.found }
     ensures below { Below row.new.found row.old.found }
-    ensures low { SortsAreLow (space_in space.now) (set_of tables) (saturated (cheapest.entry.cost + (space_in space.now).sort_cost (set_of tables))) row.new.found }
-    ensures floor { (least : ℕ) → least ≤ saturated (cheapest.entry.cost + (space_in space.now).sort_cost (set_of tables)) → IsFloor least row.old.found → IsFloor least row.new.found }
-    ensures steps { (orders : List ℕ) × AreSorts (space_in space.now) (set_of tables) orders × (row.new.steps ≤ row.old.steps + length orders) }
+    ensures low { SortsAreLow (space_in space.now) (set_of tables)
+        (saturated (cheapest.entry.cost + (space_in space.now).sort_cost (set_of tables))) row.new.found }
+    ensures floor { (least : ℕ) → least ≤ saturated (cheapest.entry.cost + (space_in space.now).sort_cost
+        (set_of tables)) → IsFloor least row.old.found → IsFloor least row.new.found }
+    ensures steps { (orders : List ℕ) × AreSorts (space_in space.now) (set_of tables) orders ×
+        (row.new.steps ≤ row.old.steps + length orders) }
 {
     let cost = saturated(u128::from(cheapest.cost) + u128::from(space.sort_cost(tables)));
     'orders: for order in space.sorts(tables) {
@@ -305,10 +331,13 @@ fn add_sorts_of<'a>(
 fn add_sorts<'a>(space: &'a Space<'_>, tables: TableSet, row: &mut SetCandidates<'a>)
     requires set { set_of tables < 2 ^ (space_in space.now).table_count }
     requires size { length row.old.found ≡ length (space_in space.now).orders }
-    ensures made { (states : List solving.Solved) → AreUnsorted (space_in space.now) states (set_of tables) row.old.found → AreMade (space_in space.now) states (set_of tables) row.new.found }
+    ensures made { (states : List solving.Solved) → AreUnsorted (space_in space.now) states (set_of tables)
+        row.old.found → AreMade (space_in space.now) states (set_of tables) row.new.found }
     ensures below { Below row.new.found row.old.found }
-    ensures low { (states : List solving.Solved) → AreUnsorted (space_in space.now) states (set_of tables) row.old.found → LowBySorts (space_in space.now) (set_of tables) row.new.found }
-    ensures steps { (most : ℕ) → ((orders : List ℕ) → AreSorts (space_in space.now) (set_of tables) orders → length orders ≤ most) → row.new.steps ≤ row.old.steps + most }
+    ensures low { (states : List solving.Solved) → AreUnsorted (space_in space.now) states (set_of tables)
+        row.old.found → LowBySorts (space_in space.now) (set_of tables) row.new.found }
+    ensures steps { (most : ℕ) → ((orders : List ℕ) → AreSorts (space_in space.now) (set_of tables) orders →
+        length orders ≤ most) → row.new.steps ≤ row.old.steps + most }
 {
     let Some(cheapest) = row.cheapest() else {
         return;
@@ -331,7 +360,8 @@ pub(crate) fn fill_row<'a>(
     requires size { length row.old.found ≡ length (space_in space.now).orders }
     requires none { (order : ℕ) → found_at row.old.found order ≡ None }
     ensures solved { IsRowSolved (space_in space.now) (states_in states.now) (set_of tables) row.new.found }
-    ensures steps { (sorts : ℕ → ℕ) (joins : ℕ → ℕ → ℕ) → AreCounts (space_in space.now) sorts joins → row.new.steps ≤ row.old.steps + most_to (space_in space.now) sorts joins (set_of tables) }
+    ensures steps { (sorts : ℕ → ℕ) (joins : ℕ → ℕ → ℕ) → AreCounts (space_in space.now) sorts joins →
+        row.new.steps ≤ row.old.steps + most_to (space_in space.now) sorts joins (set_of tables) }
 {
     'tables: for table in 0..space.table_count() {
         add_last(space, states, tables, table, row);

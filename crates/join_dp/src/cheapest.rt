@@ -38,7 +38,8 @@ fn cheaper(
     requires place { place < length (states_in states.now) }
     requires best { ForSome best (λ b. b < place) }
     ensures within { ForSome result (λ b. b < place + 1) }
-    ensures cheapest { (start : ℕ) → start ≤ place → IsCheapestAmong (space_in space.now) (states_in states.now) start place best → IsCheapestAmong (space_in space.now) (states_in states.now) start (place + 1) result }
+    ensures cheapest { (start : ℕ) → start ≤ place → IsCheapestAmong (space_in space.now) (states_in states.now) start
+        place best → IsCheapestAmong (space_in space.now) (states_in states.now) start (place + 1) result }
 {
     let state = states.at(place);
     if !space.gives_required(state.order) {

@@ -20,7 +20,8 @@ use std::alloc::{AllocError, Global};
 pub(crate) fn plan_at(alloc: Global, states: &States<'_>, place: usize) -> Result<Plan, AllocError>
     requires place { place < length (states_in states.now) }
     requires before { AreFromBefore (states_in states.now) }
-    ensures { (space : Space) → IsComplete space → AllMade space (states_in states.now) → IfOk result (λ plan. IsPlanAt space (states_in states.now) place (plan_of plan)) }
+    ensures { (space : Space) → IsComplete space → AllMade space (states_in states.now) →
+        IfOk result (λ plan. IsPlanAt space (states_in states.now) place (plan_of plan)) }
 {
     let plan = step_plan(alloc, states, place)?;
     match states.at(place).found.sorted {
@@ -37,7 +38,8 @@ pub(crate) fn plan_at(alloc: Global, states: &States<'_>, place: usize) -> Resul
 fn step_plan(alloc: Global, states: &States<'_>, place: usize) -> Result<Plan, AllocError>
     requires place { place < length (states_in states.now) }
     requires before { AreFromBefore (states_in states.now) }
-    ensures { (space : Space) → IsComplete space → AllMade space (states_in states.now) → IfOk result (λ plan. IsStepPlanAt space (states_in states.now) place (plan_of plan)) }
+    ensures { (space : Space) → IsComplete space → AllMade space (states_in states.now) →
+        IfOk result (λ plan. IsStepPlanAt space (states_in states.now) place (plan_of plan)) }
 {
     match states.at(place).found.step {
         Step::Access { path } => Ok(Plan::Access(copied(path)?)),

@@ -41,7 +41,8 @@ pub fn optimise(alloc: Global, space: &Space<'_>) -> Result<(Plan, Certificate, 
     ensures solutions { IfOk result (λ r. AreSolutions (space_in space.now) r.2.solutions) }
     ensures listed { IfOk result (λ r. length (certificate_of r.1).states + 1 ≤ r.2.solutions) }
     ensures solved { IfOk result (λ r. r.2.solutions ≤ r.2.steps) }
-    ensures steps { (sorts : ℕ → ℕ) (joins : ℕ → ℕ → ℕ) → AreCounts (space_in space.now) sorts joins → IfOk result (λ r. r.2.steps ≤ most_steps (space_in space.now) sorts joins) }
+    ensures steps { (sorts : ℕ → ℕ) (joins : ℕ → ℕ → ℕ) → AreCounts (space_in space.now) sorts joins →
+        IfOk result (λ r. r.2.steps ≤ most_steps (space_in space.now) sorts joins) }
 {
     let states = solve(alloc, space)?;
     let all = TableSet::first(space.table_count());

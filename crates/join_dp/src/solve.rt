@@ -15,9 +15,11 @@ use std::alloc::{AllocError, Global};
 
 /// The states of all sets of a block's tables, with their least plans.
 pub(crate) fn solve<'a>(alloc: Global, space: &'a Space<'_>) -> Result<States<'a>, AllocError>
-    ensures solved { IfOk result (λ s. AreSolvedBelow (space_in space.now) (2 ^ (space_in space.now).table_count) (states_in s) (starts_in s)) }
+    ensures solved { IfOk result (λ s. AreSolvedBelow (space_in space.now) (2 ^ (space_in space.now).table_count)
+        (states_in s) (starts_in s)) }
     ensures counted { IfOk result (λ s. length (states_in s) ≤ s.steps) }
-    ensures steps { (sorts : ℕ → ℕ) (joins : ℕ → ℕ → ℕ) → AreCounts (space_in space.now) sorts joins → IfOk result (λ s. s.steps ≤ most_steps (space_in space.now) sorts joins) }
+    ensures steps { (sorts : ℕ → ℕ) (joins : ℕ → ℕ → ℕ) → AreCounts (space_in space.now) sorts joins →
+        IfOk result (λ s. s.steps ≤ most_steps (space_in space.now) sorts joins) }
 {
     let mut states = States::new(alloc)?;
     let mut row = SetCandidates::new(alloc, space.order_count())?;

@@ -76,8 +76,10 @@ impl<'a> States<'a> {
         ensures rising { result.start ≤ result.end }
         ensures few { (most : ℕ) → AreFew most (starts_in self.now) → result.end ≤ result.start + most }
         ensures within { result.end ≤ length (states_in self.now) }
-        ensures there { (place : ℕ) → result.start ≤ place → place < result.end → (at (states_in self.now) place).tables ≡ set_of tables }
-        ensures all { (place : ℕ) → place < length (states_in self.now) → (at (states_in self.now) place).tables ≡ set_of tables → (result.start ≤ place) × (place < result.end) }
+        ensures there { (place : ℕ) → result.start ≤ place → place < result.end →
+            (at (states_in self.now) place).tables ≡ set_of tables }
+        ensures all { (place : ℕ) → place < length (states_in self.now) →
+            (at (states_in self.now) place).tables ≡ set_of tables → (result.start ≤ place) × (place < result.end) }
     {
         let place = tables.place();
         Places {
@@ -88,9 +90,12 @@ impl<'a> States<'a> {
 
     /// Puts the states of the next set behind those before.
     pub fn push_row(&mut self, tables: TableSet, row: &SetCandidates<'a>) -> Result<(), AllocError>
-        ensures states { IfOk result (λ _. states_in self.new ≡ states_in self.old ++ entries_from (set_of tables) 0 row.now.found) }
-        ensures starts { IfOk result (λ _. starts_in self.new ≡ starts_in self.old ++ length (states_in self.new) ∷ []) }
-        ensures counted { IfOk result (λ _. length (states_in self.old) ≤ self.old.steps → length (states_in self.new) ≤ self.new.steps) }
+        ensures states { IfOk result (λ _. states_in self.new
+            ≡ states_in self.old ++ entries_from (set_of tables) 0 row.now.found) }
+        ensures starts { IfOk result (λ _. starts_in self.new
+            ≡ starts_in self.old ++ length (states_in self.new) ∷ []) }
+        ensures counted { IfOk result (λ _. length (states_in self.old) ≤ self.old.steps →
+            length (states_in self.new) ≤ self.new.steps) }
         ensures steps { IfOk result (λ _. self.new.steps ≡ min (self.old.steps + row.now.steps) 18446744073709551615) }
     {
         push_states(&mut self.solved, tables, row)?;
@@ -106,7 +111,8 @@ fn push_states<'a>(
     tables: TableSet,
     row: &SetCandidates<'a>,
 ) -> Result<(), AllocError>
-    ensures { IfOk result (λ _. map solved_of solved.new.items ≡ map solved_of solved.old.items ++ entries_from (set_of tables) 0 row.now.found) }
+    ensures { IfOk result (λ _. map solved_of solved.new.items
+        ≡ map solved_of solved.old.items ++ entries_from (set_of tables) 0 row.now.found) }
 {
     'orders: for order in 0..row.len() {
         if let Some(found) = row.at(order) {

@@ -29,7 +29,8 @@ pub const MAX_DIGITS: usize = 38;
 pub fn token_kind(start: usize, text: &[u8], lexeme: Lexeme) -> Result<Option<TokenKind>, LexFault>
     requires room { start + length text.now < 2 ^ 64 }
     requires same { lexing.lexeme_of text.now ≡ Some (lexeme_of text.now lexeme) }
-    ensures outcome { outcome_of start text.now result ≡ Some (lexing.token_of start text.now (lexeme_of text.now lexeme)) }
+    ensures outcome { outcome_of start text.now result
+        ≡ Some (lexing.token_of start text.now (lexeme_of text.now lexeme)) }
     ensures within { IfOk result (λ kind. IfSome kind (λ k. IsNumberWithin k text.now)) }
     ensures characters { IfOk result (λ kind. IfSome kind (λ k. IsStringWithin k text.now)) }
 {
@@ -106,7 +107,8 @@ fn string_kind(start: usize, text: &[u8], closed: bool) -> Result<Option<TokenKi
     requires some { 0 < length text.now }
     requires opens { slice_index text.now 0 ≡ characters.quote }
     requires room { start + length text.now < 2 ^ 64 }
-    ensures outcome { outcome_of start text.now result ≡ Some (lexing.token_of start text.now (quotation_of text.now closed)) }
+    ensures outcome { outcome_of start text.now result
+        ≡ Some (lexing.token_of start text.now (quotation_of text.now closed)) }
     ensures within { IfOk result (λ kind. IfSome kind (λ k. IsNumberWithin k text.now)) }
     ensures characters { IfOk result (λ kind. IfSome kind (λ k. IsStringWithin k text.now)) }
 {

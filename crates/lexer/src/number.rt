@@ -27,7 +27,11 @@ impl Token<'_> {
 /// The number that the text of a number token writes.
 fn number_of(text: &[u8]) -> Numeral
     requires { IsShort text.now }
-    ensures { numeral_parts result ≡ (value_of 10 (lexing.digits_of text.now), length (lexing.digits_of text.now), lexing.behind_point text.now) }
+    ensures { numeral_parts result ≡ (
+      value_of 10 (lexing.digits_of text.now),
+      length (lexing.digits_of text.now),
+      lexing.behind_point text.now,
+    ) }
 {
     Numeral {
         units: digits_value(text),

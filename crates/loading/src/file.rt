@@ -120,8 +120,10 @@ fn reader_of(alloc: Global, bytes: &[u8]) -> Reader<&[u8]>
 
 /// Reads the next record, if there is one. Reading memory fails for want of memory alone.
 fn next_record(reader: &mut Reader<&[u8]>, fields: &mut ByteRecord) -> Result<bool, AllocError>
-    ensures more { IfOk result (λ found. OnTrue found ((bytes : List ℕ) (records : List Record) → HasRead bytes reader.old records → HasRead bytes reader.new (records ++ fields_of fields.new ∷ []))) }
-    ensures end { IfOk result (λ found. OnFalse found ((bytes : List ℕ) (records : List Record) → HasRead bytes reader.old records → AreFileRecords bytes records)) }
+    ensures more { IfOk result (λ found. OnTrue found ((bytes : List ℕ) (records : List Record) →
+        HasRead bytes reader.old records → HasRead bytes reader.new (records ++ fields_of fields.new ∷ []))) }
+    ensures end { IfOk result (λ found. OnFalse found ((bytes : List ℕ) (records : List Record) →
+        HasRead bytes reader.old records → AreFileRecords bytes records)) }
 {
     reader.read_byte_record(fields).map_err(|_| AllocError)
 }
@@ -134,8 +136,10 @@ fn push_record(
     fields: &ByteRecord,
 ) -> Result<(), PushFault<RecordFault>>
     requires { AreFilled len columns.old }
-    ensures ok { OnOk result ((row : Row) × RecordReads (headers columns.old) (fields_of fields.now) (Ok row) × (columns.new ≡ with_row columns.old row)) }
-    ensures refused { IfErr result (IfRefused (λ f. RecordReads (headers columns.old) (fields_of fields.now) (Err (record_refusal f)))) }
+    ensures ok { OnOk result ((row : Row) × RecordReads (headers columns.old) (fields_of fields.now) (Ok row) ×
+        (columns.new ≡ with_row columns.old row)) }
+    ensures refused { IfErr result (IfRefused (λ f. RecordReads (headers columns.old) (fields_of fields.now)
+        (Err (record_refusal f)))) }
     ensures err { OnErr result (columns.new ≡ columns.old) }
 {
     if fields.len() != columns.len() {
@@ -158,8 +162,10 @@ fn push_fields(
     fields: &ByteRecord,
 ) -> Result<(), PushFault<RecordFault>>
     requires { length (fields_of fields.now) ≡ length columns.old }
-    ensures ok { OnOk result ((row : Row) × FieldsLoad (headers columns.old) (fields_of fields.now) (Ok row) × (columns.new ≡ with_row columns.old row)) }
-    ensures refused { IfErr result (IfRefused (λ f. FieldsLoad (headers columns.old) (fields_of fields.now) (Err (record_refusal f)))) }
+    ensures ok { OnOk result ((row : Row) × FieldsLoad (headers columns.old) (fields_of fields.now) (Ok row) ×
+        (columns.new ≡ with_row columns.old row)) }
+    ensures refused { IfErr result (IfRefused (λ f. FieldsLoad (headers columns.old) (fields_of fields.now)
+        (Err (record_refusal f)))) }
     ensures err { OnErr result (Extends columns.old columns.new) }
 {
     for i in 0..columns.len() {
@@ -175,7 +181,8 @@ fn push_field(
     number: usize,
     field: &[u8],
 ) -> Result<(), PushFault<RecordFault>>
-    ensures ok { OnOk result ((v : Value) × ColumnLoads column.old.header field.now (Ok v) × (column.new ≡ with_value column.old v)) }
+    ensures ok { OnOk result ((v : Value) × ColumnLoads column.old.header field.now (Ok v) ×
+        (column.new ≡ with_value column.old v)) }
     ensures refused { IfErr result (IfRefused (λ f. ColumnLoads column.old.header field.now (Err (record_refusal f)))) }
     ensures err { OnErr result (column.new ≡ column.old) }
 {

@@ -48,7 +48,8 @@ impl TableColumn {
         constraint: Constraint,
     ) -> Result<TableColumn, AllocError>
         requires { spec.IsType (type_of sql_type) }
-        ensures { IfOk result (λ c. c ≡ named name.now (constraint_of constraint) (record { type = type_of sql_type; values = [] })) }
+        ensures { IfOk result (λ c. c ≡ named name.now (constraint_of constraint)
+            (record { type = type_of sql_type; values = [] })) }
     {
         Ok(TableColumn {
             name: String::from_str(alloc, name)?,
@@ -127,8 +128,10 @@ impl TableColumn {
 
     /// Adds the value that a field is stored as. An `Err` leaves the column as it was.
     pub(crate) fn push_field(&mut self, field: &[u8]) -> Result<(), PushFault<FieldFault>>
-        ensures ok { OnOk result ((v : spec.Value) × FieldLoads self.old.header.type field.now (Ok v) × (self.new ≡ with_value self.old v)) }
-        ensures refused { IfErr result (IfRefused (λ f. FieldLoads self.old.header.type field.now (Err (field_error_of f)))) }
+        ensures ok { OnOk result ((v : spec.Value) × FieldLoads self.old.header.type field.now (Ok v) ×
+            (self.new ≡ with_value self.old v)) }
+        ensures refused { IfErr result (IfRefused (λ f.
+            FieldLoads self.old.header.type field.now (Err (field_error_of f)))) }
         ensures err { OnErr result (self.new ≡ self.old) }
     {
         cells::push_field(&mut self.cells, field)

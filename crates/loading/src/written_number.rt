@@ -27,7 +27,8 @@ pub fn units_in(written: WrittenNumber, sql_type: SqlType) -> Option<i64>
     requires numbers { spec.kind_of (type_of sql_type) ≡ spec.Numbers }
     requires valid { spec.IsType (type_of sql_type) }
     requires sized { written.digits < 10 ^ most_digits }
-    ensures some { IfSome result (λ units. IsEqualOf (type_of sql_type) (number_of written) (spec.Number units (spec.scale_of (type_of sql_type)))) }
+    ensures some { IfSome result (λ units. IsEqualOf (type_of sql_type) (number_of written)
+        (spec.Number units (spec.scale_of (type_of sql_type)))) }
     ensures none { IfNone result ((w : spec.Value) → IsEqualOf (type_of sql_type) (number_of written) w → ⊥) }
 {
     let limit = size_limit(sql_type, written.negative);

@@ -35,7 +35,8 @@ impl JoinGraph {
     ) -> Result<JoinGraph, AllocError>
         requires tables { tables ≤ most_from_tables }
         ensures tables { IfOk result (λ l. tables_in l ≡ tables) }
-        ensures links { (space : Space) → space.conjuncts ≡ map conjunct_of conjuncts.now → IfOk result (AreLinks space) }
+        ensures links { (space : Space) → space.conjuncts ≡ map conjunct_of conjuncts.now →
+            IfOk result (AreLinks space) }
     {
         let mut linked = Vec::new(alloc);
         'sets: for place in 0..1 << tables {
@@ -49,7 +50,8 @@ impl JoinGraph {
     pub fn can_join_next(&self, set: TableSet, table: usize) -> bool
         requires set { set_of set < 2 ^ tables_in self.now }
         requires table { table < tables_in self.now }
-        ensures { (space : Space) → space.table_count ≡ tables_in self.now → space.free_products ≡ false → AreLinks space self.now → Decides result (MayFollow space (set_of set) table) }
+        ensures { (space : Space) → space.table_count ≡ tables_in self.now → space.free_products ≡ false →
+            AreLinks space self.now → Decides result (MayFollow space (set_of set) table) }
     {
         let linked = self.linked[set.place()];
         !set.has(table) && (linked.has(table) || linked.is_empty())
@@ -59,7 +61,8 @@ impl JoinGraph {
 /// The tables outside a set that are linked to it, among so many.
 fn linked_to(conjuncts: &[PlanConjunct], set: TableSet, tables: usize) -> TableSet
     requires { tables ≤ most_from_tables }
-    ensures { (space : Space) → space.conjuncts ≡ map conjunct_of conjuncts.now → AreLinked space tables (set_of set) (set_of result) }
+    ensures { (space : Space) → space.conjuncts ≡ map conjunct_of conjuncts.now →
+        AreLinked space tables (set_of set) (set_of result) }
 {
     let mut linked = TableSet::none();
     'tables: for table in 0..tables {
@@ -76,7 +79,9 @@ fn with_linked(
     table: usize,
 ) -> TableSet
     requires { table < most_from_tables }
-    ensures { (space : Space) → space.conjuncts ≡ map conjunct_of conjuncts.now → AreLinked space table (set_of set) (set_of linked) → AreLinked space (table + 1) (set_of set) (set_of result) }
+    ensures { (space : Space) → space.conjuncts ≡ map conjunct_of conjuncts.now →
+        AreLinked space table (set_of set) (set_of linked) →
+        AreLinked space (table + 1) (set_of set) (set_of result) }
 {
     if !set.has(table) && is_linked(conjuncts, set, table) {
         linked.with(table)
@@ -88,7 +93,8 @@ fn with_linked(
 /// Whether one of the conjuncts links a table to a set.
 fn is_linked(conjuncts: &[PlanConjunct], set: TableSet, table: usize) -> bool
     requires { table < most_from_tables }
-    ensures { (space : Space) → space.conjuncts ≡ map conjunct_of conjuncts.now → Decides result (Links space (set_of set) table) }
+    ensures { (space : Space) → space.conjuncts ≡ map conjunct_of conjuncts.now →
+        Decides result (Links space (set_of set) table) }
 {
     'conjuncts: for conjunct in conjuncts {
         if links(conjunct, set, table) {

@@ -53,7 +53,11 @@ impl BlockMerges {
         requires uses { order_uses.sets_in uses.now ≡ 2 ^ length (block_of estimate.now.block).tables }
         requires estimates { set_estimates.tables_in estimates.now ≡ length (block_of estimate.now.block).tables }
         ensures tables { IfOk result (λ m. tables_in m ≡ length (block_of estimate.now.block).tables) }
-        ensures merges { (version : versions.Version) → block_paths.AreBlockPaths version estimate.now.database (block_of estimate.now.block) paths.now → AreUses (space_of version estimate.now.database (block_of estimate.now.block)) uses.now → set_estimates.AreEstimates estimate.now.database (block_of estimate.now.block) estimates.now → IfOk result (AreBlockMerges (space_of version estimate.now.database (block_of estimate.now.block))) }
+        ensures merges { (version : versions.Version) →
+            block_paths.AreBlockPaths version estimate.now.database (block_of estimate.now.block) paths.now →
+            AreUses (space_of version estimate.now.database (block_of estimate.now.block)) uses.now →
+            set_estimates.AreEstimates estimate.now.database (block_of estimate.now.block) estimates.now →
+            IfOk result (AreBlockMerges (space_of version estimate.now.database (block_of estimate.now.block))) }
     {
         let mut tables = Vec::new(alloc);
         'tables: for table in 0..estimate.table_count() {
@@ -67,7 +71,9 @@ impl BlockMerges {
     /// merges as it comes to it, and takes no memory.
     pub fn merges(&self, tables: TableSet, table: usize, pairs: u64) -> Merges<'_>
         requires { table < tables_in self.now }
-        ensures { (space : Space) → AreBlockMerges space self.now → pairs ≡ saturated (space.cardinality (set_of tables) * space.cardinality (only table)) → AreMerges space (set_of tables) table result }
+        ensures { (space : Space) → AreBlockMerges space self.now →
+            pairs ≡ saturated (space.cardinality (set_of tables) * space.cardinality (only table)) →
+            AreMerges space (set_of tables) table result }
     {
         Merges::new(&self.tables[table], tables, pairs)
     }
@@ -86,7 +92,12 @@ fn table_merges(
     requires few { table < most_from_tables }
     requires paths { block_paths.tables_in paths.now ≡ length (block_of estimate.now.block).tables }
     requires uses { order_uses.sets_in uses.now ≡ 2 ^ length (block_of estimate.now.block).tables }
-    ensures { (version : versions.Version) → block_paths.AreBlockPaths version estimate.now.database (block_of estimate.now.block) paths.now → AreUses (space_of version estimate.now.database (block_of estimate.now.block)) uses.now → sort_cost ≡ estimates.sort_cost estimate.now.database (block_of estimate.now.block) (only table) → IfOk result (λ merges. AreMergesOf (space_of version estimate.now.database (block_of estimate.now.block)) table (map merge_told merges.items)) }
+    ensures { (version : versions.Version) → block_paths.AreBlockPaths version estimate.now.database
+        (block_of estimate.now.block) paths.now → AreUses
+        (space_of version estimate.now.database (block_of estimate.now.block)) uses.now →
+        sort_cost ≡ estimates.sort_cost estimate.now.database (block_of estimate.now.block) (only table) →
+        IfOk result (λ merges. AreMergesOf (space_of version estimate.now.database (block_of estimate.now.block))
+        table (map merge_told merges.items)) }
 {
     let mut merges = Vec::new(alloc);
     'conjuncts: for conjunct in 0..estimate.conjuncts().len() {
@@ -113,7 +124,9 @@ fn merge_way(
     requires table { table < most_from_tables }
     requires conjunct { conjunct < length (plans.plan_conjuncts estimate.now.database (block_of estimate.now.block)) }
     ensures table { IfSome result (λ way. way.table ≡ table) }
-    ensures exact { (space : Space) → space.conjuncts ≡ plans.plan_conjuncts estimate.now.database (block_of estimate.now.block) → AreUses space uses.now → sort_cost ≡ space.sort_cost (only table) → IsWay space table conjunct result }
+    ensures exact { (space : Space) → space.conjuncts ≡ plans.plan_conjuncts estimate.now.database
+        (block_of estimate.now.block) → AreUses space uses.now → sort_cost ≡ space.sort_cost (only table) →
+        IsWay space table conjunct result }
 {
     let other = uses.merged_with(conjunct, table)?;
     Some(MergeClause {
@@ -133,7 +146,10 @@ fn add_merges(
     paths: Paths<'_>,
 ) -> Result<(), AllocError>
     requires { only way.table < order_uses.sets_in uses.now }
-    ensures { (space : Space) → AreUses space uses.now → IsWay space way.table way.conjunct (Some way) → AreItems space no_tables way.table paths.entry → OnOk result (AddsMerges space way.table way.conjunct (map merge_told merges.old.items) (map merge_told merges.new.items)) }
+    ensures { (space : Space) → AreUses space uses.now → IsWay space way.table way.conjunct (Some way) →
+        AreItems space no_tables way.table paths.entry →
+        OnOk result (AddsMerges space way.table way.conjunct (map merge_told merges.old.items)
+        (map merge_told merges.new.items)) }
 {
     let mut rest = paths;
     'paths: while let Some(item) = rest.next() {
@@ -150,7 +166,10 @@ fn add_path(
     item: CostedPath<'_>,
 ) -> Result<(), AllocError>
     requires { only way.table < order_uses.sets_in uses.now }
-    ensures { (space : Space) → AreUses space uses.now → IsWay space way.table way.conjunct (Some way) → IsItem space no_tables way.table (item_of item.entry) → IsPath space no_tables (path_of item.entry.path.now) → OnOk result (AddsPath space way.table way.conjunct (path_of item.entry.path.now) (map merge_told merges.old.items) (map merge_told merges.new.items)) }
+    ensures { (space : Space) → AreUses space uses.now → IsWay space way.table way.conjunct (Some way) →
+        IsItem space no_tables way.table (item_of item.entry) → IsPath space no_tables (path_of item.entry.path.now) →
+        OnOk result (AddsPath space way.table way.conjunct (path_of item.entry.path.now)
+        (map merge_told merges.old.items) (map merge_told merges.new.items)) }
 {
     let sorted = saturated(u128::from(item.cost) + u128::from(way.sort_cost));
     merges.push(listed(way, item.path, true, sorted)?)?;
@@ -172,7 +191,15 @@ fn listed(
     sorted: bool,
     cost: u64,
 ) -> Result<MergeJoinPath, AllocError>
-    ensures { IfOk result (λ merge. merge_told merge ≡ record { conjunct = way.conjunct; other = way.other; inner = record { path = path_of path.now; sorted = sorted }; cost = cost; selectivity = way.selectivity }) }
+    ensures { IfOk result (λ merge. merge_told merge ≡
+        record {
+          conjunct = way.conjunct;
+          other = way.other;
+          inner =
+              record { path = path_of path.now; sorted = sorted };
+          cost = cost;
+          selectivity = way.selectivity;
+        }) }
 {
     Ok(MergeJoinPath {
         conjunct: way.conjunct,

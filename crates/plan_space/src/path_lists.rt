@@ -47,9 +47,11 @@ impl BlockPaths {
         version: Version,
         orders: &SortOrders,
     ) -> Result<BlockPaths, AllocError>
-        requires orders { orders.now ≡ spec.orders_of (version_of version) estimate.now.database (block_of estimate.now.block) }
+        requires orders { orders.now ≡ spec.orders_of (version_of version) estimate.now.database
+            (block_of estimate.now.block) }
         ensures tables { IfOk result (λ p. tables_in p ≡ length (block_of estimate.now.block).tables) }
-        ensures paths { IfOk result (AreBlockPaths (version_of version) estimate.now.database (block_of estimate.now.block)) }
+        ensures paths { IfOk result (AreBlockPaths (version_of version) estimate.now.database
+            (block_of estimate.now.block)) }
     {
         let mut tables = Vec::new(alloc);
         'tables: for table in 0..estimate.table_count() {
@@ -63,7 +65,9 @@ impl BlockPaths {
     pub fn paths(&self, estimate: &Estimate, known: TableSet, table: usize) -> Paths<'_>
         requires table { table < tables_in self.now }
         requires block { table < length (block_of estimate.now.block).tables }
-        ensures { (version : versions.Version) → AreBlockPaths version estimate.now.database (block_of estimate.now.block) self.now → AreItems (space_of version estimate.now.database (block_of estimate.now.block)) (set_of known) table result }
+        ensures { (version : versions.Version) → AreBlockPaths version estimate.now.database
+            (block_of estimate.now.block) self.now → AreItems
+            (space_of version estimate.now.database (block_of estimate.now.block)) (set_of known) table result }
     {
         Paths::new(&self.tables[table], known, estimate.path_rows(known, table))
     }
@@ -78,8 +82,10 @@ fn listed_paths(
     table: usize,
 ) -> Result<Vec<NumberedPath>, AllocError>
     requires table { table < length (block_of estimate.now.block).tables }
-    requires orders { orders.now ≡ spec.orders_of (version_of version) estimate.now.database (block_of estimate.now.block) }
-    ensures { IfOk result (λ paths. AreListed (version_of version) estimate.now.database (block_of estimate.now.block) table (map listed_told paths.items)) }
+    requires orders { orders.now ≡ spec.orders_of (version_of version) estimate.now.database
+        (block_of estimate.now.block) }
+    ensures { IfOk result (λ paths. AreListed (version_of version) estimate.now.database (block_of estimate.now.block)
+        table (map listed_told paths.items)) }
 {
     let known = known_indexes(alloc, version, estimate.table(table))?;
     let found = table_paths(alloc, estimate, table, &known, version.reads_backward())?;
@@ -95,8 +101,11 @@ fn with_orders(
     found: Vec<TablePath>,
 ) -> Result<Vec<NumberedPath>, AllocError>
     requires table { table < length (block_of estimate.now.block).tables }
-    requires reads { AllByRecursion (λ (x : FoundPath). Reads estimate.now.database (block_of estimate.now.block) table x.path) (map path_told found.items) }
-    ensures { IfOk result (λ paths. map listed_told paths.items ≡ map (with_number estimate.now.database (block_of estimate.now.block) orders.now) (map path_told found.items)) }
+    requires reads { AllByRecursion (λ (x : FoundPath).
+        Reads estimate.now.database (block_of estimate.now.block) table x.path) (map path_told found.items) }
+    ensures { IfOk result (λ paths. map listed_told paths.items
+        ≡ map (with_number estimate.now.database (block_of estimate.now.block) orders.now)
+        (map path_told found.items)) }
 {
     let mut paths = Vec::new(alloc);
     let mut rest = found.into_iter();
@@ -115,7 +124,8 @@ fn with_orders(
 fn order_number(estimate: &Estimate, orders: &SortOrders, table: usize, path: &Path) -> usize
     requires table { table < length (block_of estimate.now.block).tables }
     requires reads { Reads estimate.now.database (block_of estimate.now.block) table (path_of path.now) }
-    ensures { result ≡ number_of orders.now (spec.order_of_path estimate.now.database (block_of estimate.now.block) (path_of path.now)) }
+    ensures { result ≡ number_of orders.now (spec.order_of_path estimate.now.database (block_of estimate.now.block)
+        (path_of path.now)) }
 {
     match path {
         Path::Segment { .. } => orders.number(&[]),

@@ -204,7 +204,8 @@ impl<'a> Space<'a> {
 
     /// Whether rows of all tables in an order are in the one that the block asks for.
     pub fn gives_required(&self, order: usize) -> bool
-        ensures { Decides result (Satisfies (space_in self.now) (whole (space_in self.now)) (order_at (space_in self.now) order) (space_in self.now).required) }
+        ensures { Decides result (Satisfies (space_in self.now) (whole (space_in self.now))
+            (order_at (space_in self.now) order) (space_in self.now).required) }
     {
         self.uses.gives_required(order)
     }
@@ -213,7 +214,8 @@ impl<'a> Space<'a> {
     /// the keys.
     pub fn satisfies(&self, tables: TableSet, order: usize, wanted: usize) -> bool
         requires { set_of tables < 2 ^ (space_in self.now).table_count }
-        ensures { Decides result (Satisfies (space_in self.now) (set_of tables) (order_at (space_in self.now) order) (order_at (space_in self.now) wanted)) }
+        ensures { Decides result (Satisfies (space_in self.now) (set_of tables) (order_at (space_in self.now) order)
+            (order_at (space_in self.now) wanted)) }
     {
         self.uses
             .satisfies(tables, self.keys(order), self.keys(wanted))
@@ -293,7 +295,8 @@ fn table_links(
     estimate: &Estimate,
     version: Version,
 ) -> Result<Option<JoinGraph>, AllocError>
-    ensures { IfOk result (λ links. LinksSay (space_of (version_of version) estimate.now.database (block_of estimate.now.block)) links) }
+    ensures { IfOk result (λ links. LinksSay (space_of (version_of version) estimate.now.database
+        (block_of estimate.now.block)) links) }
 {
     if version.has_free_products() {
         return Ok(None);

@@ -52,7 +52,8 @@ fn access_summary(space: &Space, path: &Path) -> Option<PlanSummary>
 /// What a loop comes to, on top of a plan.
 fn loop_summary(space: &Space, outer: PlanSummary, path: &Path) -> Option<PlanSummary>
     requires { set_of outer.tables < 2 ^ (space_in space.now).table_count }
-    ensures { (plan : trees.Plan) → IsMeasured (space_in space.now) plan outer → Measures (space_in space.now) (trees.Loop plan (path_of path.now)) result }
+    ensures { (plan : trees.Plan) → IsMeasured (space_in space.now) plan outer →
+        Measures (space_in space.now) (trees.Loop plan (path_of path.now)) result }
 {
     if !follows(space, outer.tables, path.table()) {
         return None;
@@ -75,7 +76,8 @@ fn merge_summary(
     inner: &Inner,
 ) -> Option<PlanSummary>
     requires { set_of outer.tables < 2 ^ (space_in space.now).table_count }
-    ensures { (plan : trees.Plan) → IsMeasured (space_in space.now) plan outer → Measures (space_in space.now) (trees.Merge plan conjunct (inner_of inner.now)) result }
+    ensures { (plan : trees.Plan) → IsMeasured (space_in space.now) plan outer →
+        Measures (space_in space.now) (trees.Merge plan conjunct (inner_of inner.now)) result }
 {
     let table = inner.path.table();
     if !follows(space, outer.tables, table) {
@@ -95,7 +97,8 @@ fn merge_summary(
 /// What a sort comes to, on top of a plan.
 fn sort_summary(space: &Space, input: PlanSummary, order: usize) -> Option<PlanSummary>
     requires { set_of input.tables < 2 ^ (space_in space.now).table_count }
-    ensures { (plan : trees.Plan) → IsMeasured (space_in space.now) plan input → Measures (space_in space.now) (trees.Sort plan order) result }
+    ensures { (plan : trees.Plan) → IsMeasured (space_in space.now) plan input →
+        Measures (space_in space.now) (trees.Sort plan order) result }
 {
     if !space.can_sort(input.tables, order) {
         return None;
@@ -144,7 +147,8 @@ fn find_merge<'s>(
 ) -> Option<CostedMerge<'s>>
     requires set { set_of tables < 2 ^ (space_in space.now).table_count }
     requires table { table_of (path_of inner.now.path) < (space_in space.now).table_count }
-    ensures { IsMergeFound (space_in space.now) (set_of tables) conjunct (inner_of inner.now) (option_map merge_of result) }
+    ensures { IsMergeFound (space_in space.now) (set_of tables) conjunct (inner_of inner.now)
+        (option_map merge_of result) }
 {
     let mut rest = space.merges(tables, inner.path.table());
     'merges: while let Some(item) = rest.next() {
@@ -157,7 +161,8 @@ fn find_merge<'s>(
 
 /// Whether a merge is by a conjunct, with an inner side.
 fn is_it(item: CostedMerge<'_>, conjunct: usize, inner: &Inner) -> bool
-    ensures { Decides result (((merge_of item.entry).conjunct ≡ conjunct) × ((merge_of item.entry).inner ≡ inner_of inner.now)) }
+    ensures { Decides result (((merge_of item.entry).conjunct ≡ conjunct) ×
+        ((merge_of item.entry).inner ≡ inner_of inner.now)) }
 {
     item.conjunct == conjunct && item.sorted == inner.sorted && are_one(item.path, &inner.path)
 }

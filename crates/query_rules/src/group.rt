@@ -38,9 +38,11 @@ pub fn group_columns<'q>(
     scopes: &Scopes,
     references: &'q [ColumnReference],
 ) -> Result<Vec<BlockColumn>, BindFault<'q>>
-    ensures ok { IfOk result (λ columns. map column_of columns.items ≡ own_columns scopes.now (map reference_of references.now)) }
+    ensures ok { IfOk result (λ columns. map column_of columns.items
+        ≡ own_columns scopes.now (map reference_of references.now)) }
     ensures own { OnOk result ((db : Tables) → SomeNotOwn db scopes.now (map reference_of references.now) → ⊥) }
-    ensures refused { IfErr result (λ f. IfSome (bind_refusal f) (λ r. (r ≡ UnknownColumn) × ((db : Tables) → SomeNotOwn db scopes.now (map reference_of references.now)))) }
+    ensures refused { IfErr result (λ f. IfSome (bind_refusal f) (λ r. (r ≡ UnknownColumn) × ((db : Tables) →
+        SomeNotOwn db scopes.now (map reference_of references.now)))) }
 {
     let mut columns = Vec::new(alloc);
     'references: for reference in references {
@@ -55,8 +57,10 @@ pub fn group_columns<'q>(
 /// The column that a reference stands for, if it is one of the block itself.
 fn own_column(resolution: Resolution) -> Option<BlockColumn>
     ensures some { IfSome result (λ column. own_column (resolution_of resolution.entry) ≡ column_of column) }
-    ensures own { IfSome result (λ _. (db : Tables) (scopes : spec.Scopes) → IsNotOwn db scopes (resolution_of resolution.entry) → ⊥) }
-    ensures none { IsNone result → (db : Tables) (scopes : spec.Scopes) → IsNotOwn db scopes (resolution_of resolution.entry) }
+    ensures own { IfSome result (λ _. (db : Tables) (scopes : spec.Scopes) →
+        IsNotOwn db scopes (resolution_of resolution.entry) → ⊥) }
+    ensures none { IsNone result → (db : Tables) (scopes : spec.Scopes) →
+        IsNotOwn db scopes (resolution_of resolution.entry) }
 {
     match resolution {
         Resolution::Named { level: 0, found } => Some(found.column),

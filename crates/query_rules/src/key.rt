@@ -27,10 +27,13 @@ pub fn bound_order<'a>(
     items: &[Item],
     order: &'a [parse_tree::Key],
 ) -> Result<Vec<Key>, BindFault<'a>>
-    ensures ok { IfOk result (λ keys. map key_of keys.items ≡ bound_keys (names_by (list_of list.now) (map item_of items.now)) (map tree_key_of order.now)) }
-    ensures known { OnOk result (SomeKeyIsUnknown (names_by (list_of list.now) (map item_of items.now)) (map tree_key_of order.now) → ⊥) }
+    ensures ok { IfOk result (λ keys. map key_of keys.items
+        ≡ bound_keys (names_by (list_of list.now) (map item_of items.now)) (map tree_key_of order.now)) }
+    ensures known { OnOk result (SomeKeyIsUnknown (names_by (list_of list.now) (map item_of items.now))
+        (map tree_key_of order.now) → ⊥) }
     ensures few { OnOk result (length order.now ≤ most_keys) }
-    ensures refused { IfErr result (λ f. IfSome (bind_refusal f) (RefusesOrder (names_by (list_of list.now) (map item_of items.now)) (map tree_key_of order.now))) }
+    ensures refused { IfErr result (λ f. IfSome (bind_refusal f)
+        (RefusesOrder (names_by (list_of list.now) (map item_of items.now)) (map tree_key_of order.now))) }
 {
     if let Some(key) = order.get(MAX_KEYS) {
         return Err(BindFault::Refused(QueryFault::ManyKeys(key)));
@@ -44,9 +47,11 @@ fn keys_by_names<'a>(
     names: &[Option<&str>],
     order: &'a [parse_tree::Key],
 ) -> Result<Vec<Key>, BindFault<'a>>
-    ensures ok { IfOk result (λ keys. map key_of keys.items ≡ bound_keys (known_names names.now) (map tree_key_of order.now)) }
+    ensures ok { IfOk result (λ keys. map key_of keys.items
+        ≡ bound_keys (known_names names.now) (map tree_key_of order.now)) }
     ensures known { OnOk result (SomeKeyIsUnknown (known_names names.now) (map tree_key_of order.now) → ⊥) }
-    ensures refused { IfErr result (λ f. IfSome (bind_refusal f) (λ r. (r ≡ UnknownKey) × SomeKeyIsUnknown (known_names names.now) (map tree_key_of order.now))) }
+    ensures refused { IfErr result (λ f. IfSome (bind_refusal f) (λ r. (r ≡ UnknownKey) ×
+        SomeKeyIsUnknown (known_names names.now) (map tree_key_of order.now))) }
 {
     let mut keys = Vec::new(alloc);
     'keys: for key in order {

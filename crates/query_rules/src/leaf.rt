@@ -38,8 +38,11 @@ pub struct Typed {
 /// A column in sight (ISO/IEC 9075:1992, 6.4).
 pub fn column<'q>(clause: &Clause, reference: &'q ColumnReference) -> Result<Typed, BindFault<'q>>
     requires { InSight clause.now.database.now clause.now.scopes.now }
-    ensures ok { IfOk result (λ t. BindsLeaf clause.now.database.now clause.now.scopes.now (place_of clause.now.place) (Column (column_of reference.now)) (value_of t.value) (value_type_of t.value_type)) }
-    ensures refused { IfErr result (λ f. IfSome (bind_refusal f) (PartFaulty clause.now.database.now clause.now.scopes.now (place_of clause.now.place) (Column (column_of reference.now)))) }
+    ensures ok { IfOk result (λ t. BindsLeaf clause.now.database.now clause.now.scopes.now (place_of clause.now.place)
+        (Column (column_of reference.now)) (value_of t.value) (value_type_of t.value_type)) }
+    ensures refused { IfErr result (λ f. IfSome (bind_refusal f)
+        (PartFaulty clause.now.database.now clause.now.scopes.now (place_of clause.now.place)
+        (Column (column_of reference.now)))) }
 {
     match clause.scopes.resolve(reference) {
         Resolution::NotThere => Err(BindFault::Refused(QueryFault::NoColumn(reference))),
@@ -60,7 +63,8 @@ fn judge_place<'a>(
     reference: &'a ColumnReference,
 ) -> Result<(), QueryFault<'a>>
     ensures ok { OnOk result (MayStand (place_of place.entry) level (block_column_of column)) }
-    ensures refused { IfErr result (λ f. MayNotStand (place_of place.entry) level (block_column_of column) (query_refusal f)) }
+    ensures refused { IfErr result (λ f. MayNotStand (place_of place.entry) level (block_column_of column)
+        (query_refusal f)) }
 {
     match place {
         ClauseKind::Argument if level > 0 => Err(QueryFault::OuterInFunction(reference)),
@@ -107,8 +111,10 @@ fn found_column(level: usize, found: Found) -> Typed
 
 /// A number as it is written (ISO/IEC 9075:1992, 5.3; the limit is own).
 pub fn number(numeral: &Numeral) -> Result<Typed, QueryFault<'_>>
-    ensures ok { IfOk result (λ t. (db : Tables) (scopes : spec.Scopes) (place : judging.ClauseKind) → BindsLeaf db scopes place (numeral_of numeral.now) (value_of t.value) (value_type_of t.value_type)) }
-    ensures refused { IfErr result (λ f. (db : Tables) (scopes : spec.Scopes) (place : judging.ClauseKind) → PartFaulty db scopes place (numeral_of numeral.now) (query_refusal f)) }
+    ensures ok { IfOk result (λ t. (db : Tables) (scopes : spec.Scopes) (place : judging.ClauseKind) →
+        BindsLeaf db scopes place (numeral_of numeral.now) (value_of t.value) (value_type_of t.value_type)) }
+    ensures refused { IfErr result (λ f. (db : Tables) (scopes : spec.Scopes) (place : judging.ClauseKind) →
+        PartFaulty db scopes place (numeral_of numeral.now) (query_refusal f)) }
 {
     if numeral.scale > MAX_SCALE {
         return Err(QueryFault::GreatScale(numeral));
@@ -127,7 +133,8 @@ pub fn number(numeral: &Numeral) -> Result<Typed, QueryFault<'_>>
 
 /// A string (ISO/IEC 9075:1992, 5.3).
 pub fn string(alloc: Global, literal: &StringLiteral) -> Result<Typed, AllocError>
-    ensures { IfOk result (λ t. (db : Tables) (scopes : spec.Scopes) (place : judging.ClauseKind) → BindsLeaf db scopes place (String (text_of literal.now)) (value_of t.value) (value_type_of t.value_type)) }
+    ensures { IfOk result (λ t. (db : Tables) (scopes : spec.Scopes) (place : judging.ClauseKind) →
+        BindsLeaf db scopes place (String (text_of literal.now)) (value_of t.value) (value_type_of t.value_type)) }
 {
     Ok(Typed {
         value: ValueExpr::Text(String::from_str(alloc, literal.text.as_str())?),

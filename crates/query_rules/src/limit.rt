@@ -23,7 +23,8 @@ pub const MAX_CONJUNCTS: usize = 64;
 pub fn judge_limits<'a>(query: &'a Block, grouped: bool) -> Result<(), QueryFault<'a>>
     requires grouped { grouped ≡ true → IsGrouped (query_of query.now) }
     ensures ok { OnOk result (IsWithinLimits grouped (query_of query.now)) }
-    ensures refused { IfErr result (λ f. (db : Tables) (outer : spec.Scopes) → BlockFaulty db (record { outer = outer; block = query_of query.now }) (query_refusal f)) }
+    ensures refused { IfErr result (λ f. (db : Tables) (outer : spec.Scopes) →
+        BlockFaulty db (record { outer = outer; block = query_of query.now }) (query_refusal f)) }
 {
     match &query.list {
         SelectList::Asterisk { .. } if grouped => return Err(QueryFault::StarOfGroups(query)),

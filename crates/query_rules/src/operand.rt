@@ -78,9 +78,11 @@ pub fn are_logical(others: &[Operand]) -> bool
 pub fn joined_scale<'a>(left: u8, operand: &'a Operand, right: u8) -> Result<u8, QueryFault<'a>>
     requires left { left ≤ greatest_scale }
     requires right { right ≤ greatest_scale }
-    ensures ok { IfOk result (λ scale. joined_type (operator_of operand.now.operator) (Some (NumberType left)) (Some (NumberType right)) ≡ Some (NumberType scale)) }
+    ensures ok { IfOk result (λ scale. joined_type (operator_of operand.now.operator) (Some (NumberType left))
+        (Some (NumberType right)) ≡ Some (NumberType scale)) }
     ensures fine { IfOk result (λ scale. scale ≤ greatest_scale) }
-    ensures great { IfErr result (λ f. (scale : ℕ) × (joined_type (operator_of operand.now.operator) (Some (NumberType left)) (Some (NumberType right)) ≡ Some (NumberType scale)) × (greatest_scale < scale)) }
+    ensures great { IfErr result (λ f. (scale : ℕ) × (joined_type (operator_of operand.now.operator)
+        (Some (NumberType left)) (Some (NumberType right)) ≡ Some (NumberType scale)) × (greatest_scale < scale)) }
     ensures refused { IfErr result (λ f. query_refusal f ≡ refusal.ScaleTooGreat) }
 {
     match operator(operand.operator) {
@@ -100,7 +102,8 @@ pub fn function_type<'a>(
     expr: &'a Expr,
 ) -> Result<ValueType, QueryFault<'a>>
     requires { IsFine (value_type_of argument) }
-    ensures ok { IfOk result (λ t. types.function_type (function_of function) (Some (value_type_of argument)) ≡ Some (value_type_of t)) }
+    ensures ok { IfOk result (λ t. types.function_type (function_of function) (Some (value_type_of argument))
+        ≡ Some (value_type_of t)) }
     ensures fine { IfOk result (λ t. IsFine (value_type_of t)) }
     ensures numbers { OnOk result (WantsNumbers (function_of function) → type_kind (value_type_of argument) ≡ Numbers) }
     ensures text { IfErr result (λ f. WantsNumbers (function_of function) × (value_type_of argument ≡ TextType)) }

@@ -26,8 +26,10 @@ pub(crate) fn tables<'d, 'q: 'd>(
     sources: &'q [Source],
 ) -> Result<Vec<NamedTable<'d>>, SourceFault<'q>>
     ensures ok { IfOk result (λ scope. map named_of scope.items ≡ scope_of database.now (map source_of sources.now)) }
-    ensures distinct { OnOk result (AreDistinct (map (λ (t : spec.NamedTable). t.name) (scope_of database.now (map source_of sources.now)))) }
-    ensures refused { IfErr result (λ f. IfSome (source_refusal f) (SourcesFaulty database.now (map source_of sources.now))) }
+    ensures distinct { OnOk result (AreDistinct (map (λ (t : spec.NamedTable).
+        t.name) (scope_of database.now (map source_of sources.now)))) }
+    ensures refused { IfErr result (λ f. IfSome (source_refusal f)
+        (SourcesFaulty database.now (map source_of sources.now))) }
 {
     let mut scope: Vec<NamedTable> = Vec::new(alloc);
     'sources: for source in sources {
@@ -61,7 +63,8 @@ pub(crate) fn only_column<'a>(
     qualifier: Option<&str>,
     name: &str,
 ) -> Resolution<'a>
-    ensures { resolution_of result ≡ only_one level (with_name name.now (spec.columns_where (is_meant (option_copied qualifier.entry)) 0 (map named_of scope.now))) NotThere }
+    ensures { resolution_of result ≡ only_one level (with_name name.now
+        (spec.columns_where (is_meant (option_copied qualifier.entry)) 0 (map named_of scope.now))) NotThere }
 {
     let mut resolution = Resolution::NotThere;
     'tables: for (place, table) in scope.iter().enumerate() {

@@ -58,9 +58,11 @@ impl<'a> Scopes<'a> {
         ensures ok { IfOk result (λ s. s ≡ scope_of database.now (map source_of sources.now) ∷ self.now) }
         ensures there { OnOk result (IsTrue (are_there (scope_of database.now (map source_of sources.now) ∷ []))) }
         ensures all_there { IfOk result (λ s. IsTrue (are_there s)) }
-        ensures distinct { OnOk result (AreDistinct (map (λ (t : spec.NamedTable). t.name) (scope_of database.now (map source_of sources.now)))) }
+        ensures distinct { OnOk result (AreDistinct (map (λ (t : spec.NamedTable).
+            t.name) (scope_of database.now (map source_of sources.now)))) }
         ensures few { OnOk result (length sources.now ≤ most_from_tables) }
-        ensures refused { IfErr result (λ f. IfSome (source_refusal f) (SourcesFaulty database.now (map source_of sources.now))) }
+        ensures refused { IfErr result (λ f. IfSome (source_refusal f)
+            (SourcesFaulty database.now (map source_of sources.now))) }
     {
         if sources.len() > MAX_FROM_TABLES {
             return Err(SourceFault::ManyTables {
@@ -132,7 +134,8 @@ impl<'a> Scopes<'a> {
 
     /// The numbers of the block's own tables in the database.
     pub fn own_tables(&self, alloc: Global) -> Result<Vec<usize>, AllocError>
-        ensures { IfOk result (λ numbers. numbers.items ≡ map (λ (t : spec.NamedTable). t.number) (own_scope self.now)) }
+        ensures { IfOk result (λ numbers. numbers.items
+            ≡ map (λ (t : spec.NamedTable). t.number) (own_scope self.now)) }
     {
         match self.scopes.first() {
             Some(own) => own.iter().map(|table| table.number).collect(alloc),

@@ -16,7 +16,8 @@ pub(crate) fn push_columns<'a>(
     place: usize,
     table: &'a Table,
 ) -> Result<(), AllocError>
-    ensures { OnOk result (map found_of columns.new.items ≡ map found_of columns.old.items ++ table_columns place 0 table.now.columns) }
+    ensures { OnOk result (map found_of columns.new.items
+        ≡ map found_of columns.old.items ++ table_columns place 0 table.now.columns) }
 {
     'columns: for number in 0..table.width() {
         columns.push(found(place, table, number))?;
@@ -32,7 +33,8 @@ pub(crate) fn with_columns<'a>(
     table: &'a Table,
     name: &str,
 ) -> Resolution<'a>
-    ensures { resolution_of result ≡ with_all level (resolution_of resolution.entry) (with_name name.now (table_columns place 0 table.now.columns)) }
+    ensures { resolution_of result ≡ with_all level (resolution_of resolution.entry)
+        (with_name name.now (table_columns place 0 table.now.columns)) }
 {
     'columns: for number in 0..table.width() {
         let column = found(place, table, number);

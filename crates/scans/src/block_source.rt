@@ -110,7 +110,8 @@ impl<'a> BlockSource<'a> {
 
     /// The value of a row, by its number, in a column. Where there is none, it is null (own).
     pub fn cell(&self, column: BlockColumn, row: usize) -> Value<'_>
-        ensures { value_of result ≡ get_or (get_or (rows_in self.now.database (block_in self.now) column.table) row []) column.number Null }
+        ensures { value_of result ≡ get_or (get_or (rows_in self.now.database (block_in self.now) column.table) row
+            []) column.number Null }
     {
         if column.table >= self.table_count() {
             return Value::Null;

@@ -18,7 +18,8 @@ pub fn create_table<'a>(
     name: &'a Name,
     columns: &'a [ColumnDefinition],
 ) -> Result<Printed<'a>, StepFault>
-    ensures changes { IfOk result (Changes database.old (tree.CreateTable (name_of name.now) (definitions_of columns.now)) database.new) }
+    ensures changes { IfOk result (Changes database.old
+        (tree.CreateTable (name_of name.now) (definitions_of columns.now)) database.new) }
     ensures kept { OnErr result (database.new ≡ database.old) }
     ensures memory { IfErr result (λ f. f ≡ fault.Memory) }
 {
@@ -42,7 +43,8 @@ pub fn create_index<'a>(
     table: &'a Name,
     columns: &'a [Name],
 ) -> Result<Printed<'a>, StepFault>
-    ensures changes { IfOk result (Changes database.old (tree.CreateIndex unique (name_of table.now) (map name_of columns.now)) database.new) }
+    ensures changes { IfOk result (Changes database.old
+        (tree.CreateIndex unique (name_of table.now) (map name_of columns.now)) database.new) }
     ensures kept { OnErr result (database.new ≡ database.old) }
     ensures memory { IfErr result (λ f. f ≡ fault.Memory) }
 {
@@ -63,7 +65,8 @@ pub fn set_table_statistics<'a>(
     rows: Count,
     pages: Count,
 ) -> Result<Printed<'a>, StepFault>
-    ensures changes { IfOk result (Changes database.old (tree.SetTableStatistics (name_of table.now) rows.units pages.units) database.new) }
+    ensures changes { IfOk result (Changes database.old
+        (tree.SetTableStatistics (name_of table.now) rows.units pages.units) database.new) }
     ensures kept { OnErr result (database.new ≡ database.old) }
     ensures memory { IfErr result (λ f. f ≡ fault.Memory) }
 {
@@ -89,7 +92,9 @@ pub fn set_index_statistics<'a>(
     columns: &'a [Name],
     statistics: &'a IndexStatistics,
 ) -> Result<Printed<'a>, StepFault>
-    ensures changes { IfOk result (Changes database.old (tree.SetIndexStatistics (name_of table.now) (map name_of columns.now) (statistics_of statistics.now)) database.new) }
+    ensures changes { IfOk result (Changes database.old
+        (tree.SetIndexStatistics (name_of table.now) (map name_of columns.now) (statistics_of statistics.now))
+        database.new) }
     ensures kept { OnErr result (database.new ≡ database.old) }
     ensures memory { IfErr result (λ f. f ≡ fault.Memory) }
 {

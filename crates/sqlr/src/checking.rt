@@ -33,8 +33,10 @@ impl<L: Library> Session<L> {
         certificates: &[u8],
         sink: &mut S,
     ) -> Result<Ended, RunFault>
-        ensures checks { IfOk result (Checks L.answers self.old script.now certificates.now self.new (S.taken sink.old) (S.taken sink.new)) }
-        ensures breaks { IfErr result (BreaksChecking L.answers L.fails self.old script.now certificates.now self.new (S.taken sink.old) (S.taken sink.new)) }
+        ensures checks { IfOk result (Checks L.answers self.old script.now certificates.now self.new
+            (S.taken sink.old) (S.taken sink.new)) }
+        ensures breaks { IfErr result (BreaksChecking L.answers L.fails self.old script.now certificates.now self.new
+            (S.taken sink.old) (S.taken sink.new)) }
         ensures library { IsLibraryBlamed (L.failures self.old.library) (L.failures self.new.library) result }
         ensures sink { IsSinkBlamed (S.failures sink.old) (S.failures sink.new) result }
     {
@@ -54,8 +56,12 @@ impl<L: Library> Session<L> {
         certificates: &[u8],
         sink: &mut S,
     ) -> Result<Ended, RunFault>
-        ensures checks { (script : List ℕ) → AreStatements script (statements_of statements.now) → IfOk result (Checks L.answers self.old script certificates.now self.new (S.taken sink.old) (S.taken sink.new)) }
-        ensures breaks { (script : List ℕ) → AreStatements script (statements_of statements.now) → IfErr result (BreaksChecking L.answers L.fails self.old script certificates.now self.new (S.taken sink.old) (S.taken sink.new)) }
+        ensures checks { (script : List ℕ) → AreStatements script (statements_of statements.now) →
+            IfOk result (Checks L.answers self.old script certificates.now self.new (S.taken sink.old)
+            (S.taken sink.new)) }
+        ensures breaks { (script : List ℕ) → AreStatements script (statements_of statements.now) →
+            IfErr result (BreaksChecking L.answers L.fails self.old script certificates.now self.new
+            (S.taken sink.old) (S.taken sink.new)) }
         ensures library { IsLibraryBlamed (L.failures self.old.library) (L.failures self.new.library) result }
         ensures sink { IsSinkBlamed (S.failures sink.old) (S.failures sink.new) result }
     {
@@ -72,7 +78,8 @@ impl<L: Library> Session<L> {
     /// The statements before the last: what the first of them prints that is refused, if one is.
     fn prepare<'a>(&mut self, statements: &'a [Statement]) -> Result<Option<Printed<'a>>, RunFault>
         ensures prepared { IfOk result (ArePrepared L.answers self.old (statements_of statements.entry.now) self.new) }
-        ensures breaks { IfErr result (BreaksPreparing L.answers L.fails self.old (statements_of statements.entry.now) self.new) }
+        ensures breaks { IfErr result (BreaksPreparing L.answers L.fails self.old (statements_of statements.entry.now)
+            self.new) }
         ensures apart { IfErr result (λ f. f ≢ fault.Sink) }
         ensures library { IsLibraryBlamed (L.failures self.old.library) (L.failures self.new.library) result }
     {
@@ -94,7 +101,8 @@ impl<L: Library> Session<L> {
         statement: &'a Statement,
     ) -> Result<Option<Printed<'a>>, StepFault>
         ensures prepared { IfOk result (IsPrepared L.answers self.old (statement_of statement.entry.now) self.new) }
-        ensures breaks { IfErr result (BreaksPrepared L.answers L.fails self.old (statement_of statement.entry.now) self.new) }
+        ensures breaks { IfErr result (BreaksPrepared L.answers L.fails self.old (statement_of statement.entry.now)
+            self.new) }
         ensures blamed { IsStepBlamed (L.failures self.old.library) (L.failures self.new.library) result }
     {
         if query_of(statement).is_some() {
@@ -113,8 +121,10 @@ impl<L: Library> Session<L> {
         certificates: &[u8],
         sink: &mut S,
     ) -> Result<Ended, RunFault>
-        ensures checks { IfOk result (ChecksLast self.now.database (statement_of last.now) certificates.now (S.taken sink.old) (S.taken sink.new)) }
-        ensures breaks { IfErr result (BreaksLast self.now.database (statement_of last.now) certificates.now (S.taken sink.old) (S.taken sink.new)) }
+        ensures checks { IfOk result (ChecksLast self.now.database (statement_of last.now) certificates.now
+            (S.taken sink.old) (S.taken sink.new)) }
+        ensures breaks { IfErr result (BreaksLast self.now.database (statement_of last.now) certificates.now
+            (S.taken sink.old) (S.taken sink.new)) }
         ensures sink { IsSinkBlamed (S.failures sink.old) (S.failures sink.new) result }
     {
         // A look at the tables tells what holds of a database.

@@ -80,7 +80,8 @@ impl<L: Library> Session<L> {
     /// beginning of that text was printed.
     pub fn run<S: Sink>(&mut self, script: &str, sink: &mut S) -> Result<Ended, RunFault>
         ensures runs { IfOk result (Runs L.answers self.old script.now self.new (S.taken sink.old) (S.taken sink.new)) }
-        ensures breaks { IfErr result (BreaksOff L.answers L.fails self.old script.now self.new (S.taken sink.old) (S.taken sink.new)) }
+        ensures breaks { IfErr result (BreaksOff L.answers L.fails self.old script.now self.new (S.taken sink.old)
+            (S.taken sink.new)) }
         ensures library { IsLibraryBlamed (L.failures self.old.library) (L.failures self.new.library) result }
         ensures sink { IsSinkBlamed (S.failures sink.old) (S.failures sink.new) result }
     {
@@ -101,8 +102,10 @@ impl<L: Library> Session<L> {
         offset: usize,
         sink: &mut S,
     ) -> Result<Ended, RunFault>
-        ensures prints { IfOk result (Prints (fault_text (refusal_of refusal) offset) (S.taken sink.old) (S.taken sink.new)) }
-        ensures breaks { IfErr result (BreaksLine (fault_text (refusal_of refusal) offset) (S.taken sink.old) (S.taken sink.new)) }
+        ensures prints { IfOk result (Prints (fault_text (refusal_of refusal) offset) (S.taken sink.old)
+            (S.taken sink.new)) }
+        ensures breaks { IfErr result (BreaksLine (fault_text (refusal_of refusal) offset) (S.taken sink.old)
+            (S.taken sink.new)) }
         ensures blamed { IsSinkBlamed (S.failures sink.old) (S.failures sink.new) result }
     {
         let mut text = Vec::new(self.alloc);
@@ -120,8 +123,10 @@ impl<L: Library> Session<L> {
         statements: &[Statement],
         sink: &mut S,
     ) -> Result<Ended, RunFault>
-        ensures runs { IfOk result (RunsAll L.answers self.old (statements_of statements.now) self.new (S.taken sink.old) (S.taken sink.new)) }
-        ensures breaks { IfErr result (BreaksIn L.answers L.fails self.old (statements_of statements.now) self.new (S.taken sink.old) (S.taken sink.new)) }
+        ensures runs { IfOk result (RunsAll L.answers self.old (statements_of statements.now) self.new
+            (S.taken sink.old) (S.taken sink.new)) }
+        ensures breaks { IfErr result (BreaksIn L.answers L.fails self.old (statements_of statements.now) self.new
+            (S.taken sink.old) (S.taken sink.new)) }
         ensures library { IsLibraryBlamed (L.failures self.old.library) (L.failures self.new.library) result }
         ensures sink { IsSinkBlamed (S.failures sink.old) (S.failures sink.new) result }
     {
@@ -176,7 +181,8 @@ impl<L: Library> Session<L> {
 
     fn query<'a>(&mut self, query: &'a Select) -> Result<Printed<'a>, StepFault>
         ensures takes { IfOk result (Takes L.answers self.old (tree.Query (select_of query.now)) self.new) }
-        ensures breaks { IfErr result (BreaksAt L.answers L.fails self.old (tree.Query (select_of query.now)) self.new) }
+        ensures breaks { IfErr result (BreaksAt L.answers L.fails self.old (tree.Query (select_of query.now))
+            self.new) }
         ensures blamed { IsStepBlamed (L.failures self.old.library) (L.failures self.new.library) result }
     {
         let printed = select(self.alloc, &self.database, query)?;
@@ -189,8 +195,10 @@ impl<L: Library> Session<L> {
         table: &'a Name,
         file: &'a StringLiteral,
     ) -> Result<Printed<'a>, StepFault>
-        ensures takes { IfOk result (Takes L.answers self.old (tree.Load (name_of table.now) (text_of file.now)) self.new) }
-        ensures breaks { IfErr result (BreaksAt L.answers L.fails self.old (tree.Load (name_of table.now) (text_of file.now)) self.new) }
+        ensures takes { IfOk result (Takes L.answers self.old (tree.Load (name_of table.now) (text_of file.now))
+            self.new) }
+        ensures breaks { IfErr result (BreaksAt L.answers L.fails self.old
+            (tree.Load (name_of table.now) (text_of file.now)) self.new) }
         ensures blamed { IsStepBlamed (L.failures self.old.library) (L.failures self.new.library) result }
     {
         if self.database.table(table.text.as_str()).is_none() {
@@ -207,7 +215,8 @@ impl<L: Library> Session<L> {
     /// Loads the bytes of a file into a table that is there.
     fn load_bytes<'a>(&mut self, load: FileLoad<'a>) -> Result<Printed<'a>, StepFault>
         requires { table_named self.old.database (name_of load.table.now) ≢ None }
-        ensures takes { IfOk result (TakesBytes self.old.database (name_of load.entry.table.now) load.entry.bytes.items self.new.database) }
+        ensures takes { IfOk result (TakesBytes self.old.database (name_of load.entry.table.now)
+            load.entry.bytes.items self.new.database) }
         ensures kept { OnErr result (self.new.database ≡ self.old.database) }
         ensures memory { IfErr result (λ f. f ≡ fault.Memory) }
         ensures library { self.new.library ≡ self.old.library }

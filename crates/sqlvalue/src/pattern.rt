@@ -57,7 +57,8 @@ fn is_any_run(pattern: &[u8], place: usize) -> bool
 
 /// Whether what stands at a place stands for this one character.
 fn is_one(pattern: &[u8], place: usize, character: u8) -> bool
-    ensures { result ≡ (nat_lt place (length pattern.now) && ((slice_index_or pattern.now place 0 == 95) || (slice_index_or pattern.now place 0 == character))) }
+    ensures { result ≡ (nat_lt place (length pattern.now) &&
+        ((slice_index_or pattern.now place 0 == 95) || (slice_index_or pattern.now place 0 == character))) }
 {
     match pattern.get(place) {
         Some(p) => *p == b'_' || *p == character,

@@ -35,7 +35,8 @@ pub trait Element: Drop {
 
 /// `element { "," element }`.
 pub fn comma_list<T: Element>(cursor: &mut Cursor) -> Result<Vec<T>, ParseStop>
-    ensures reads { ParsesFlat (ListOf T.rule) cursor.old cursor.new (viewed (λ (xs : _). map T.tree_of xs.items) result) }
+    ensures reads { ParsesFlat (ListOf T.rule) cursor.old cursor.new (viewed (λ (xs : _).
+        map T.tree_of xs.items) result) }
     ensures some { IfOk result (λ xs. 0 < length xs.items) }
     ensures placed { IfOk result (λ xs. Stands cursor.old cursor.new (all T.leaves xs.items)) }
 {

@@ -89,7 +89,8 @@ fn test(cursor: &mut Cursor, levels: u8) -> Result<Expr, ParseStop>
 /// What stands behind a value.
 #[cycle(expressions)]
 fn tail(cursor: &mut Cursor, value: Expr, levels: u8) -> Result<Expr, ParseStop>
-    ensures reads { Parses (λ m. grammar.TailOf (within m) (expr_of value)) levels cursor.old cursor.new (viewed expr_of result) }
+    ensures reads { Parses (λ m. grammar.TailOf (within m) (expr_of value)) levels cursor.old cursor.new
+        (viewed expr_of result) }
     ensures placed { IfOk result (λ expr. GoesOn (expr_leaves value) cursor.old cursor.new (expr_leaves expr)) }
 {
     let start = cursor.start();
@@ -113,8 +114,10 @@ fn compared(
     value: Expr,
     levels: u8,
 ) -> Result<Expr, ParseStop>
-    ensures reads { Parses (λ m. grammar.ComparedOf (within m) (op_of op) (expr_of value)) levels cursor.old cursor.new (viewed expr_of result) }
-    ensures placed { IfOk result (λ expr. GoesOn (expr_leaves value ++ one (op_leaf (op_of op)) start) cursor.old cursor.new (expr_leaves expr)) }
+    ensures reads { Parses (λ m. grammar.ComparedOf (within m) (op_of op) (expr_of value)) levels cursor.old
+        cursor.new (viewed expr_of result) }
+    ensures placed { IfOk result (λ expr. GoesOn (expr_leaves value ++ one (op_leaf (op_of op)) start) cursor.old
+        cursor.new (expr_leaves expr)) }
 {
     let left = Box::new(cursor.alloc, value)?;
     let Some(quantifier) = cursor.take_quantifier() else {
@@ -142,7 +145,8 @@ fn compared(
 /// `[ NOT ] NULL` behind IS (ISO/IEC 9075:1992, 8.6).
 fn null_test(cursor: &mut Cursor, start: usize, value: Expr) -> Result<Expr, ParseStop>
     ensures reads { ParsesFlat (grammar.NullOf (expr_of value)) cursor.old cursor.new (viewed expr_of result) }
-    ensures placed { IfOk result (λ expr. GoesOn (expr_leaves value ++ one (leaf.Reserved words.Is) start) cursor.old cursor.new (expr_leaves expr)) }
+    ensures placed { IfOk result (λ expr. GoesOn (expr_leaves value ++ one (leaf.Reserved words.Is) start) cursor.old
+        cursor.new (expr_leaves expr)) }
 {
     let negated = cursor.eat_word(Word::Not);
     cursor.expect_word(Word::Null)?;
@@ -157,7 +161,8 @@ fn null_test(cursor: &mut Cursor, start: usize, value: Expr) -> Result<Expr, Par
 /// `BETWEEN .. | LIKE .. | IN ..`; or, but not behind NOT, nothing.
 #[cycle(expressions)]
 fn predicate(cursor: &mut Cursor, negated: bool, value: Expr, levels: u8) -> Result<Expr, ParseStop>
-    ensures reads { Parses (λ m. grammar.PredicateOf (within m) negated (expr_of value)) levels cursor.old cursor.new (viewed expr_of result) }
+    ensures reads { Parses (λ m. grammar.PredicateOf (within m) negated (expr_of value)) levels cursor.old cursor.new
+        (viewed expr_of result) }
     ensures placed { IfOk result (λ expr. GoesOn (expr_leaves value) cursor.old cursor.new (expr_leaves expr)) }
 {
     let start = cursor.start();
@@ -197,8 +202,10 @@ fn between(
     value: Expr,
     levels: u8,
 ) -> Result<Expr, ParseStop>
-    ensures reads { Parses (λ m. grammar.BetweenOf (within m) negated (expr_of value)) levels cursor.old cursor.new (viewed expr_of result) }
-    ensures placed { IfOk result (λ expr. GoesOn (expr_leaves value ++ one (leaf.Reserved words.Between) start) cursor.old cursor.new (expr_leaves expr)) }
+    ensures reads { Parses (λ m. grammar.BetweenOf (within m) negated (expr_of value)) levels cursor.old cursor.new
+        (viewed expr_of result) }
+    ensures placed { IfOk result (λ expr. GoesOn (expr_leaves value ++ one (leaf.Reserved words.Between) start)
+        cursor.old cursor.new (expr_leaves expr)) }
 {
     let low = line(cursor, LineKind::Sum, levels)?;
     cursor.expect_word(Word::And)?;
@@ -218,7 +225,8 @@ fn between(
 /// The pattern behind LIKE (ISO/IEC 9075:1992, 8.5).
 fn like(cursor: &mut Cursor, start: usize, negated: bool, value: Expr) -> Result<Expr, ParseStop>
     ensures reads { ParsesFlat (grammar.LikeOf negated (expr_of value)) cursor.old cursor.new (viewed expr_of result) }
-    ensures placed { IfOk result (λ expr. GoesOn (expr_leaves value ++ one (leaf.Reserved words.Like) start) cursor.old cursor.new (expr_leaves expr)) }
+    ensures placed { IfOk result (λ expr. GoesOn (expr_leaves value ++ one (leaf.Reserved words.Like) start)
+        cursor.old cursor.new (expr_leaves expr)) }
 {
     let pattern = cursor.string()?;
     let value = Box::new(cursor.alloc, value)?;
@@ -239,8 +247,10 @@ fn in_list(
     value: Expr,
     levels: u8,
 ) -> Result<Expr, ParseStop>
-    ensures reads { Parses (λ m. grammar.InListOf (within m) negated (expr_of value)) levels cursor.old cursor.new (viewed expr_of result) }
-    ensures placed { IfOk result (λ expr. GoesOn (expr_leaves value ++ one (leaf.Reserved words.In) start) cursor.old cursor.new (expr_leaves expr)) }
+    ensures reads { Parses (λ m. grammar.InListOf (within m) negated (expr_of value)) levels cursor.old cursor.new
+        (viewed expr_of result) }
+    ensures placed { IfOk result (λ expr. GoesOn (expr_leaves value ++ one (leaf.Reserved words.In) start) cursor.old
+        cursor.new (expr_leaves expr)) }
 {
     let value = Box::new(cursor.alloc, value)?;
     if cursor.sees_word(Word::Select) {
@@ -265,7 +275,8 @@ fn in_list(
 /// `member { "," member }`.
 #[cycle(expressions)]
 fn members(cursor: &mut Cursor, levels: u8) -> Result<Vec<Option<Expr>>, ParseStop>
-    ensures reads { Parses (λ m. grammar.ListOf (grammar.MemberOf (within m))) levels cursor.old cursor.new (viewed (λ (xs : _). map member_of xs.items) result) }
+    ensures reads { Parses (λ m. grammar.ListOf (grammar.MemberOf (within m))) levels cursor.old cursor.new
+        (viewed (λ (xs : _). map member_of xs.items) result) }
     ensures placed { IfOk result (λ xs. Stands cursor.old cursor.new (all (if_there expr_leaves) xs.items)) }
 {
     let mut members = Vec::new(cursor.alloc);
@@ -337,7 +348,8 @@ fn primary(cursor: &mut Cursor, levels: u8) -> Result<Expr, ParseStop>
 /// EXISTS, a parenthesis or a column.
 #[cycle(expressions)]
 fn other_primary(cursor: &mut Cursor, levels: u8) -> Result<Expr, ParseStop>
-    ensures reads { Parses (λ m. grammar.OtherPrimaryOf (within m)) levels cursor.old cursor.new (viewed expr_of result) }
+    ensures reads { Parses (λ m. grammar.OtherPrimaryOf (within m)) levels cursor.old cursor.new
+        (viewed expr_of result) }
     ensures placed { IfOk result (λ expr. Stands cursor.old cursor.new (expr_leaves expr)) }
 {
     let start = cursor.start();
@@ -363,8 +375,10 @@ fn argument(
     function: SetFunction,
     levels: u8,
 ) -> Result<Expr, ParseStop>
-    ensures reads { Parses (λ m. grammar.ArgumentOf (within m) (function_of function)) levels cursor.old cursor.new (viewed expr_of result) }
-    ensures placed { IfOk result (λ expr. GoesOn (one (function_leaf (function_of function)) start) cursor.old cursor.new (expr_leaves expr)) }
+    ensures reads { Parses (λ m. grammar.ArgumentOf (within m) (function_of function)) levels cursor.old cursor.new
+        (viewed expr_of result) }
+    ensures placed { IfOk result (λ expr. GoesOn (one (function_leaf (function_of function)) start) cursor.old
+        cursor.new (expr_leaves expr)) }
 {
     if eat_asterisk(cursor, function) {
         cursor.expect_symbol(Symbol::CloseParen)?;
@@ -395,8 +409,10 @@ fn eat_asterisk(cursor: &mut Cursor, function: SetFunction) -> bool
 /// What stands behind `(`, with the parenthesis that closes it (ISO/IEC 9075:1992, 6.11 and 7.11).
 #[cycle(expressions)]
 fn parenthesis(cursor: &mut Cursor, start: usize, levels: u8) -> Result<Expr, ParseStop>
-    ensures reads { Parses (λ m. grammar.ParenthesisOf (within m)) levels cursor.old cursor.new (viewed expr_of result) }
-    ensures placed { IfOk result (λ expr. (from : Place) → Stands from cursor.old [] → Stands from cursor.old (one (leaf.Mark OpenParen) start) → Stands from cursor.new (expr_leaves expr)) }
+    ensures reads { Parses (λ m. grammar.ParenthesisOf (within m)) levels cursor.old cursor.new
+        (viewed expr_of result) }
+    ensures placed { IfOk result (λ expr. (from : Place) → Stands from cursor.old [] →
+        Stands from cursor.old (one (leaf.Mark OpenParen) start) → Stands from cursor.new (expr_leaves expr)) }
 {
     if cursor.sees_word(Word::Select) {
         let query = subquery(cursor, levels)?;
@@ -410,7 +426,8 @@ fn parenthesis(cursor: &mut Cursor, start: usize, levels: u8) -> Result<Expr, Pa
 /// A query block, and the parenthesis that closes it (ISO/IEC 9075:1992, 7.11).
 #[cycle(expressions)]
 fn subquery(cursor: &mut Cursor, levels: u8) -> Result<Box<Block>, ParseStop>
-    ensures reads { Parses (λ m. grammar.SubqueryOf (within m)) levels cursor.old cursor.new (viewed (λ (b : _). block_of b.value) result) }
+    ensures reads { Parses (λ m. grammar.SubqueryOf (within m)) levels cursor.old cursor.new (viewed (λ (b : _).
+        block_of b.value) result) }
     ensures placed { IfOk result (λ query. Stands cursor.old cursor.new (block_leaves query.value)) }
 {
     let query = query::block(cursor, levels)?;

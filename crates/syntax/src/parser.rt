@@ -23,7 +23,8 @@ pub const MAX_LEVELS: u8 = 64;
 /// operator where its token stands; `end` is the script's length in bytes.
 pub fn parse(alloc: Global, tokens: &[Token], end: usize) -> Result<Vec<Statement>, SyntaxFault>
     ensures derived { IfOk result (λ statements. Derives (kinds_of tokens.now) (statements_of statements.items)) }
-    ensures placed { IfOk result (λ statements. StandIn (all statement_leaves statements.items) (tokens_of tokens.now)) }
+    ensures placed { IfOk result (λ statements. StandIn (all statement_leaves statements.items)
+        (tokens_of tokens.now)) }
     ensures fault { IfErr result (IsSyntaxFault (tokens_of tokens.now) end) }
 {
     let mut cursor = Cursor::new(alloc, tokens, None);

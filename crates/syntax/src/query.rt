@@ -73,7 +73,8 @@ fn select_list(cursor: &mut Cursor, levels: u8) -> Result<SelectList, ParseStop>
 
 #[cycle(expressions)]
 fn items(cursor: &mut Cursor, levels: u8) -> Result<Vec<Item>, ParseStop>
-    ensures reads { Parses (λ m. grammar.ListOf (grammar.ItemOf (within m))) levels cursor.old cursor.new (viewed (λ (xs : _). map item_of xs.items) result) }
+    ensures reads { Parses (λ m. grammar.ListOf (grammar.ItemOf (within m))) levels cursor.old cursor.new
+        (viewed (λ (xs : _). map item_of xs.items) result) }
     ensures placed { IfOk result (λ xs. Stands cursor.old cursor.new (all item_leaves xs.items)) }
 {
     let mut items = Vec::new(cursor.alloc);
@@ -102,7 +103,8 @@ fn item(cursor: &mut Cursor, levels: u8) -> Result<Item, ParseStop>
 
 /// `[ AS name ]`.
 fn alias(cursor: &mut Cursor) -> Result<Option<Name>, ParseStop>
-    ensures reads { ParsesFlat (grammar.Optional (Reserved spec.As) grammar.NameAt) cursor.old cursor.new (viewed (option_map name_of) result) }
+    ensures reads { ParsesFlat (grammar.Optional (Reserved spec.As) grammar.NameAt) cursor.old cursor.new
+        (viewed (option_map name_of) result) }
     ensures placed { IfOk result (λ alias. Stands cursor.old cursor.new (if_there name_leaves alias)) }
 {
     if !cursor.eat_word(Word::As) {
@@ -115,8 +117,10 @@ fn alias(cursor: &mut Cursor) -> Result<Option<Name>, ParseStop>
 /// `[ word expr ]`, the word being WHERE or HAVING (ISO/IEC 9075:1992, 7.6 and 7.8).
 #[cycle(expressions)]
 fn condition_behind(cursor: &mut Cursor, word: Word, levels: u8) -> Result<Option<Expr>, ParseStop>
-    ensures reads { Parses (λ m. grammar.ConditionOf (within m) (word_of word)) levels cursor.old cursor.new (viewed condition_of result) }
-    ensures placed { has_leaf (leaf.Reserved (word_of word)) ≡ false → IfOk result (λ condition. Stands cursor.old cursor.new (if_there expr_leaves condition)) }
+    ensures reads { Parses (λ m. grammar.ConditionOf (within m) (word_of word)) levels cursor.old cursor.new
+        (viewed condition_of result) }
+    ensures placed { has_leaf (leaf.Reserved (word_of word)) ≡ false →
+        IfOk result (λ condition. Stands cursor.old cursor.new (if_there expr_leaves condition)) }
 {
     if !cursor.eat_word(word) {
         return Ok(None);
@@ -127,7 +131,8 @@ fn condition_behind(cursor: &mut Cursor, word: Word, levels: u8) -> Result<Optio
 
 /// `[ GROUP BY column { "," column } ]` (ISO/IEC 9075:1992, 7.7).
 fn groups(cursor: &mut Cursor) -> Result<Vec<ColumnReference>, ParseStop>
-    ensures reads { ParsesFlat grammar.GroupsAt cursor.old cursor.new (viewed (λ (xs : _). map column_of xs.items) result) }
+    ensures reads { ParsesFlat grammar.GroupsAt cursor.old cursor.new (viewed (λ (xs : _).
+        map column_of xs.items) result) }
     ensures placed { IfOk result (λ xs. Stands cursor.old cursor.new (all reference_leaves xs.items)) }
 {
     if !cursor.eat_word(Word::Group) {

@@ -17,7 +17,8 @@ use sqlvalue::DeclaredType;
 use syntax_cursor::{Cursor, ParseStop, TokenClass, TypeWord};
 
 pub fn statement(cursor: &mut Cursor, levels: u8) -> Result<Statement, ParseStop>
-    ensures reads { Parses (λ m. grammar.StatementOf (within m)) levels cursor.old cursor.new (viewed statement_of result) }
+    ensures reads { Parses (λ m. grammar.StatementOf (within m)) levels cursor.old cursor.new
+        (viewed statement_of result) }
     ensures placed { IfOk result (λ statement. Stands cursor.old cursor.new (statement_leaves statement)) }
 {
     if cursor.eat_word(Word::Create) {
@@ -78,7 +79,8 @@ fn create_index(cursor: &mut Cursor) -> Result<Statement, ParseStop>
 
 /// `"(" name { "," name } ")"`.
 fn names(cursor: &mut Cursor) -> Result<Vec<Name>, ParseStop>
-    ensures reads { ParsesFlat grammar.NamesAt cursor.old cursor.new (viewed (λ (xs : _). map name_of xs.items) result) }
+    ensures reads { ParsesFlat grammar.NamesAt cursor.old cursor.new (viewed (λ (xs : _).
+        map name_of xs.items) result) }
     ensures placed { IfOk result (λ xs. Stands cursor.old cursor.new (all name_leaves xs.items)) }
 {
     cursor.expect_symbol(Symbol::OpenParen)?;

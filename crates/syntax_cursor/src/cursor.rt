@@ -70,7 +70,8 @@ impl<'t, 's> Cursor<'t, 's> {
     /// The token that stands here, where a rule looks for a class of tokens.
     pub fn look(&mut self, class: TokenClass) -> Option<&'t Token<'s>>
         ensures same { self.new ≡ self.old }
-        ensures token { IfSome result (λ token. slice_get self.old.tokens self.old.at ≡ Some (kind_of token.now.text.now token.now.kind)) }
+        ensures token { IfSome result (λ token. slice_get self.old.tokens self.old.at
+            ≡ Some (kind_of token.now.text.now token.now.kind)) }
         ensures end { IfNone result (slice_get self.old.tokens self.old.at ≡ None) }
         ensures inside { OnSome result (self.old.at < length self.old.tokens) }
         ensures start { IfSome result (λ token. token.now.start ≡ start_at self.old) }

@@ -103,7 +103,8 @@ fn class_of(kind: LineKind) -> TokenClass {
 }
 
 fn line_operator(kind: LineKind, token: TokenKind) -> Option<LineOperator>
-    ensures { (text : _) → grammar.operator_in (line_kind kind) (Some (kind_of text token)) ≡ option_map operator_of result }
+    ensures { (text : _) → grammar.operator_in (line_kind kind) (Some (kind_of text token))
+        ≡ option_map operator_of result }
 {
     match (kind, token) {
         (LineKind::Disjunction, TokenKind::Reserved(Word::Or)) => Some(LineOperator::Or),

@@ -58,7 +58,8 @@ pub fn check<B: Library>(
     part: Part,
     certificates: &[u8],
 ) -> Ran
-    ensures { IsCheck B.answers B.fails session.old part.entry.script.now certificates.now session.new tape.items result }
+    ensures { IsCheck B.answers B.fails session.old part.entry.script.now certificates.now session.new tape.items
+        result }
 {
     check_on_tape::<Brand, B>(alloc, session, tape, part, certificates, Blank::new(1))
 }
@@ -107,7 +108,8 @@ fn check_on_tape<L: Ledger, B: Library>(
     requires name { puts.name ≡ L.name }
     requires parts { puts.parts ≡ L.parts }
     requires some { 0 < puts.parts }
-    ensures check { IsCheck B.answers B.fails session.old part.entry.script.now certificates.now session.new tape.items result }
+    ensures check { IsCheck B.answers B.fails session.old part.entry.script.now certificates.now session.new
+        tape.items result }
 {
     let (book, share) = puts.open::<L>();
     let mut tape = Tape {

@@ -64,7 +64,8 @@ fn joined(
 }
 
 fn equal(left: ValueExpr, right: ValueExpr) -> Condition
-    ensures { AreFew (tables_named (value_of left)) → AreFew (tables_named (value_of right)) → NamesFew (condition_of result) }
+    ensures { AreFew (tables_named (value_of left)) → AreFew (tables_named (value_of right)) →
+        NamesFew (condition_of result) }
 {
     Condition::Compare {
         op: ComparisonOperator::Equals,
@@ -80,7 +81,8 @@ fn exists() -> Condition
 }
 
 fn both(alloc: Global, left: Condition, right: Condition) -> Result<Condition, AllocError>
-    ensures { NamesFew (condition_of left) → NamesFew (condition_of right) → IfOk result (λ c. NamesFew (condition_of c)) }
+    ensures { NamesFew (condition_of left) → NamesFew (condition_of right) →
+        IfOk result (λ c. NamesFew (condition_of c)) }
 {
     let mut parts = Vec::new(alloc);
     parts.push(left)?;

@@ -70,7 +70,8 @@ impl SortBuffer {
     pub(crate) fn push(&mut self, members: &[usize], composite: &[u32]) -> Result<(), AllocError>
         requires { length members.now ≤ room_of self.old }
         ensures room { room_of self.new ≡ room_of self.old }
-        ensures ok { OnOk result (rows_of self.new ≡ rows_of self.old ++ packed (room_of self.old) members.now composite.now ∷ []) }
+        ensures ok { OnOk result (rows_of self.new ≡ rows_of self.old ++ packed (room_of self.old) members.now
+            composite.now ∷ []) }
         ensures err { OnErr result (rows_of self.new ≡ rows_of self.old) }
     {
         match self {
@@ -87,7 +88,8 @@ impl SortBuffer {
     pub(crate) fn sort(&mut self, source: &BlockSource<'_>, order: &[SortKey], members: &[usize])
         ensures room { room_of self.new ≡ room_of self.old }
         ensures permutation { IsPermutation (rows_of self.old) (rows_of self.new) }
-        ensures sorted { Rises (NotAfter (value_in_packed source.now members.now) (order_of order.now)) (rows_of self.new) }
+        ensures sorted { Rises (NotAfter (value_in_packed source.now members.now) (order_of order.now))
+            (rows_of self.new) }
     {
         match self {
             SortBuffer::One(rows) => sort_packed(rows, source, order, members),

@@ -43,7 +43,8 @@ pub(crate) fn give_keys<const WIDTH: usize>(
     members: &[usize],
 ) -> bool
     ensures same { map packed_in keyed.new.items ≡ map packed_in keyed.old.items }
-    ensures keys { result ≡ true → (scale : ℕ) × HaveKeys source.now members.now (column_of column) scale keyed.new.items }
+    ensures keys { result ≡ true → (scale : ℕ) × HaveKeys source.now members.now (column_of column) scale
+        keyed.new.items }
 {
     let scale = scale_in(keyed, source, column, members);
     'places: for place in 0..keyed.len() {

@@ -22,7 +22,8 @@ use sqlvalue::{FieldFault, SqlType};
 pub(crate) fn number_cell(field: &[u8], sql_type: SqlType) -> Result<Option<i64>, FieldFault>
     requires numbers { spec.kind_of (type_of sql_type) ≡ spec.Numbers }
     requires valid { spec.IsType (type_of sql_type) }
-    ensures ok { IfOk result (λ units. FieldLoads (type_of sql_type) field.now (Ok (number_or_null (type_of sql_type) units))) }
+    ensures ok { IfOk result (λ units. FieldLoads (type_of sql_type) field.now
+        (Ok (number_or_null (type_of sql_type) units))) }
     ensures err { IfErr result (λ f. FieldLoads (type_of sql_type) field.now (Err (field_error_of f))) }
 {
     if is_null(field) {
@@ -39,7 +40,8 @@ pub(crate) fn number_cell(field: &[u8], sql_type: SqlType) -> Result<Option<i64>
 fn stored_units(field: &[u8], sql_type: SqlType) -> Result<i64, FieldFault>
     requires numbers { spec.kind_of (type_of sql_type) ≡ spec.Numbers }
     requires valid { spec.IsType (type_of sql_type) }
-    ensures ok { IfOk result (λ units. Stores (type_of sql_type) field.now (spec.Number units (spec.scale_of (type_of sql_type)))) }
+    ensures ok { IfOk result (λ units. Stores (type_of sql_type) field.now
+        (spec.Number units (spec.scale_of (type_of sql_type)))) }
     ensures err { IfErr result (λ f. StoresNone (type_of sql_type) field.now (field_error_of f)) }
 {
     let written = written_number(field)?;
@@ -86,7 +88,8 @@ fn written_number(field: &[u8]) -> Result<WrittenNumber, FieldFault>
 /// Whether a minus stands first, and what stands behind the sign.
 fn split_sign(field: &[u8]) -> (bool, &[u8])
     ensures split { (sign : List ℕ) × IsSign sign result.0 × (field.now ≡ sign ++ result.1.now) }
-    ensures only { (sign numeral : List ℕ) (minus : Bool) → IsSign sign minus → field.now ≡ sign ++ numeral → IsTrue (lexing.is_numeral numeral) → numeral ≡ result.1.now }
+    ensures only { (sign numeral : List ℕ) (minus : Bool) → IsSign sign minus → field.now ≡ sign ++ numeral →
+        IsTrue (lexing.is_numeral numeral) → numeral ≡ result.1.now }
 {
     match field {
         [b'-', numeral @ ..] => (true, numeral),

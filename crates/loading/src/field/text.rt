@@ -17,7 +17,8 @@ use sqlvalue::FieldFault;
 /// not null, the blanks at its end apart.
 pub(crate) fn text_cell(field: &[u8], length: usize) -> Result<Option<&str>, FieldFault>
     ensures fits { IfOk result (λ text. IfSome text (λ t. FitsIn (spec.Char length) t.now)) }
-    ensures ok { IfOk result (λ text. FieldLoads (spec.Char length) field.now (Ok (text_or_null (spec.Char length) (option_copied text)))) }
+    ensures ok { IfOk result (λ text. FieldLoads (spec.Char length) field.now
+        (Ok (text_or_null (spec.Char length) (option_copied text)))) }
     ensures err { IfErr result (λ f. FieldLoads (spec.Char length) field.now (Err (field_error_of f))) }
 {
     if is_null(field) {
