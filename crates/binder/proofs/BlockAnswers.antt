@@ -12,8 +12,8 @@ use Rattle.definitions.specs.Binding.Faults.{BlockFaulty, list_of}
 use Rattle.definitions.specs.Queries.BoundBlock.{Blocks}
 use Rattle.query_tree.specs.declared.leaf.ValueType.{ValueType}
 use Rattle.query_tree.specs.declared.condition.Condition.{Condition}
-use Rattle.query_rules.specs.Faults as source
-use Rattle.query_rules.specs.Faults.{SourcesFaulty, source_refusal}
+use Rattle.query_rules.specs.SourceFaults as source
+use Rattle.query_rules.specs.SourceFaults.{SourcesFaulty, source_refusal}
 use Rattle.query_rules.specs.declared.scope_fault.SourceFault.{SourceFault}
 use Rattle.parse_tree.specs.Trees.{block_of, column_of, source_of}
 use Rattle.parse_tree.specs.declared.expr.Block.{Block}

@@ -5,7 +5,7 @@ use Rattle.definitions.specs.Refusal.{Refusal}
 use Rattle.definitions.specs.Binding.Parts.{PlacedBlock}
 use Rattle.definitions.specs.Binding.Faults as block
 use Rattle.definitions.specs.Binding.Faults.{BlockFaulty}
-use Rattle.query_rules.specs.Faults.{SourcesFaulty, name_twice, no_table, many_tables}
+use Rattle.query_rules.specs.SourceFaults.{SourcesFaulty, name_twice, no_table, many_tables}
 
 pub block_faulty : (db : Database) (p : PlacedBlock) (r : Refusal) → SourcesFaulty db (block_sources p.block) r → BlockFaulty db p r
 block_faulty db p r (name_twice h) = block.name_twice h

@@ -2,7 +2,7 @@ pub use Rattle.definitions.specs.Binding.Scopes
 pub use Rattle.definitions.specs.Binding.Faults
 pub mod ScopeRules
 pub mod Search
-pub mod Faults
+pub mod SourceFaults
 pub mod Judging
 pub mod Leaves
 pub mod Meaning

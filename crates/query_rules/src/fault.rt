@@ -136,7 +136,7 @@ impl<'q, T: Drop> From<AllocFailed<T>> for BindFault<'q> {
 
 impl<'q> From<SourceFault<'q>> for BindFault<'q> {
     ghost use Rattle.std.specs.Prelude.{◌≡◌};
-    ghost use Rattle.query_rules.specs.Faults.{source_refusal};
+    ghost use Rattle.query_rules.specs.SourceFaults.{source_refusal};
     ghost use Rattle.query_rules.specs.Meaning.{bind_refusal};
 
     ghost from_gives = { λ fault f. bind_refusal f ≡ source_refusal fault };

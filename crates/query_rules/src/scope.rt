@@ -7,7 +7,7 @@ ghost use Rattle.definitions.specs.Binding.Scopes as spec;
 ghost use Rattle.definitions.specs.Binding.Scopes.{NotThere, is_called, only_one, scope_of, with_name};
 ghost use Rattle.definitions.specs.Table.{AreDistinct};
 ghost use Rattle.parse_tree.specs.Trees.{source_of};
-ghost use Rattle.query_rules.specs.Faults.{SourcesFaulty, source_refusal};
+ghost use Rattle.query_rules.specs.SourceFaults.{SourcesFaulty, source_refusal};
 ghost use Rattle.query_rules.specs.ScopeRules.{named_of, resolution_of};
 ghost use Rattle.query_rules.specs.Search.{is_meant};
 

@@ -6,7 +6,7 @@ ghost use Rattle.definitions.specs.Binding.Scopes.{all_columns, are_there, own_s
 ghost use Rattle.definitions.specs.Limits.{most_from_tables};
 ghost use Rattle.definitions.specs.Table.{AreDistinct};
 ghost use Rattle.parse_tree.specs.Trees.{column_of, source_of};
-ghost use Rattle.query_rules.specs.Faults.{SourcesFaulty, source_refusal};
+ghost use Rattle.query_rules.specs.SourceFaults.{SourcesFaulty, source_refusal};
 ghost use Rattle.query_rules.specs.ScopeRules.{found_of, resolution_of};
 
 use crate::named_table::NamedTable;

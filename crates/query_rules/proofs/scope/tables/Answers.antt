@@ -5,7 +5,7 @@ use Rattle.definitions.specs.Statement.{Source}
 use Rattle.definitions.specs.Binding.Scopes.{is_called, named_table}
 use Rattle.parse_tree.specs.Trees.{source_of}
 use Rattle.query_rules.specs.ScopeRules.{named_of}
-use Rattle.query_rules.specs.Faults as faults
+use Rattle.query_rules.specs.SourceFaults as faults
 use Rattle.query_rules.proofs.Sources.{any_at, taken, found_more, distinct_more}
 use Rattle.query_rules.proofs.scope.tables.Goals as goal
 

@@ -1,7 +1,7 @@
 use Rattle.std.proofs.Common.{arith}
 use Rattle.std.proofs.lemmas.List.{length-map}
 use Rattle.parse_tree.specs.Trees.{source_of}
-use Rattle.query_rules.specs.Faults as faults
+use Rattle.query_rules.specs.SourceFaults as faults
 use Rattle.query_rules.specs.ScopeRules.{scopes_of, tables_of}
 use Rattle.query_rules.proofs.Blocks.{first_there, scopes_there}
 use Rattle.query_rules.proofs.Views.{seen_all}
