@@ -251,15 +251,21 @@ pub expr::between-returns-in_err-high-clause-reads : goal.expr::between-returns-
 unfolding g.BetweenOf
 expr::between-returns-in_err-high-clause-reads i c = answers _ _ (search rules) (then_on (λ m. sum_alike (within_alike c.args.levels m)) c.in_ok-low.ensures.reads (past_on c.in_ok-expect_word.ensures (then_fails c.in_err-high.ensures.reads)))
 
-pub expr::between-returns-in_err-expr-clause-reads : goal.expr::between-returns-in_err-expr-clause-reads
-expr::between-returns-in_err-expr-clause-reads i c = answers _ _ (search rules) (no_memory refl)
+pub expr::between-returns-in_err-value-clause-reads : goal.expr::between-returns-in_err-value-clause-reads
+expr::between-returns-in_err-value-clause-reads i c = answers _ _ (search rules) (no_memory refl)
+
+pub expr::between-returns-in_err-low-2-clause-reads : goal.expr::between-returns-in_err-low-2-clause-reads
+expr::between-returns-in_err-low-2-clause-reads i c = answers _ _ (search rules) (no_memory refl)
+
+pub expr::between-returns-in_err-high-2-clause-reads : goal.expr::between-returns-in_err-high-2-clause-reads
+expr::between-returns-in_err-high-2-clause-reads i c = answers _ _ (search rules) (no_memory refl)
 
 pub expr::between-returns-clause-reads : goal.expr::between-returns-clause-reads
 unfolding g.BetweenOf
-expr::between-returns-clause-reads i c = then_on (λ m. sum_alike (within_alike c.args.levels m)) c.in_ok-low.ensures.reads (past_on c.in_ok-expect_word.ensures (then_on (λ m. sum_alike (within_alike c.args.levels m)) c.in_ok-high.ensures.reads (gives_as c.in_ok-expr.ensures.tree)))
+expr::between-returns-clause-reads i c = then_on (λ m. sum_alike (within_alike c.args.levels m)) c.in_ok-low.ensures.reads (past_on c.in_ok-expect_word.ensures (then_on (λ m. sum_alike (within_alike c.args.levels m)) c.in_ok-high.ensures.reads (gives_as (of_between _ _ _ _ _ ∙ ap₂ (λ x y. tree.Between c.args.negated (expr_of x) (expr_of y) (expr_of c.in_ok-high-2.high.value)) c.in_ok-value.ensures.ok c.in_ok-low-2.ensures.ok ∙ ap (λ x. tree.Between c.args.negated (expr_of c.args.value) (expr_of c.in_ok-low.low) (expr_of x)) c.in_ok-high-2.ensures.ok))))
 
 pub expr::between-returns-clause-placed : goal.expr::between-returns-clause-placed
-expr::between-returns-clause-placed i c = λ from d. seen_as c.in_ok-expr.ensures.leaves (on (past refl (on d c.in_ok-low.ensures.placed) c.in_ok-expect_word.ensures) c.in_ok-high.ensures.placed)
+expr::between-returns-clause-placed i c = λ from d. seen_as (leaves.of_between _ _ _ _ _ ∙ ap₂ (λ x y. ((expr_leaves x ++ one (Reserved words.Between) c.args.start) ++ expr_leaves y) ++ expr_leaves c.in_ok-high-2.high.value) c.in_ok-value.ensures.ok c.in_ok-low-2.ensures.ok ∙ ap (λ x. ((expr_leaves c.args.value ++ one (Reserved words.Between) c.args.start) ++ expr_leaves c.in_ok-low.low) ++ expr_leaves x) c.in_ok-high-2.ensures.ok) (on (past refl (on d c.in_ok-low.ensures.placed) c.in_ok-expect_word.ensures) c.in_ok-high.ensures.placed)
 
 pub expr::in_list-returns-in_err-value-clause-reads : goal.expr::in_list-returns-in_err-value-clause-reads
 expr::in_list-returns-in_err-value-clause-reads i c = answers _ _ (search rules) (no_memory refl)
