@@ -1,4 +1,4 @@
-//! The peer of bench/plan_space.py: the walks of crates/plan_times over plain vectors, as one writes them in Rust. It has the same
+//! The peer of bench/plan_space.py: the walks of crates/bench_programs over plain vectors, as one writes them in Rust. It has the same
 //! block, by rules of its own, so that both print how many paths or merges there were and the same sum of their costs.
 
 use std::env;
