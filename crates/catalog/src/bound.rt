@@ -18,7 +18,7 @@ use parse_tree::{Bound, Range};
 use sqlvalue::SqlType;
 
 /// The greatest statistic that SET STATISTICS may give (own).
-pub const MAX_FIGURE: u128 = 1_000_000_000_000_000_000;
+pub const MAX_STATISTIC: u128 = 1_000_000_000_000_000_000;
 
 /// A count of rows or keys, if it is in range.
 pub(crate) fn row_count(given: u128) -> Option<u64>
@@ -26,7 +26,7 @@ pub(crate) fn row_count(given: u128) -> Option<u64>
     ensures range { IfSome result IsCount }
     ensures none { IfNone result (¬ (IsCount given)) }
 {
-    if given <= MAX_FIGURE {
+    if given <= MAX_STATISTIC {
         Some(given as u64)
     } else {
         None
@@ -39,7 +39,7 @@ pub(crate) fn page_count(given: u128) -> Option<u64>
     ensures range { IfSome result IsPageCount }
     ensures none { IfNone result (¬ (IsPageCount given)) }
 {
-    if 1 <= given && given <= MAX_FIGURE {
+    if 1 <= given && given <= MAX_STATISTIC {
         Some(given as u64)
     } else {
         None

@@ -10,7 +10,7 @@ mod growth;
 mod naming;
 mod table;
 
-pub use bound::MAX_FIGURE;
+pub use bound::MAX_STATISTIC;
 pub use database::{Database, MAX_COLUMNS, MAX_TABLES};
 pub use fault::{
     CreateFault, EarlierRow, IndexFault, ListFault, LoadFault, RangeEnd, RepeatedRecord,

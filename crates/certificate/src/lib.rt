@@ -1,4 +1,4 @@
-//! The text of a plan and its certificate, written and read.
+//! The text of a plan and its certificate, written and read, and what it refers to of a block of a query.
 #![tactic(auto)]
 
 mod below;

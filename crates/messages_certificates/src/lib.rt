@@ -1,5 +1,5 @@
 //! What people are told of texts of certificates that are refused, beside their printed lines: where in the file each is refused, and
-//! why. It judges nothing, and no printed line depends on the words.
+//! why. It finds the step and the numbers by which a rule fails anew; no printed line depends on the words.
 #![tactic(auto)]
 
 mod finding;

@@ -1,7 +1,7 @@
 //! Why the statistics of a table or of an index are not set.
 
 use crate::list::{Listed, name_at, name_in_list, write_list};
-use catalog::{Database, MAX_FIGURE, RangeEnd, StatisticsFault, TableStatisticsFault};
+use catalog::{Database, MAX_STATISTIC, RangeEnd, StatisticsFault, TableStatisticsFault};
 use sqlr::{ColumnList, StatisticsCause, TableStatisticsCause};
 use std::fmt::{self, Display, Formatter};
 use syntax::{Bound, Count, Range};
@@ -35,7 +35,7 @@ fn write_out_of_range<W: fmt::Write>(
     let units = given.units;
     write!(
         f,
-        "{statistic} can't be {units}: it is {least} to {MAX_FIGURE}"
+        "{statistic} can't be {units}: it is {least} to {MAX_STATISTIC}"
     )
 }
 

@@ -167,7 +167,7 @@ SET STATISTICS T ROWS 1000 PAGES 50;
 SET STATISTICS T (A) KEYS 7 PAGES 9 LOW -1.0 HIGH 5;
 CREATE INDEX ON T (B);";
 
-const SET_FIGURES: IndexStatistics = IndexStatistics {
+const SET_STATISTICS: IndexStatistics = IndexStatistics {
     keys: 7,
     pages: 9,
     clustered: false,
@@ -191,7 +191,7 @@ fn a_new_index_leaves_all_other_statistics(rt: HostRuntime) -> Result<(), Fail> 
     );
     assert_eq!(rt;
         (statistics_at(table, 0), statistics_at(table, 1)),
-        (Some(SET_FIGURES), Some(counted))
+        (Some(SET_STATISTICS), Some(counted))
     );
     Ok(())
 }
@@ -206,7 +206,7 @@ fn statistics_that_are_set_hold_until_a_load(rt: HostRuntime) -> Result<(), Fail
         (table.statistics().rows, table.statistics().pages),
         (1000, 50)
     );
-    assert_eq!(rt; statistics_at(table, 0), Some(SET_FIGURES));
+    assert_eq!(rt; statistics_at(table, 0), Some(SET_STATISTICS));
     assert_eq!(rt; database.load("T", b"8,a\n6,b\n"), Ok(2));
     let table = database.table("T").expect(&rt, "the table");
     let anew = IndexStatistics {
