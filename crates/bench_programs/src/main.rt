@@ -8,15 +8,15 @@
 //! Each prints what it came to. Without words it does a little of each.
 #![tactic(auto)]
 
+mod column_scans;
 mod look_ups;
-mod scans;
 mod searches;
 mod shapes;
 mod spaces;
 mod walks;
 
+use column_scans::{by_loop, by_scan};
 use look_ups::look_up;
-use scans::{by_loop, by_scan};
 use searches::search;
 use shapes::shape_of;
 use spaces::walked;
