@@ -1,1 +1,3 @@
 pub mod Planned
+mod FirstBlock
+mod Planning
