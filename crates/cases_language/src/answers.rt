@@ -35,7 +35,7 @@ pub(crate) fn answer(
     Ok(Some(text))
 }
 
-fn outcome(alloc: Global, database: &Database, query: &str) -> Outcome {
+fn outcome_of(alloc: Global, database: &Database, query: &str) -> Outcome {
     let Ok(tokens) = lex(alloc, query) else {
         return Outcome::Broken("no tokens");
     };
@@ -54,7 +54,7 @@ fn outcome(alloc: Global, database: &Database, query: &str) -> Outcome {
 
 /// The label of a query's refusal, or `bound`.
 fn label(alloc: Global, database: &Database, query: &str) -> &'static str {
-    match outcome(alloc, database, query) {
+    match outcome_of(alloc, database, query) {
         Outcome::Bound(_) => "bound",
         Outcome::Refused(label) => label,
         Outcome::Broken(why) => why,
@@ -81,7 +81,7 @@ fn push_level(
     database: &Database,
     query: &str,
 ) -> Result<(), AllocError> {
-    let level = match outcome(alloc, database, query) {
+    let level = match outcome_of(alloc, database, query) {
         Outcome::Bound(blocks) => match blocks.get(1) {
             Some(block) => level_of_left(&block.condition),
             None => None,
