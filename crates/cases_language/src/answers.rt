@@ -36,6 +36,8 @@ pub(crate) fn answer(
 }
 
 fn outcome_of(alloc: Global, database: &Database, query: &str) -> Outcome {
+    // A look at its tables tells what holds of a database.
+    let _tables = database.tables();
     let Ok(tokens) = lex(alloc, query) else {
         return Outcome::Broken("no tokens");
     };
