@@ -12,7 +12,7 @@ use certificate::{BlockSpace, read_text};
 use estimate::Estimate;
 use join_dp::optimise;
 use plan_space::{Plan, Space, Version};
-use plan_tree::TableSet;
+use plan_tree::{MAX_FROM_TABLES, TableSet};
 use std::alloc::{AllocError, Global};
 
 /// The answer to a question about the conjuncts and tables of a block; none where it is no such question.
@@ -105,7 +105,11 @@ pub(crate) fn spelled_plan(
         Version::Three => 3,
     };
     let text = format!(in alloc; "CERTIFICATE {version}\nBLOCK 1\nPLAN {plan}\nTARGET 0\nEND\n")?;
-    match read_text(alloc, &own.certified(), text.as_bytes()) {
+    let block = own.certified();
+    if block.indexes.len() > MAX_FROM_TABLES {
+        return Ok(None);
+    }
+    match read_text(alloc, &block, text.as_bytes()) {
         Ok(spelled) => Ok(spelled.plan),
         Err(_) => Ok(None),
     }

@@ -1,10 +1,14 @@
 //! The list of a block's plans: kind by kind of plan, how many steps it has and which.
 
+ghost use Rattle.estimate.specs.Estimated.{IsFormed};
+ghost use Rattle.query_tree.specs.Bound.{block_of};
+
 use crate::cases::Case;
 use crate::spelling::push_plan;
 use crate::steps::{Kind, Steps};
 use catalog::Database;
 use plan_space::{Plan, PlanSummary, Space, Version};
+use query_tree::Block;
 use std::alloc::{AllocError, Global};
 use tests_support::{PathPart, Step, apply, block, built, space};
 
@@ -19,12 +23,36 @@ pub(crate) fn push_case(
     if !apply(alloc, &mut database, case.script) {
         return text.push_str("no such tables\n");
     }
-    let Some(block) = block(alloc, &database, case.query) else {
-        return text.push_str("no such block\n");
-    };
-    let Some(space) = space(alloc, &database, &block, version) else {
-        return text.push_str("no space\n");
-    };
+    match block(alloc, &database, case.query) {
+        Some(block) => push_block(alloc, text, case, version, &database, &block),
+        None => text.push_str("no such block\n"),
+    }
+}
+
+/// Adds the list of a case's block.
+fn push_block(
+    alloc: Global,
+    text: &mut String,
+    case: &Case,
+    version: Version,
+    database: &Database,
+    block: &Block,
+) -> Result<(), AllocError>
+    requires { IsFormed database.now (block_of block.now) }
+{
+    match space(alloc, database, block, version) {
+        Some(space) => push_space(alloc, text, case, version, &space),
+        None => text.push_str("no space\n"),
+    }
+}
+
+fn push_space(
+    alloc: Global,
+    text: &mut String,
+    case: &Case,
+    version: Version,
+    space: &Space,
+) -> Result<(), AllocError> {
     writeln!(
         text,
         "{}, version {}, {} orders",
@@ -32,7 +60,7 @@ pub(crate) fn push_case(
         number_of(version),
         space.orders().len()
     )?;
-    push_all(alloc, text, case, &space)
+    push_all(alloc, text, case, space)
 }
 
 fn number_of(version: Version) -> usize {

@@ -4,6 +4,9 @@
 //! behind each, `query` and a query, `version` and the version of the plan space, and below these rows `QUESTION = ANSWER`. A group may
 //! have several queries and versions. A line that begins with `--` is a comment.
 
+ghost use Rattle.estimate.specs.Estimated.{IsFormed};
+ghost use Rattle.query_tree.specs.Bound.{block_of};
+
 use crate::answers::{estimate_answer, space_answer, spelled_plan};
 use crate::runs::run_answer;
 use catalog::Database;
@@ -118,19 +121,32 @@ fn answer(alloc: Global, group: &Group, question: &str) -> Result<Option<String>
     if !apply(alloc, &mut database, &group.script) || !fill(&mut database, &group.loads) {
         return Ok(None);
     }
-    let Some(block) = block(alloc, &database, &group.query) else {
-        return Ok(None);
-    };
-    let estimate = Estimate::new(alloc, &database, &block)?;
+    match block(alloc, &database, &group.query) {
+        Some(block) => block_answer(alloc, group, &database, &block, question),
+        None => Ok(None),
+    }
+}
+
+/// The answer to a question about a block.
+fn block_answer(
+    alloc: Global,
+    group: &Group,
+    database: &Database,
+    block: &Block,
+    question: &str,
+) -> Result<Option<String>, AllocError>
+    requires { IsFormed database.now (block_of block.now) }
+{
+    let estimate = Estimate::new(alloc, database, block)?;
     if let Some(answer) = estimate_answer(alloc, &estimate, question)? {
         return Ok(Some(answer));
     }
-    let own = BlockSpace::new(alloc, &database, &block, 0, group.version)?;
+    let own = BlockSpace::new(alloc, database, block, 0, group.version)?;
     let Some(plan) = question.strip_prefix("run ") else {
         return space_answer(alloc, &own, question);
     };
     match spelled_plan(alloc, &own, plan)? {
-        Some(plan) => Ok(Some(run_answer(alloc, &database, &block, group.version, &plan)?)),
+        Some(plan) => Ok(Some(run_answer(alloc, database, block, group.version, &plan)?)),
         None => Ok(None),
     }
 }

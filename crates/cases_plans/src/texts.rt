@@ -1,6 +1,7 @@
 //! Texts of certificates, read and written back. In a row the lines of a text end with `;`.
 
-use certificate::{BlockSpace, TextFault, read_text, write_text};
+use certificate::{BlockSpace, CertifiedBlock, Spelled, TextFault, read_text, write_text};
+use plan_tree::MAX_FROM_TABLES;
 use std::alloc::{AllocError, Global};
 
 /// What comes of reading a text of a block.
@@ -34,23 +35,35 @@ impl Outcome {
 }
 
 fn read(alloc: Global, own: &BlockSpace<'_>, text: &[u8]) -> Result<Outcome, AllocError> {
-    match read_text(alloc, &own.certified(), text) {
-        Ok(spelled) => {
-            let Some(plan) = &spelled.plan else {
-                return Ok(Outcome::Long);
-            };
-            let again = write_text(alloc, &own.certified(), plan, &spelled.certificate)?;
-            Ok(if again.as_slice() == text {
-                Outcome::Back
-            } else {
-                Outcome::Otherwise
-            })
-        }
+    let block = own.certified();
+    if block.indexes.len() > MAX_FROM_TABLES {
+        return Ok(Outcome::Missing);
+    }
+    match read_text(alloc, &block, text) {
+        Ok(spelled) => read_back(alloc, &block, &spelled, text),
         Err(TextFault::Form { .. }) => Ok(Outcome::Form),
         Err(TextFault::Missing(_)) => Ok(Outcome::Missing),
         Err(TextFault::States(_)) => Ok(Outcome::States),
         Err(TextFault::Memory) => Err(AllocError),
     }
+}
+
+/// Whether what was read is written as it was.
+fn read_back(
+    alloc: Global,
+    block: &CertifiedBlock<'_>,
+    spelled: &Spelled,
+    text: &[u8],
+) -> Result<Outcome, AllocError> {
+    let Some(plan) = &spelled.plan else {
+        return Ok(Outcome::Long);
+    };
+    let again = write_text(alloc, block, plan, &spelled.certificate)?;
+    Ok(if again.as_slice() == text {
+        Outcome::Back
+    } else {
+        Outcome::Otherwise
+    })
 }
 
 /// What comes of reading a text.
