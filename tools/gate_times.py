@@ -1,9 +1,10 @@
 #!/usr/bin/env python3
 """Makes docs/TIMES.md, what each crate of the gate takes, from what ./test printed.
 
-usage: gate_times.py LOG PROCESSORS
+usage: gate_times.py PROCESSORS LOG..
 
-LOG holds what ./test printed where nothing was kept. Lines of code, definitions and proofs are counted in the tree as it stands.
+A LOG holds what ./test printed. One is enough where nothing was kept. Where a run was cut off and another went on over what it had kept,
+both are given, and a crate's seconds are the most that it took in one of them. Lines are counted in the tree as it stands.
 """
 import datetime
 import pathlib
@@ -23,14 +24,19 @@ def functions(crate):
 
 
 def main():
-    log, processors = pathlib.Path(sys.argv[1]).read_text(errors="replace"), int(sys.argv[2])
-    took = {name: int(seconds) for name, seconds in re.findall(r"^took: (\w+) (\d+) processor seconds$", log, re.M)}
-    whole = re.search(r"^took: the gate (\d+) minutes, (\d+) processor minutes$", log, re.M)
+    processors, logs = sys.argv[1], [pathlib.Path(it).read_text(errors="replace") for it in sys.argv[2:]]
+    took, wholes = {}, []
+    for log in logs:
+        for name, seconds in re.findall(r"^took: (\w+) (\d+) processor seconds$", log, re.M):
+            took[name] = max(int(seconds), took.get(name, 0))
+        wholes += re.findall(r"^took: the gate (\d+) minutes, (\d+) processor minutes$", log, re.M)
+    runs = "; ".join(f"{minutes} minutes, {of_processors} processor minutes" for minutes, of_processors in wholes)
+    how = "from nothing" if len(logs) == 1 else f"in {len(logs)} runs, each over what the one before had kept; a crate's seconds are the most of one run"
     text = [
         "# What the gate takes",
         "",
-        f"`./test` from nothing on {datetime.date.today()}, on {processors} processors with nothing beside it: {whole[1]} minutes, {whole[2]} processor minutes.",
-        "The seconds are those of processors for all of a crate: two proofs of it, its edits, its tests and its build.",
+        f"`./test` on {datetime.date.today()}, on {processors} processors, {how}: {runs}.",
+        "The seconds are those of processors for all of a crate: its proofs, its edits, its tests and its builds; '-' is a crate that was kept.",
         "`tools/gate_times.py` makes this page from what `./test` prints.",
         "",
         "| crate | seconds | functions | lines of src | specs | proofs | edits |",
