@@ -7,8 +7,6 @@ that only loads, and of the difference a part. sqlite3 (Debian's package) loads 
 SELECT itself (.timer). Both print into files. Processor seconds are counted, as each program has one thread.
 
 A filter that keeps 10 rows is to take at most a twentieth of sqlite3's time on a number and a tenth on a text.
-The program bench_programs shows what a scan of a column alone takes beside a loop over a plain Vec that counts the same rows:
-at most four times as long is allowed.
 """
 import os
 import pathlib
@@ -19,11 +17,9 @@ import tempfile
 
 from load import PROGRAM
 
-BENCH_PROGRAMS = PROGRAM.parent.parent.parent / "bench_programs/out/bench_programs"
 ROWS = 5_000_000
 NUMBERS = 500_000
 ROUNDS = 3
-PASSES = 40
 TABLE = "CREATE TABLE T (I INTEGER, N NUMERIC(9,2), C CHAR(10));\n"
 # What is asked, and how many times ours is asked in one run.
 FILTERS = [
@@ -78,16 +74,6 @@ def theirs(folder):
     return [min(times[place :: len(FILTERS)]) for place in range(len(FILTERS))]
 
 
-def passes(kind):
-    """The seconds of one pass over the rows of a column alone."""
-    with tempfile.TemporaryDirectory() as name:
-        folder = pathlib.Path(name)
-        some, none = (
-            min(seconds([BENCH_PROGRAMS, kind, str(count)], folder) for _ in range(ROUNDS)) for count in (PASSES, 0)
-        )
-    return (some - none) / PASSES
-
-
 def main():
     with tempfile.TemporaryDirectory() as name:
         folder = pathlib.Path(name)
@@ -95,8 +81,6 @@ def main():
         print("filter  sqlr/ms  sqlite3/ms  ratio")
         for (filter_name, _, _), mine, peer in zip(FILTERS, ours(folder), theirs(folder)):
             print(f"{filter_name}: {mine * 1e3:.1f} {peer * 1e3:.1f} {mine / peer:.3f}")
-    scan, loop = passes("scan"), passes("loop")
-    print(f"a scan of a column: {scan * 1e3:.1f} ms, a plain loop: {loop * 1e3:.1f} ms, ratio {scan / loop:.2f}")
 
 
 if __name__ == "__main__":

@@ -1,6 +1,7 @@
 #!/usr/bin/env python3
-"""Times the search for a least plan and the check of its certificate, best of three, by the program bench_programs: blocks of 12 tables
-joined as a chain, as a star and all to all (as far as a block's 64 conjuncts go), and of 14 as a chain, each table with an index. Processor
+"""Times EXPLAIN, which searches for a least plan and writes its certificate, and the check of that certificate, best of three: blocks of
+12 tables joined as a chain, as a star and all to all (as far as a block's 64 conjuncts go), and of 14 as a chain, each table with an index
+and statistics. Of a script with some EXPLAINs and one with none the difference is taken, and of a check and that script too. Processor
 seconds are counted, and the most memory that a process held.
 
 Beside it stands PostgreSQL's planner on the same joins, with its search over all orders of joins (`join_collapse_limit` high and `geqo` off):
@@ -15,28 +16,23 @@ import subprocess
 import sys
 import tempfile
 
-HERE = pathlib.Path(__file__).resolve().parent
-PROGRAM = HERE.parent / "crates/bench_programs/out/bench_programs"
+from load import PROGRAM
+
 SERVER = next(iter(sorted(pathlib.Path("/usr/lib/postgresql").glob("*/bin"), reverse=True)), None)
 TIMES = 3
+EXPLAINS = 10
 CONJUNCTS = 64
 BLOCKS = [("chain", 12), ("star", 12), ("all", 12), ("chain", 14)]
 
 
-def run(*words):
-    """What the program prints, its processor seconds and the most memory that it held, in MiB."""
-    with tempfile.TemporaryFile() as out:
-        child = subprocess.Popen([PROGRAM, *map(str, words)], stdout=out)
+def run(folder, *words):
+    """The processor seconds of a run, the most memory that it held, in MiB, and what it printed."""
+    with open(folder / "out.txt", "wb") as out:
+        child = subprocess.Popen([PROGRAM, *words], cwd=folder, stdout=out)
         _, status, usage = os.wait4(child.pid, 0)
-        if status != 0:
-            sys.exit(f"{words}: status {status}")
-        out.seek(0)
-        return out.read().decode().split(), usage.ru_utime + usage.ru_stime, usage.ru_maxrss / 1024
-
-
-def seconds(kind, shape, tables, rounds):
-    """The seconds of one round."""
-    return min(run(kind, shape, tables, rounds)[1] - run(kind, shape, tables, 0)[1] for _ in range(TIMES)) / rounds
+    if status != 0:
+        sys.exit(f"{words}: status {status}")
+    return usage.ru_utime + usage.ru_stime, usage.ru_maxrss / 1024, (folder / "out.txt").read_text()
 
 
 def joins(shape, tables):
@@ -49,18 +45,48 @@ def joins(shape, tables):
     return [(f"T{a}.X", f"T{b}.X") for a, b in pairs[:CONJUNCTS]]
 
 
-def statements(shape, tables):
-    sides = "".join(f", S{t} INTEGER" for t in range(2, tables + 1))
-    for table in range(1, tables + 1):
-        yield f"CREATE TABLE T{table} (X INTEGER, Y INTEGER{sides if table == 1 else ''});"
-        yield f"CREATE INDEX ON T{table} (X);"
-        yield f"INSERT INTO T{table} (X, Y) SELECT i % {100 * table}, i FROM generate_series(1, {1000 * table}) i;"
-        yield f"ANALYZE T{table};"
-    yield "SET join_collapse_limit = 100; SET from_collapse_limit = 100; SET geqo = off;"
+def columns(shape, tables, table):
+    sides = "".join(f", S{t} INTEGER" for t in range(2, tables + 1)) if shape == "star" and table == 1 else ""
+    return f"(X INTEGER, Y INTEGER{sides})"
+
+
+def query(shape, tables):
     names = ", ".join(f"T{t}" for t in range(1, tables + 1))
-    conditions = " AND ".join(f"{a} = {b}" for a, b in joins(shape, tables))
+    return f"SELECT T1.X FROM {names} WHERE " + " AND ".join(f"{a} = {b}" for a, b in joins(shape, tables)) + ";"
+
+
+def our_tables(shape, tables):
+    for t in range(1, tables + 1):
+        yield f"CREATE TABLE T{t} {columns(shape, tables, t)}; CREATE INDEX ON T{t} (X);"
+        yield f"SET STATISTICS T{t} ROWS {1000 * t} PAGES {10 * t}; SET STATISTICS T{t} (X) KEYS {100 * t} PAGES {2 * t};"
+
+
+def ours(folder, shape, tables):
+    """The seconds of an EXPLAIN and of a check, the most memory in MiB, and how many states the certificate lists."""
+    made = "\n".join(our_tables(shape, tables)) + "\n"
+    asked = query(shape, tables)
+    (folder / "tables.sql").write_text(made)
+    (folder / "explains.sql").write_text(made + f"EXPLAIN {asked}\n" * EXPLAINS)
+    (folder / "query.sql").write_text(made + asked + "\n")
+    nothing = min(run(folder, "run", "tables.sql")[0] for _ in range(TIMES))
+    explained = [run(folder, "run", "explains.sql") for _ in range(TIMES)]
+    text = explained[0][2]
+    certificate = text[text.index("CERTIFICATE") : text.index("END") + 4]
+    (folder / "one.certificate").write_text(certificate)
+    checked = min(run(folder, "check", "query.sql", "one.certificate")[0] for _ in range(TIMES))
+    seconds = (min(it[0] for it in explained) - nothing) / EXPLAINS
+    return seconds, checked - nothing, max(it[1] for it in explained), certificate.count("STATE")
+
+
+def statements(shape, tables):
+    for t in range(1, tables + 1):
+        yield f"CREATE TABLE T{t} {columns(shape, tables, t)};"
+        yield f"CREATE INDEX ON T{t} (X);"
+        yield f"INSERT INTO T{t} (X, Y) SELECT i % {100 * t}, i FROM generate_series(1, {1000 * t}) i;"
+        yield f"ANALYZE T{t};"
+    yield "SET join_collapse_limit = 100; SET from_collapse_limit = 100; SET geqo = off;"
     for _ in range(TIMES):
-        yield f"EXPLAIN (SUMMARY) SELECT T1.X FROM {names} WHERE {conditions};"
+        yield f"EXPLAIN (SUMMARY) {query(shape, tables)}"
 
 
 def as_postgres(*words, **kept):
@@ -94,13 +120,13 @@ def peers():
 
 def main():
     theirs = peers()
-    print("block  search/ms  check/ms  PostgreSQL/ms  ratio  states listed  solved  steps  MiB")
-    for shape, tables in BLOCKS:
-        told, _, held = run("search", shape, tables, 1)
-        search, check = (seconds(kind, shape, tables, 5) * 1e3 for kind in ("search", "check"))
-        peer = theirs.get((shape, tables))
-        beside = f"{peer:.1f} {search / peer:.3f}" if peer else "- -"
-        print(f"{shape} {tables}: {search:.1f} {check:.1f} {beside} {told[1]} {told[2]} {told[3]} {held:.1f}")
+    print("block  EXPLAIN/ms  check/ms  PostgreSQL/ms  ratio  states listed  MiB")
+    with tempfile.TemporaryDirectory() as name:
+        for shape, tables in BLOCKS:
+            explain, check, held, states = ours(pathlib.Path(name), shape, tables)
+            peer = theirs.get((shape, tables))
+            beside = f"{peer:.1f} {explain * 1e3 / peer:.3f}" if peer else "- -"
+            print(f"{shape} {tables}: {explain * 1e3:.1f} {check * 1e3:.1f} {beside} {states} {held:.1f}")
 
 
 if __name__ == "__main__":

@@ -27,8 +27,8 @@ def main():
     processors, logs = sys.argv[1], [pathlib.Path(it).read_text(errors="replace") for it in sys.argv[2:]]
     took, wholes = {}, []
     for log in logs:
-        for name, seconds in re.findall(r"^took: (\w+) (\d+) processor seconds$", log, re.M):
-            took[name] = max(int(seconds), took.get(name, 0))
+        for name, seconds, edits in re.findall(r"^took: (\w+) (\d+) processor seconds(?:, (\d+) of them for edits)?$", log, re.M):
+            took[name] = max((int(seconds), edits or "-"), took.get(name, (0, "-")))
         wholes += re.findall(r"^took: the gate (\d+) minutes, (\d+) processor minutes$", log, re.M)
     runs = "; ".join(f"{minutes} minutes, {of_processors} processor minutes" for minutes, of_processors in wholes)
     how = "from nothing" if len(logs) == 1 else f"in {len(logs)} runs, each over what the one before had kept; a crate's seconds are the most of one run"
@@ -36,21 +36,20 @@ def main():
         "# What the gate takes",
         "",
         f"`./test` on {datetime.date.today()}, on {processors} processors, {how}: {runs}.",
-        "The seconds are those of processors for what a run did of a crate: proofs, edits, tests and builds. What else proved crates on the machine",
-        "meanwhile is counted too, and of several runs each may have done a part alone: then a row is no whole price. '-' is a crate that was kept.",
+        "The seconds are those of processors for what a run did of a crate: proofs, edits, tests and builds. '-' is a crate that was kept.",
         "`tools/gate_times.py` makes this page from what `./test` prints.",
         "",
-        "| crate | seconds | functions | lines of src | specs | proofs | edits |",
-        "| --- | --- | --- | --- | --- | --- | --- |",
+        "| crate | seconds | of them for edits | functions | lines of src | specs | proofs | edits |",
+        "| --- | --- | --- | --- | --- | --- | --- | --- |",
     ]
     layer = re.compile(r"^# \d+ (.*)$")
     for line in (ROOT / "crates.txt").read_text().splitlines():
         if layer.match(line):
-            text.append(f"| **{layer.match(line)[1]}** | | | | | | |")
+            text.append(f"| **{layer.match(line)[1]}** | | | | | | | |")
         elif ":" in line:
             name = line.split(":")[0].split()[0]
             edits = len(list((ROOT / "crates" / name / "must-fail").glob("*.edit")))
-            counts = [took.get(name, "-"), functions(name), lines(name, "src", ".rt"), lines(name, "specs", ".antt"), lines(name, "proofs", ".antt"), edits or ""]
+            counts = [*took.get(name, ("-", "-")), functions(name), lines(name, "src", ".rt"), lines(name, "specs", ".antt"), lines(name, "proofs", ".antt"), edits or ""]
             text.append(f"| `{name}` | " + " | ".join(map(str, counts)) + " |")
     PAGE.write_text("\n".join(text) + "\n")
     print(f"{PAGE.relative_to(ROOT)}: {len(took)} crates")

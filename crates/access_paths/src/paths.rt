@@ -136,7 +136,7 @@ impl IndexScan {
     {
         paths.push(self.whole(backward))?;
         'chains: for chain in chains {
-            paths.push(self.matching(estimate, chain, backward)?)?;
+            paths.push(self.matching_path(estimate, chain, backward)?)?;
         }
         Ok(())
     }
@@ -157,7 +157,7 @@ impl IndexScan {
         }
     }
 
-    fn matching(
+    fn matching_path(
         self,
         estimate: &Estimate,
         chain: &IndexMatch,
@@ -178,7 +178,7 @@ impl IndexScan {
                 backward,
             },
             required_outer: chain.required_outer,
-            cost: self.size.matched(estimate, chain),
+            cost: self.size.matching_scan(estimate, chain),
         })
     }
 }

@@ -17,7 +17,7 @@ ghost use Rattle.access_paths.specs.Views.{chain_told};
 use crate::index_matches::IndexMatch;
 use catalog::{Index, Table};
 use estimate::{Estimate, fraction, share};
-use plan_tree::saturated;
+use plan_tree::saturate;
 
 /// Pages that the buffer holds, so that none is fetched twice (own).
 const BUFFER_PAGES: u64 = 64;
@@ -40,7 +40,7 @@ impl ScanCost {
     {
         match self {
             ScanCost::OneRow => 21,
-            ScanCost::Pages(pages) => saturated(10 * u128::from(pages) + u128::from(rows)),
+            ScanCost::Pages(pages) => saturate(10 * u128::from(pages) + u128::from(rows)),
         }
     }
 }
@@ -71,8 +71,8 @@ impl IndexSize {
             unique: index.is_unique(),
             clustered: index.statistics().clustered,
             keys: index.statistics().keys,
-            pages_once: saturated(pages + u128::from(size.pages)),
-            pages_by_row: saturated(pages + u128::from(size.rows)),
+            pages_once: saturate(pages + u128::from(size.pages)),
+            pages_by_row: saturate(pages + u128::from(size.rows)),
         }
     }
 
@@ -81,11 +81,11 @@ impl IndexSize {
         ensures { (db : Database) (block : b.Block) (number : ℕ) (i : table.Index) → IsSizeOf db block number i self →
             scan_cost_of result ≡ whole_scan db block number i }
     {
-        ScanCost::Pages(self.fetched(self.pages_once, self.pages_by_row))
+        ScanCost::Pages(self.pages_fetched(self.pages_once, self.pages_by_row))
     }
 
     /// A scan of what a chain matches.
-    pub fn matched(self, estimate: &Estimate, chain: &IndexMatch) -> ScanCost
+    pub fn matching_scan(self, estimate: &Estimate, chain: &IndexMatch) -> ScanCost
         requires there { AllByRecursion (λ conjunct. conjunct
             < length (queries.conjuncts (block_of estimate.now.block))) (chain_told chain.now).conjuncts }
         ensures { (number : ℕ) (i : table.Index) → IsSizeOf estimate.now.database (block_of estimate.now.block) number
@@ -98,7 +98,7 @@ impl IndexSize {
         }
         let once = self.share_of(estimate, chain, all_equal, self.pages_once);
         let by_row = self.share_of(estimate, chain, all_equal, self.pages_by_row);
-        ScanCost::Pages(self.fetched(once, by_row))
+        ScanCost::Pages(self.pages_fetched(once, by_row))
     }
 
     /// The share of pages that a chain matches: one key where two columns or more are all equal to a value, else what its
@@ -119,7 +119,7 @@ impl IndexSize {
 
     /// Of the pages fetched where each counts once, and of those fetched for each row: the first if the index is clustered or
     /// they fit into the buffer.
-    fn fetched(self, once: u64, by_row: u64) -> u64
+    fn pages_fetched(self, once: u64, by_row: u64) -> u64
         ensures { result ≡ (if self.clustered || nat_le once buffer_pages then once else by_row) }
     {
         if self.clustered || once <= BUFFER_PAGES {

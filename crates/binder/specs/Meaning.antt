@@ -6,7 +6,10 @@ use Rattle.definitions.specs.Binding.Faults.{is_logical}
 use Rattle.definitions.specs.Grammar.{operands}
 use Rattle.parse_tree.specs.Trees.{operand_of}
 use Rattle.parse_tree.specs.declared.expr.Expr.{Expr as Expr'}
+use Rattle.parse_tree.specs.declared.expr.Block.{Block as Query}
 use Rattle.parse_tree.specs.declared.expr.Operand.{Operand}
+use Rattle.parse_tree.specs.declared.leaf.Quantifier.{Quantifier}
+use Rattle.sqlvalue.specs.declared.op.ComparisonOperator.{ComparisonOperator}
 use Rattle.parse_tree.specs.declared.expr.Expr.TheViews as v
 use Rattle.definitions.specs.Statement as t
 use Rattle.definitions.specs.Statement.{Expr, Members}
@@ -59,6 +62,19 @@ IsLine e logical = (first : Box Expr') × (others : Vec Operand) × (e ≡ v.Lin
 
 abbrev pub IsList : Expr' → Type 0
 IsList e = (start : ℕ) × (negated : Bool) × (value : Box Expr') × (ms : Vec (Option Expr')) × (e ≡ v.InList start negated value ms)
+
+-- a comparison of two values, or with all or any rows of a subquery; BETWEEN; IN with a subquery
+abbrev pub IsComparison : Expr' → Type 0
+IsComparison e = (start : ℕ) × (op : ComparisonOperator) × (left : Box Expr') × (right : Box Expr') × (e ≡ v.Compare start op left right)
+
+abbrev pub IsBetween : Expr' → Type 0
+IsBetween e = (start : ℕ) × (negated : Bool) × (value : Box Expr') × (low : Box Expr') × (high : Box Expr') × (e ≡ v.Between start negated value low high)
+
+abbrev pub IsQuantified : Expr' → Type 0
+IsQuantified e = (start : ℕ) × (op : ComparisonOperator) × (quantifier : Quantifier) × (left : Box Expr') × (query : Box Query) × (e ≡ v.CompareAll start op quantifier left query)
+
+abbrev pub IsInQuery : Expr' → Type 0
+IsInQuery e = (start : ℕ) × (negated : Bool) × (value : Box Expr') × (query : Box Query) × (e ≡ v.InQuery start negated value query)
 
 -- the members of an IN list, of which other expressions have none
 abbrev pub members_in : Expr → Members

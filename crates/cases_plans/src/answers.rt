@@ -105,7 +105,7 @@ pub(crate) fn spelled_plan(
         Version::Three => 3,
     };
     let text = format!(in alloc; "CERTIFICATE {version}\nBLOCK 1\nPLAN {plan}\nTARGET 0\nEND\n")?;
-    let block = own.certified();
+    let block = own.certified_block();
     if block.indexes.len() > MAX_FROM_TABLES {
         return Ok(None);
     }

@@ -137,16 +137,54 @@ fn block_answer(
 ) -> Result<Option<String>, AllocError>
     requires { IsFormed database.now (block_of block.now) }
 {
-    let estimate = Estimate::new(alloc, database, block)?;
-    if let Some(answer) = estimate_answer(alloc, &estimate, question)? {
-        return Ok(Some(answer));
+    match estimate_question(alloc, database, block, question)? {
+        Some(answer) => Ok(Some(answer)),
+        None => space_question(alloc, group.version, database, block, question),
     }
-    let own = BlockSpace::new(alloc, database, block, 0, group.version)?;
-    let Some(plan) = question.strip_prefix("run ") else {
-        return space_answer(alloc, &own, question);
-    };
-    match spelled_plan(alloc, &own, plan)? {
-        Some(plan) => Ok(Some(run_answer(alloc, database, block, group.version, &plan)?)),
+}
+
+/// The answer to a question about the conjuncts and tables of a block; none where it is no such question.
+fn estimate_question(
+    alloc: Global,
+    database: &Database,
+    block: &Block,
+    question: &str,
+) -> Result<Option<String>, AllocError>
+    requires { IsFormed database.now (block_of block.now) }
+{
+    let estimate = Estimate::new(alloc, database, block)?;
+    estimate_answer(alloc, &estimate, question)
+}
+
+/// The answer to a question about the plans of a block; none where it is no such question.
+fn space_question(
+    alloc: Global,
+    version: Version,
+    database: &Database,
+    block: &Block,
+    question: &str,
+) -> Result<Option<String>, AllocError>
+    requires { IsFormed database.now (block_of block.now) }
+{
+    let own = BlockSpace::new(alloc, database, block, 0, version)?;
+    match question.strip_prefix("run ") {
+        Some(plan) => run_question(alloc, database, block, &own, plan),
+        None => space_answer(alloc, &own, question),
+    }
+}
+
+/// What a plan gives; none where the text spells none.
+fn run_question(
+    alloc: Global,
+    database: &Database,
+    block: &Block,
+    own: &BlockSpace<'_>,
+    plan: &str,
+) -> Result<Option<String>, AllocError>
+    requires { IsFormed database.now (block_of block.now) }
+{
+    match spelled_plan(alloc, own, plan)? {
+        Some(plan) => Ok(Some(run_answer(alloc, database, block, own.version, &plan)?)),
         None => Ok(None),
     }
 }

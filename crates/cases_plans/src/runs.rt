@@ -1,6 +1,6 @@
 //! What a plan gives when it is run.
 
-ghost use Rattle.std.specs.Prelude.{◌≡◌};
+ghost use Rattle.std.specs.Prelude.{◌≡◌, IfOk};
 ghost use Rattle.estimate.specs.Estimated.{IsFormed};
 ghost use Rattle.query_tree.specs.Bound.{block_of};
 
@@ -23,10 +23,37 @@ pub(crate) fn run_answer(
 ) -> Result<String, AllocError>
     requires formed { IsFormed database.now (block_of block.now) }
 {
+    let space = space_of(alloc, database, block, version)?;
+    run_in(alloc, database, block, &space, plan)
+}
+
+fn space_of<'a>(
+    alloc: Global,
+    database: &'a Database,
+    block: &'a Block,
+    version: Version,
+) -> Result<Space<'a>, AllocError>
+    requires formed { IsFormed database.now (block_of block.now) }
+    ensures database { IfOk result (λ space. space.database ≡ database.now) }
+    ensures block { IfOk result (λ space. space.block ≡ block.now) }
+{
     let estimate = Estimate::new(alloc, database, block)?;
-    let space = Space::new(alloc, estimate, version)?;
+    Space::new(alloc, estimate, version)
+}
+
+fn run_in(
+    alloc: Global,
+    database: &Database,
+    block: &Block,
+    space: &Space<'_>,
+    plan: &Plan,
+) -> Result<String, AllocError>
+    requires formed { IsFormed database.now (block_of block.now) }
+    requires database { space.now.database ≡ database.now }
+    requires block { space.now.block ≡ block.now }
+{
     let source = BlockSource::new(alloc, database, block)?;
-    match run(alloc, &source, &space, plan)? {
+    match run(alloc, &source, space, plan)? {
         Some(outcome) => spelled(alloc, &outcome, space.table_count()),
         None => format!(in alloc; "no plan"),
     }

@@ -35,7 +35,7 @@ impl Outcome {
 }
 
 fn read(alloc: Global, own: &BlockSpace<'_>, text: &[u8]) -> Result<Outcome, AllocError> {
-    let block = own.certified();
+    let block = own.certified_block();
     if block.indexes.len() > MAX_FROM_TABLES {
         return Ok(Outcome::Missing);
     }

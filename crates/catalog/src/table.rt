@@ -78,7 +78,7 @@ impl Table {
         let columns = new_columns(alloc, definitions)?;
         let indexes = key_indexes(alloc, definitions, columns.as_slice())?;
         let name = String::from_str(alloc, name)?;
-        let statistics = TableStatistics::counted(columns.as_slice(), 0);
+        let statistics = TableStatistics::table_statistics(columns.as_slice(), 0);
         Ok(Table {
             name,
             columns,
@@ -229,7 +229,7 @@ impl Table {
             Ok(Grown { rows, indexes }) => {
                 self.indexes = indexes;
                 self.len += rows;
-                self.statistics = TableStatistics::counted(&self.columns, self.len);
+                self.statistics = TableStatistics::table_statistics(&self.columns, self.len);
                 Ok(rows as u64)
             }
             Err(fault) => {

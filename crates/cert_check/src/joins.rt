@@ -14,7 +14,7 @@ ghost use Rattle.plan_space.specs.Planned.{space_in};
 
 use crate::verdict::StateKey;
 use plan_space::{CostedMerge, Space};
-use plan_tree::{Certificate, State, saturated};
+use plan_tree::{Certificate, State, saturate};
 
 /// The first listed state from which a join leads below the bound of the state that it reaches.
 pub(crate) fn join_failing(space: &Space<'_>, certificate: &Certificate) -> Option<StateKey>
@@ -81,8 +81,8 @@ fn loop_leads_below(space: &Space<'_>, state: State, table: usize, reach: u64) -
 {
     let cardinality = u128::from(space.cardinality(state.tables));
     'paths: for item in space.paths(state.tables, table) {
-        let added = saturated(cardinality * u128::from(item.cost));
-        if saturated(u128::from(state.cost) + u128::from(added)) < reach {
+        let added = saturate(cardinality * u128::from(item.cost));
+        if saturate(u128::from(state.cost) + u128::from(added)) < reach {
             return true;
         }
     }
@@ -117,5 +117,5 @@ fn merge_is_below(
         × (saturated (state.cost + item.entry.cost) < reach)) }
 {
     space.goes_by(state.tables, state.order, item.conjunct, table)
-        && saturated(u128::from(state.cost) + u128::from(item.cost)) < reach
+        && saturate(u128::from(state.cost) + u128::from(item.cost)) < reach
 }

@@ -11,7 +11,7 @@ ghost use Rattle.plan_space.specs.Planned.{space_in};
 
 use crate::verdict::StateKey;
 use plan_space::Space;
-use plan_tree::{Certificate, State, saturated};
+use plan_tree::{Certificate, State, saturate};
 
 /// The first listed state from which a sort leads below the bound of the state that it reaches.
 pub(crate) fn sort_failing(space: &Space<'_>, certificate: &Certificate) -> Option<StateKey>
@@ -39,7 +39,7 @@ fn sort_fails_at(space: &Space<'_>, certificate: &Certificate, state: State) -> 
     ensures { Decides result (SortFails (space_in space.now) (certificate_of certificate.now) (set_of state.tables)
         state.order) }
 {
-    let sorted = saturated(u128::from(state.cost) + u128::from(space.sort_cost(state.tables)));
+    let sorted = saturate(u128::from(state.cost) + u128::from(space.sort_cost(state.tables)));
     'orders: for order in space.sorts(state.tables) {
         let folded = space.fold(state.tables, order);
         if sorted < certificate.bound(state.tables, folded) {

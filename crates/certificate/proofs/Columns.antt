@@ -4,9 +4,8 @@ use Rattle.std.specs.Prelude.{slice_get, option_map, option_and_then, unwrap_or}
 use Rattle.std.specs.Global.{Vec}
 use Rattle.std.proofs.lemmas.List.{map-append}
 use Rattle.definitions.specs.Table.{Index, Table, Database}
-use Rattle.definitions.specs.Certificates.Explaining.{indexes_at}
+use Rattle.definitions.specs.Certificates.Explaining.{indexes_at, index_columns}
 use Rattle.certificate.specs.Blocks.{columns_in}
-use Rattle.certificate.specs.Spaces.{index_columns}
 
 pub next : (i : ℕ) → i + 1 ≡ suc i
 next i = omega arith

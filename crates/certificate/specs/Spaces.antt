@@ -1,15 +1,10 @@
 -- What the plan spaces of this crate are of.
-use Rattle.std.specs.Prelude.{ℕ, ◌≡◌, List, length, map}
-use Rattle.definitions.specs.Table.{Index, Table}
+use Rattle.std.specs.Prelude.{◌≡◌, length, map}
 use Rattle.definitions.specs.Certificates.CertifiedBlock as c
 use Rattle.certificate.specs.Blocks.{columns_in}
 use Rattle.interesting_orders.specs.Versions.{version_of}
 use Rattle.plan_space.specs.Planned.{space_in}
 use Rattle.certificate.specs.declared.block_space.BlockSpace.{BlockSpace}
-
--- the columns of each index of a table
-abbrev pub index_columns : Table → List (List ℕ)
-index_columns t = map (λ (i : Index). i.columns) t.indexes
 
 -- all of a block
 pub record IsBlockSpace (block : c.CertifiedBlock) (s : BlockSpace) : Type 0 where

@@ -4,10 +4,11 @@ ghost use Rattle.std.specs.Prelude.{◌≡◌, IfOk, map};
 ghost use Rattle.definitions.specs.Binding.Formed.{IsFormedSomewhere};
 ghost use Rattle.definitions.specs.Certificates.CertifiedBlock as c;
 ghost use Rattle.definitions.specs.Certificates.Explaining.{certified, indexes_at};
+ghost use Rattle.definitions.specs.Certificates.Explaining.{index_columns};
 ghost use Rattle.query_tree.specs.Bound.{block_of};
 ghost use Rattle.certificate.specs.Blocks.{IsOf, columns_in};
 ghost use Rattle.interesting_orders.specs.Versions.{version_of};
-ghost use Rattle.certificate.specs.Spaces.{IsBlockSpace, index_columns};
+ghost use Rattle.certificate.specs.Spaces.{IsBlockSpace};
 
 use crate::certified::CertifiedBlock;
 use catalog::{Database, Table};
@@ -54,7 +55,7 @@ impl<'a> BlockSpace<'a> {
     }
 
     /// What a text refers to.
-    pub fn certified(&self) -> CertifiedBlock<'_>
+    pub fn certified_block(&self) -> CertifiedBlock<'_>
         ensures { (block : c.CertifiedBlock) → IsBlockSpace block self.now → IsOf block result }
     {
         CertifiedBlock {

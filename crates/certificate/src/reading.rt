@@ -40,14 +40,18 @@ pub fn read_text(
     ensures err { (of : c.CertifiedBlock) → IsOf of block.now → IfErr result (HasTextFault of bytes.now) }
 {
     match written_in(alloc, block.version, bytes) {
-        Ok(said) => meant(alloc, block, &said),
+        Ok(said) => read_meaning(alloc, block, &said),
         Err(FormFault::Form { at, expected }) => Err(TextFault::Form { at, expected }),
         Err(FormFault::Memory) => Err(TextFault::Memory),
     }
 }
 
 /// What is meant by what a text says.
-fn meant(alloc: Global, block: &CertifiedBlock<'_>, said: &Written) -> Result<Spelled, TextFault>
+fn read_meaning(
+    alloc: Global,
+    block: &CertifiedBlock<'_>,
+    said: &Written,
+) -> Result<Spelled, TextFault>
     requires few { length block.now.indexes.now ≤ most_from_tables }
     ensures ok { IfOk result (IsMeant (block_in block.now) (said_of said.now)) }
     ensures err { IfErr result (IsLacking (block_in block.now) (said_of said.now)) }

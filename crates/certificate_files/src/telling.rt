@@ -52,7 +52,7 @@ pub(crate) fn block_told(
     ensures text { IfOk result IsOfText }
 {
     let own = BlockSpace::new(alloc, database, block, number, version)?;
-    match read_text(alloc, &own.certified(), bytes) {
+    match read_text(alloc, &own.certified_block(), bytes) {
         Ok(spelled) => Ok(spelled_told(&own.space, &spelled)),
         Err(fault) => fault_told(fault),
     }

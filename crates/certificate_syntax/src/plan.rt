@@ -39,9 +39,9 @@ pub(crate) fn plan<'a>(
     if first_byte(text) == b'A' {
         return read_access(alloc, text, version);
     }
-    let (around, text) = opening(text)?;
+    let (around, text) = read_opening(text)?;
     let (below, text) = plan(alloc, text, version, left)?;
-    wrapped(alloc, around, below, text, version)
+    read_behind(alloc, around, below, text, version)
 }
 
 fn read_access<'a>(
@@ -58,18 +58,18 @@ fn read_access<'a>(
 }
 
 /// The word of a plan that has another one below it.
-fn opening(text: &[u8]) -> Result<(Around, &[u8]), TextStop>
+fn read_opening(text: &[u8]) -> Result<(Around, &[u8]), TextStop>
     ensures { Reads (λ a. a) (AroundIn text.now) result }
 {
     match first_byte(text) {
-        b'L' => opened(text, Around::Loop, Word::Loop),
-        b'M' => opened(text, Around::Merge, Word::Merge),
-        b'S' => opened(text, Around::Sort, Word::Sort),
+        b'L' => open_word(text, Around::Loop, Word::Loop),
+        b'M' => open_word(text, Around::Merge, Word::Merge),
+        b'S' => open_word(text, Around::Sort, Word::Sort),
         _ => Err(stop_before(text, Expected::Plan)),
     }
 }
 
-fn opened(text: &[u8], around: Around, word: Word) -> Result<(Around, &[u8]), TextStop>
+fn open_word(text: &[u8], around: Around, word: Word) -> Result<(Around, &[u8]), TextStop>
     requires spelled { word_text word ≡ around_text around }
     requires first { slice_index text.now 0 ≡ slice_index (around_text around) 0 }
     ensures { Reads (λ a. a) (AroundIn text.now) result }
@@ -79,7 +79,7 @@ fn opened(text: &[u8], around: Around, word: Word) -> Result<(Around, &[u8]), Te
 }
 
 /// What stands behind the plan below.
-fn wrapped<'a>(
+fn read_behind<'a>(
     alloc: Global,
     around: Around,
     below: WrittenPlan,

@@ -11,8 +11,7 @@ use Rattle.std.specs.Ordering.{int_cmp, bool_cmp, nat_cmp, is_ge, is_gt, is_lt, 
 use Rattle.std.specs.Cmp.Lexicographic.{slice_cmp}
 use Rattle.std.specs.declared.cmp.Ordering.{Ordering}
 use Rattle.std.specs.declared.cmp.Ordering.TheVariants.{Less, Equal, Greater}
-use Rattle.definitions.specs.Value.{Value, Null, Number, Text, SqlType, Char, Numbers, Texts, kind_of, scale_of, rank, compare, text_cmp, number_cmp}
-use Rattle.definitions.specs.Key.{is_null}
+use Rattle.definitions.specs.Value.{Value, Null, Number, Text, SqlType, Char, Numbers, Texts, kind_of, scale_of, rank, compare, text_cmp, number_cmp, is_null}
 use Rattle.columns.specs.Cells.{CellList}
 use Rattle.columns.specs.Numbers.{number_values, numbers_of}
 use Rattle.columns.specs.Texts.{text_values, texts_of}

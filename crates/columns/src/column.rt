@@ -2,7 +2,7 @@
 
 ghost use Rattle.std.specs.Prelude.{ℕ, ◌≡◌, ◌<◌, ◌≤◌, ◌+◌, ◌∷◌, ◌++◌, ◌&&◌, not, true, false, [], take, length, slice_index_or, IfSome, IsNone, OnOk, OnErr, IfOk};
 ghost use Rattle.definitions.specs.Value as spec;
-ghost use Rattle.definitions.specs.Key.{is_null as is_null_value};
+ghost use Rattle.definitions.specs.Value.{is_null as is_null_value};
 ghost use Rattle.definitions.specs.IndexRun.{is_from};
 ghost use Rattle.definitions.specs.Scanning.{part_of, true_word, unknown_word};
 ghost use Rattle.sqlvalue.specs.Meaning.{op_of, type_of, value_of};

@@ -7,7 +7,7 @@ ghost use Rattle.definitions.specs.Scanning.{part_of, true_word, unknown_word, w
 ghost use Rattle.sqlvalue.specs.Meaning.{op_of, type_of, value_of};
 ghost use Rattle.columns.specs.Cells.{number_or_null};
 ghost use Rattle.columns.specs.Ranges.{is_in};
-ghost use Rattle.definitions.specs.Key.{is_null as is_null_value};
+ghost use Rattle.definitions.specs.Value.{is_null as is_null_value};
 ghost use Rattle.definitions.specs.IndexRun.{is_from};
 ghost use Rattle.columns.specs.Starts.{limit_of, starts, IsHeld, AreApart, AreMet, value_in};
 

@@ -8,7 +8,7 @@ ghost use Rattle.definitions.specs.Scanning.{part_of, true_word, unknown_word};
 ghost use Rattle.sqlvalue.specs.Meaning.{op_of, value_of};
 ghost use Rattle.columns.specs.Cells.{FitsIn, length_of, padded, text_or_null};
 ghost use Rattle.std.specs.Str.{IsAscii};
-ghost use Rattle.definitions.specs.Key.{is_null as is_null_value};
+ghost use Rattle.definitions.specs.Value.{is_null as is_null_value};
 ghost use Rattle.definitions.specs.IndexRun.{is_from as is_from_limit};
 ghost use Rattle.columns.specs.Starts.{limit_of, option_text, starts, IsHeld, AreApart, AreMet, value_in};
 

@@ -61,14 +61,14 @@ fn push_conjuncts<'a>(
             Ok(())
         }
         other => {
-            conjuncts.push(judged(other))?;
+            conjuncts.push(classify(other))?;
             Ok(())
         }
     }
 }
 
 /// A condition as a conjunct.
-fn judged<'a>(condition: &'a Condition) -> Conjunct<'a>
+fn classify<'a>(condition: &'a Condition) -> Conjunct<'a>
     requires few { NamesFew (condition_of condition.now) }
     ensures itself { condition_in result ≡ condition_of condition.now }
     ensures late { IsJudged result }

@@ -8,8 +8,8 @@ use Rattle.std.proofs.lemmas.List.Sorted.{All-permutation}
 use Rattle.std.specs.Ordering.{nat_cmp, ordering_then, ordering_reverse, is_lt, is_le, is_eq, is_gt, is_ge}
 use Rattle.std.specs.declared.cmp.Ordering.{Ordering}
 use Rattle.std.specs.declared.cmp.Ordering.TheVariants.{Less, Equal, Greater}
-use Rattle.definitions.specs.Value.{Value, Null, Number, Text, SqlType, Smallint, Integer, Numeric, Char, HasType, AreNotDistinct, rank, compare}
-use Rattle.definitions.specs.Key.{Key, key_rank, is_null}
+use Rattle.definitions.specs.Value.{Value, Null, Number, Text, SqlType, Smallint, Integer, Numeric, Char, HasType, AreNotDistinct, rank, compare, is_null}
+use Rattle.definitions.specs.Key.{Key, key_rank}
 use Rattle.definitions.specs.IndexRun.{Entry, entries_from, comes_before, AreRising, IsRun, Limit, Unlimited, Inclusive, Exclusive, is_true_of, is_from, is_up_to, begins_with, lies_in, equal_part, range_part}
 use Rattle.definitions.specs.IndexLaws.{IsKeyOf, IsStretch}
 use Rattle.definitions.proofs.Ranking.{rank_total, equally_ranked}

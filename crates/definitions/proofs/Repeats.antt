@@ -6,9 +6,9 @@ use Rattle.std.specs.Ordering.{is_eq, ordering_then, ordering_reverse}
 use Rattle.std.specs.declared.cmp.Ordering.{Ordering}
 use Rattle.std.specs.declared.cmp.Ordering.TheVariants.{Less, Equal, Greater}
 use Rattle.std.proofs.lemmas.List.{append-nil, append_assoc, length-map, map-append}
-use Rattle.definitions.specs.Value.{Value, Null, Number, Text, rank, HasType, SqlType}
+use Rattle.definitions.specs.Value.{Value, Null, Number, Text, rank, HasType, SqlType, is_null}
 use Rattle.definitions.specs.Table.{Column, Row, Index, Table, IsRow, may_be_null}
-use Rattle.definitions.specs.Key.{Key, key_of, key_rank, value_at, is_null, has_null, repeats, comes_again, AreUnique}
+use Rattle.definitions.specs.Key.{Key, key_of, key_rank, value_at, has_null, repeats, comes_again, AreUnique}
 use Rattle.definitions.specs.Refusal.{Refusal, FieldError}
 use Rattle.definitions.specs.Invariant.{KeepsNullsOut}
 use Rattle.definitions.specs.Loading as load

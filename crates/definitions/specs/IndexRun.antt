@@ -4,8 +4,8 @@ use Rattle.std.specs.Prelude.{ℕ, ◌+◌, Bool, true, false, not, ◌&&◌, Li
 use Rattle.std.specs.List.{AllByRecursion}
 use Rattle.std.specs.Ordering.{nat_cmp, ordering_then, is_eq, is_lt, is_gt, is_le, is_ge}
 use Rattle.std.specs.declared.cmp.Ordering.{Ordering}
-use Rattle.definitions.specs.Value.{Value, compare}
-use Rattle.definitions.specs.Key.{Key, key_rank, is_null}
+use Rattle.definitions.specs.Value.{Value, compare, is_null}
+use Rattle.definitions.specs.Key.{Key, key_rank}
 
 -- an entry: the number of a row, from 0, and its key
 pub record Entry : Type 0 where

@@ -2,9 +2,9 @@
 use Rattle.std.specs.Prelude.{ℕ, ◌<◌, ◌≤◌, ◌≡◌, ◌≤ℤ◌, ⊤, List, [], ◌∷◌, Option, Some, None, length, map, count_by, slice_get, option_map, true, IsTrue, IsFalse, not, ◌||◌, bytes_eq}
 use Rattle.std.specs.List.{AllByRecursion, AllZip}
 use Rattle.definitions.specs.Limits.{most_tables, most_columns, most_rows, most_indexes, most_index_columns, greatest_statistic}
-use Rattle.definitions.specs.Value.{SqlType, IsType, IsInRange}
+use Rattle.definitions.specs.Value.{SqlType, IsType, IsInRange, is_null}
 use Rattle.definitions.specs.Table.{Column, Row, KeyRange, Index, Table, Database, may_be_null, is_primary, IsRow, AreDistinct, column_names}
-use Rattle.definitions.specs.Key.{is_null, key_of, AreUnique}
+use Rattle.definitions.specs.Key.{key_of, AreUnique}
 
 -- a count of rows or keys, and one of pages, of which there is one at least
 abbrev pub IsCount : ℕ → Type 0

@@ -4,7 +4,7 @@ use Rattle.std.specs.List.{list_any, AllByRecursion}
 use Rattle.std.specs.Ordering.{is_eq, ordering_then}
 use Rattle.std.specs.declared.cmp.Ordering.{Ordering}
 use Rattle.std.specs.declared.cmp.Ordering.TheVariants.{Equal}
-use Rattle.definitions.specs.Value.{Value, Null, rank}
+use Rattle.definitions.specs.Value.{Value, Null, rank, is_null}
 use Rattle.definitions.specs.Table.{Row}
 
 -- a key: the values of a row in the columns of an index (own)
@@ -21,10 +21,6 @@ key_of columns row = map (value_at row) columns
 abbrev pub key_rank : Key → Key → Ordering
 key_rank (a ∷ as') (b ∷ bs) = ordering_then (rank a b) (key_rank as' bs)
 key_rank _ _ = Equal
-
-abbrev pub is_null : Value → Bool
-is_null Null = true
-is_null _ = false
 
 abbrev pub has_null : Key → Bool
 has_null key = list_any is_null key

@@ -107,20 +107,8 @@ abbrev pub listed : Items → List Item
 listed NoItem = []
 listed (AddItem value alias others) = record { value = value; alias = alias } ∷ listed others
 
--- the items of a block; none where it has an asterisk
-abbrev pub block_items : Block → List Item
-block_items (Specification distinct (Listed items) sources where' groups having) = listed items
-block_items (Specification distinct Asterisk sources where' groups having) = []
-
 abbrev pub block_sources : Block → List Source
 block_sources (Specification distinct list sources where' groups having) = sources
-
-abbrev pub condition_expr : Condition → Option Expr
-condition_expr Absent = None
-condition_expr (Present e) = Some e
-
-abbrev pub block_condition : Block → Option Expr
-block_condition (Specification distinct list sources where' groups having) = condition_expr where'
 
 -- what a key of ORDER BY names: a result column or its position (13.1)
 pub data KeyName : Type 0 where

@@ -9,9 +9,9 @@ use Rattle.std.specs.declared.cmp.Ordering.TheVariants.{Less, Equal, Greater}
 use Rattle.std.proofs.lemmas.List.Elements.{filter-append}
 use Rattle.std.proofs.lemmas.List.Sorted.{IsPermutation-cons, IsPermutation-refl, IsPermutation-swap, IsPermutation-trans}
 use Rattle.definitions.specs.Table.{Row}
-use Rattle.definitions.specs.Value.{Value, rank}
-use Rattle.definitions.specs.Truth.{is_null}
-use Rattle.definitions.specs.Queries.Grouping.{same_value, same_values, without_repeats}
+use Rattle.definitions.specs.Value.{Value, rank, is_null}
+use Rattle.definitions.specs.Lists.{without_repeats}
+use Rattle.definitions.specs.Queries.Grouping.{same_value, same_values}
 use Rattle.definitions.proofs.Ranking.{rank_total}
 use Rattle.definitions_execution.specs.Lists.{In, Rises}
 use Rattle.definitions_answers.specs.Shapes.{Shape, HasShape, HasShapes}
@@ -67,7 +67,7 @@ module _ {X : Type 0} (alike : X → X → Bool) (laws : IsEquivalence alike) (P
 
 -- ---- rows and values
 
-value_laws : IsEquivalence same_value
+pub value_laws : IsEquivalence same_value
 value_laws = eq_by_cmp_equiv rank_total
 
 equal_from : (o : Ordering) → is_eq o ≡ true → o ≡ Equal
@@ -162,7 +162,7 @@ module _ {X : Type 0} (alike : X → X → Bool) (laws : IsEquivalence alike) wh
           last true f = ap (λ t. filter (λ z. not (alike x z)) xs ++ cond (not t) (y ∷ []) []) f ∙ nil (filter (λ z. not (alike x z)) xs)
           last false f = ap (λ t. filter (λ z. not (alike x z)) xs ++ cond (not t) (y ∷ []) []) f
 
-  left_more : (xs : List X) (y : X) → without_repeats alike (xs ++ y ∷ []) ≡ more (without_repeats alike xs) y
+  pub left_more : (xs : List X) (y : X) → without_repeats alike (xs ++ y ∷ []) ≡ more (without_repeats alike xs) y
   left_more [] y = refl
   left_more (x ∷ xs) y = ap (λ l. x ∷ filter (λ z. not (alike x z)) l) (left_more xs y) ∙ ap (λ l. x ∷ l) (filter_more x y (without_repeats alike xs)) ∙ step (alike x y) refl
     where

@@ -223,7 +223,7 @@ one_line shapes r row own other =
     (λ e. subst (λ x. same_values r x ≡ true) (equal_lines_are_equal_rows shapes r row own other (sym (same_text (row_line row) (row_line r) (sym e)))) (row_laws.refl r))
     (λ e. subst (λ x. pointwise nat_eq (row_line x) (row_line r) ≡ true) (one_row shapes r row own.shaped other.shaped e) (nat_list_eq_equiv.refl (row_line r)))
 
-any_line : (shapes : List Shape) (rows : List Row) (row : Row) → AllByRecursion (IsRowOf shapes) rows → IsRowOf shapes row → list_any (pointwise nat_eq (row_line row)) (map row_line rows) ≡ list_any (λ before. same_values before row) rows
+pub any_line : (shapes : List Shape) (rows : List Row) (row : Row) → AllByRecursion (IsRowOf shapes) rows → IsRowOf shapes row → list_any (pointwise nat_eq (row_line row)) (map row_line rows) ≡ list_any (λ before. same_values before row) rows
 any_line shapes [] row all own = refl
 any_line shapes (r ∷ rows) row all own = ap₂ (λ x y. x || y) (one_line shapes r row all.0 own) (any_line shapes rows row all.1 own)
 

@@ -5,9 +5,9 @@ use Rattle.std.specs.List.{AllByRecursion}
 use Rattle.std.specs.Ordering.{is_eq}
 use Rattle.std.specs.declared.cmp.Ordering.{Ordering}
 use Rattle.std.specs.declared.cmp.Ordering.TheVariants.{Less, Equal, Greater}
-use Rattle.definitions.specs.Value.{Value, Null, SqlType, rank}
+use Rattle.definitions.specs.Value.{Value, Null, SqlType, rank, is_null}
 use Rattle.definitions.specs.Arithmetic.{Meaning, Is}
-use Rattle.definitions.specs.Truth.{and, opposite, all_true, any_true, compared, compared_with_any, unless, known, is_null, is_true}
+use Rattle.definitions.specs.Truth.{and, opposite, all_true, any_true, compared, compared_with_any, unless, known, is_true}
 use Rattle.definitions.specs.Pattern.{like}
 use Rattle.definitions.specs.Statement.{Equals, GreaterOrEquals, LessOrEquals}
 use Rattle.definitions.specs.Plans.Order.{BlockColumn}

@@ -1,11 +1,11 @@
 -- An expression means what it does by the rows at hand, its parameters and the blocks that it asks for.
 use Rattle.std.proofs.Common.{ap, ap₂, ◌≡◌, ℕ, List, [], ◌∷◌, ◌++◌, map, Option, Some, None, refl}
 use Rattle.std.specs.List.{AllByRecursion}
-use Rattle.definitions.specs.Value.{Value, Null}
+use Rattle.definitions.specs.Value.{Value, Null, is_null}
 use Rattle.definitions.specs.Table.{Row}
 use Rattle.definitions.specs.Statement.{Equals, GreaterOrEquals, LessOrEquals}
 use Rattle.definitions.specs.Arithmetic.{Meaning, Is}
-use Rattle.definitions.specs.Truth.{and, known, unless, opposite, all_true, any_true, compared, compared_with_any, has_row, is_null}
+use Rattle.definitions.specs.Truth.{and, known, unless, opposite, all_true, any_true, compared, compared_with_any, has_row}
 use Rattle.definitions.specs.Pattern.{like}
 use Rattle.definitions.specs.Queries.BoundBlock.{ValueExpr, Column, Parameter, Numeral, String, Signed, Chain, AggregateValue, Subquery, Operands, NoOperand, Operand, Condition, Conditions, NoPart, Part, Compare, Quantified, IsNull, Between, Like, InList, InQuery, Exists, Not, And, Or}
 use Rattle.definitions.specs.Queries.Conjuncts.{member_values, values_of, values_of_parts, tested_blocks, tested_blocks_of_parts, blocks_in, operand_blocks, conjuncts_of, conjuncts_of_parts}

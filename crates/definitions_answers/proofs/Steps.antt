@@ -12,7 +12,7 @@ use Rattle.definitions.specs.Queries.Conjuncts.{conjuncts, early_conjuncts, test
 use Rattle.definitions.specs.Queries.Evaluation.{Combination}
 use Rattle.definitions.specs.Queries.Combinations.{Context, passing}
 use Rattle.definitions.specs.Queries.Answer.{block_answer, meanings}
-use Rattle.definitions.specs.Binding.Formed.{IsFormedValue, AreFormedOperands, IsTypedValue, IfCondition, IsFormedFunction, IsFormedBlock}
+use Rattle.definitions.specs.Binding.Formed.{IsFormedValue, AreFormedOperands, IsTypedValue, IfCondition, IsFormedFunction, IsFormedBlock, IsInside}
 use Rattle.definitions.specs.Estimates.Version.{Version}
 use Rattle.definitions.specs.Estimates.BlockSpace.{space_of}
 use Rattle.definitions.proofs.QueryTheory.Lemmas.{blocks_mean_by_those_behind, blocks_behind_mean_the_same}
@@ -63,7 +63,7 @@ module _ (db : Database) (blocks around : Blocks) (n : ℕ) (b : Block) where
 
   option_tested : (o : Option Condition) → IfCondition db blocks around n b o → AllByRecursion Behind (tested_of_option o)
   option_tested None h = tt
-  option_tested (Some c) h = (all_first Behind (tested_blocks c) _ h.2).0
+  option_tested (Some c) h = (all_first Behind (tested_blocks c) _ (all_weaker (IsInside db blocks around n b) Behind (λ k inside. inside.0) (blocks_of c) h.2)).0
 
   arguments_behind : (fs : List Aggregate) → AllByRecursion (IsFormedFunction db blocks around n b) fs → AllByRecursion AreBehind (arguments_of fs)
   arguments_behind [] h = tt

@@ -4,9 +4,9 @@ use Rattle.std.specs.Prelude.{filter, not, Contains, IsPermutation}
 use Rattle.std.proofs.lemmas.List.Elements.{Contains-append_cases}
 use Rattle.std.specs.List.{AllByRecursion}
 use Rattle.std.proofs.lemmas.List.Sorted.{length_permutation}
-use Rattle.definitions.specs.Value.{Value, Null, Number, Text}
-use Rattle.definitions.specs.Truth.{is_null}
-use Rattle.definitions.specs.Queries.Grouping.{same_value, taken, without_repeats}
+use Rattle.definitions.specs.Value.{Value, Null, Number, Text, is_null}
+use Rattle.definitions.specs.Lists.{without_repeats}
+use Rattle.definitions.specs.Queries.Grouping.{same_value, taken}
 use Rattle.definitions_answers.specs.Shapes.{Shape, HasShape, IsThere}
 use Rattle.definitions_answers.proofs.Reordered.{Reordered, same, next, exchange, through, reordered}
 

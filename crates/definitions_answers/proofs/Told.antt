@@ -4,12 +4,12 @@ use Rattle.std.specs.Prelude.{get_or, Contains, IsPermutation}
 use Rattle.std.specs.List.{AllByRecursion}
 use Rattle.std.proofs.lemmas.List.Elements.{All-contains_itself, All-cons, All-nil}
 use Rattle.std.proofs.lemmas.List.Sorted.{All-permutation, length_permutation, IsPermutation-map}
-use Rattle.definitions.specs.Value.{Value, Null}
+use Rattle.definitions.specs.Value.{Value, Null, is_null}
 use Rattle.definitions.specs.Table.{Row}
 use Rattle.definitions.specs.Statement.{ComparisonOperator, Equals, GreaterOrEquals, LessOrEquals, Quantifier}
 use Rattle.definitions.specs.Statement as s
 use Rattle.definitions.specs.Arithmetic.{Raise, Cardinality, Meaning, Is, Raises, raised}
-use Rattle.definitions.specs.Truth.{Truth, and, opposite, all_true, any_true, compared, compared_with_any, unless, known, is_null, has_row}
+use Rattle.definitions.specs.Truth.{Truth, and, opposite, all_true, any_true, compared, compared_with_any, unless, known, has_row}
 use Rattle.definitions.specs.Pattern.{like}
 use Rattle.definitions.specs.Queries.BoundBlock as b
 use Rattle.definitions.specs.Queries.BoundBlock.{ValueExpr, Operands, Condition, Conditions}

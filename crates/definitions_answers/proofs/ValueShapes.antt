@@ -2,9 +2,8 @@
 use Rattle.std.proofs.Common.{ℤ, pos, not, nat_abs, ◌≡◌, refl, sym, ap, subst, ℕ, List, [], ◌∷◌, Bool, true, false, Option, Some, None, is_some, get_or, map, length, true≢false}
 use Rattle.std.specs.Prelude.{cond, ◌*ℤ◌, ◌^◌, ◌-◌, nat_le, ◌+◌, ◌==◌, IsTrue, filter, flat_map, int_div, unwrap_or}
 use Rattle.std.specs.Ordering.{is_lt}
-use Rattle.definitions.specs.Truth.{is_null}
 use Rattle.std.specs.List.{AllByRecursion}
-use Rattle.definitions.specs.Value.{rank, Value, Null, Number, Text, SqlType, Smallint, Integer, Numeric, Char, HasType, IsType}
+use Rattle.definitions.specs.Value.{rank, Value, Null, Number, Text, SqlType, Smallint, Integer, Numeric, Char, HasType, IsType, is_null}
 use Rattle.definitions.specs.ValueType.{ValueType, NumberType, TextType, type_of, HasValueType}
 use Rattle.definitions.specs.Table.{Database}
 use Rattle.definitions.specs.Invariant.{IsDatabase}

@@ -3,13 +3,12 @@ use Rattle.std.specs.Prelude.{◌≡◌, List, [], ◌∷◌, IsPermutation}
 use Rattle.std.specs.List.{AllByRecursion}
 use Rattle.definitions.specs.Arithmetic.{Is}
 use Rattle.definitions.specs.Truth.{Truth, True, False, has_row}
-use Rattle.definitions.specs.NotYet.{IsPlain}
 use Rattle.definitions.specs.Queries.BoundBlock.{Block}
 use Rattle.definitions.specs.Queries.Conjuncts.{late_conjuncts}
 use Rattle.definitions.specs.Queries.Evaluation.{Combination, on_one}
 use Rattle.definitions.specs.Queries.Combinations.{Context, at, passing}
 use Rattle.definitions.specs.Queries.Answer.{block_answer}
-use Rattle.definitions_answers.specs.Plain.{row_raises_in, late_raises, kept_of}
+use Rattle.definitions_answers.specs.Plain.{IsPlain, row_raises_in, late_raises, kept_of}
 
 abbrev pub is_any : {X : Type 0} → List X → Truth
 is_any [] = False

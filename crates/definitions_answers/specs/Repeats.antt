@@ -3,7 +3,8 @@ use Rattle.std.specs.Prelude.{◌≡◌, Bool, true, List, [], ◌∷◌, ◌++�
 use Rattle.std.specs.List.{AllByRecursion, list_any}
 use Rattle.definitions.specs.Table.{Row}
 use Rattle.definitions.specs.Value.{Value}
-use Rattle.definitions.specs.Queries.Grouping.{same_values, taken, without_repeats}
+use Rattle.definitions.specs.Lists.{without_repeats}
+use Rattle.definitions.specs.Queries.Grouping.{same_values, taken}
 use Rattle.definitions_execution.specs.Lists.{Rises}
 use Rattle.definitions_answers.specs.Shapes.{Shape, HasShape, HasShapes}
 

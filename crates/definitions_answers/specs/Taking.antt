@@ -3,13 +3,12 @@ use Rattle.std.specs.Prelude.{◌≡◌, List, [], ◌∷◌, ◌++◌, Bool, tr
 use Rattle.definitions.specs.Value.{Value, Null}
 use Rattle.definitions.specs.Table.{Row}
 use Rattle.definitions.specs.Arithmetic.{Raise}
-use Rattle.definitions.specs.NotYet.{IsPlain}
 use Rattle.definitions.specs.Queries.BoundBlock.{Item, Block}
 use Rattle.definitions.specs.Queries.Conjuncts.{late_conjuncts}
 use Rattle.definitions.specs.Queries.Evaluation.{Combination, Environment, column_values}
 use Rattle.definitions.specs.Queries.Combinations.{Context, at, all_hold, passing, raises_of_late}
 use Rattle.definitions.specs.Queries.Answer.{block_answer}
-use Rattle.definitions_answers.specs.Plain.{row_in, row_raises_in, late_raises, column_raises, rows_of}
+use Rattle.definitions_answers.specs.Plain.{IsPlain, row_in, row_raises_in, late_raises, column_raises, rows_of}
 use Rattle.definitions_answers.specs.Told.{TellsRows}
 
 -- an exception of a late conjunct; or else one of a result column; or else the first values of the rows

@@ -5,10 +5,10 @@ use Rattle.std.specs.Prelude.{option_map, unwrap_or}
 use Rattle.std.specs.Ordering.{ordering_reverse, is_eq, is_lt, is_gt, is_le, is_ge}
 use Rattle.std.specs.declared.cmp.Ordering.{Ordering}
 use Rattle.std.specs.declared.cmp.Ordering.TheVariants.{Less, Equal, Greater}
-use Rattle.definitions.specs.Value.{Value, Null, Number, Text, compare}
+use Rattle.definitions.specs.Value.{Value, Null, Number, Text, compare, is_null}
 use Rattle.definitions.specs.Statement.{ComparisonOperator, Equals, NotEquals, LessThan, GreaterThan, LessOrEquals, GreaterOrEquals}
 use Rattle.definitions.specs.Table.{Row}
-use Rattle.definitions.specs.Key.{Key, is_null}
+use Rattle.definitions.specs.Key.{Key}
 use Rattle.definitions.specs.IndexRun.{Entry, Limit, is_true_of, begins_with, lies_in, rows_of}
 use Rattle.definitions.specs.Plans.Path.{MatchingScan}
 use Rattle.definitions.specs.Arithmetic.{Is}

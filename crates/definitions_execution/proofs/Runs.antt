@@ -28,12 +28,12 @@ use Rattle.definitions.proofs.TextExamples.{texts_read, tokens_derive}
 use Rattle.definitions.proofs.BindingTheory.WorkedBindings.{faultless_is_accepted}
 
 -- SELECT X FROM T WHERE X = 1 prints the header, the one row and the count
-plain : CanAnswer (bound_form t_and_u faultless)
-plain = record { distinct = refl; groups = refl; having = refl; functions = refl; order = refl }
+one_block : CanAnswer (bound_form t_and_u faultless)
+one_block = refl
 
 accepted : IsAccepted t_and_u (Query faultless)
 accepted r (faults.query q r' h) = faultless_is_accepted r' h
-accepted r (faults.not_yet q a h) = h plain
+accepted r (faults.not_yet q a h) = h one_block
 
 one_sorted : {X : Type 0} (order : X → X → Ordering) (x : X) → IsSorted order (x ∷ [])
 one_sorted order x i d l m = absurd (omega (arith, m))

@@ -2,9 +2,8 @@
 -- a boolean factor that matches an index asks of its keys).
 use Rattle.std.specs.Prelude.{ℕ, ◌<◌, length, slice_get, ◌≡◌, set, Bool, false, not, ◌&&◌, Option, Some, None}
 use Rattle.std.specs.Ordering.{is_eq}
-use Rattle.definitions.specs.Value.{Value, SqlType, compare}
+use Rattle.definitions.specs.Value.{Value, SqlType, compare, is_null}
 use Rattle.definitions.specs.Statement.{ComparisonOperator, Equals, NotEquals, LessThan, GreaterThan, LessOrEquals, GreaterOrEquals}
-use Rattle.definitions.specs.Key.{is_null}
 use Rattle.definitions.specs.IndexRun.{Limit, Unlimited, Inclusive, Exclusive, is_true_of, is_from, is_up_to}
 use Rattle.definitions.specs.Arithmetic.{Is}
 use Rattle.definitions.specs.Plans.TableSet.{Lacks}

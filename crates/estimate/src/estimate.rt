@@ -20,7 +20,7 @@ use crate::planning::plan_conjuncts;
 use crate::shares::{left_by_completed, left_by_known};
 use crate::table_size::TableSize;
 use catalog::{Database, Table};
-use plan_tree::{TableSet, saturated};
+use plan_tree::{TableSet, saturate};
 use query_tree::Block;
 use std::alloc::{AllocError, Global};
 use std::marker::Model;
@@ -149,7 +149,7 @@ impl<'a> Estimate<'a> {
             table }
         ensures below { result ≤ limit }
     {
-        let product = saturated(u128::from(rows) * u128::from(self.sizes[table].rows));
+        let product = saturate(u128::from(rows) * u128::from(self.sizes[table].rows));
         left_by_completed(&self.conjuncts, taken, table, product)
     }
 
@@ -183,7 +183,7 @@ impl<'a> Estimate<'a> {
         ensures below { result ≤ limit }
     {
         let bytes = u128::from(rows) * u128::from(self.width(tables));
-        saturated(bytes.div_ceil(PAGE_BYTES))
+        saturate(bytes.div_ceil(PAGE_BYTES))
     }
 
     /// What a sort of the rows of a set of tables costs: it writes and reads each page, and handles each row.
@@ -200,7 +200,7 @@ impl<'a> Estimate<'a> {
         ensures exact { result ≡ spec.sort_cost self.now.database (block_of self.now.block) (set_of tables) }
         ensures below { result ≤ limit }
     {
-        saturated(20 * u128::from(self.pages(tables, rows)) + u128::from(rows))
+        saturate(20 * u128::from(self.pages(tables, rows)) + u128::from(rows))
     }
 }
 

@@ -44,7 +44,7 @@ impl Extent {
             (spec.drawn (range_of self) key_scale number.units number.scale) }
         ensures below { result ≤ million }
     {
-        let key = self.drawn(key_scale, number);
+        let key = self.clamp(key_scale, number);
         fraction(distance(key, self.high), self.width())
     }
 
@@ -54,7 +54,7 @@ impl Extent {
             (spec.drawn (range_of self) key_scale number.units number.scale) }
         ensures below { result ≤ million }
     {
-        let key = self.drawn(key_scale, number);
+        let key = self.clamp(key_scale, number);
         fraction(distance(self.low, key), self.width())
     }
 
@@ -65,8 +65,8 @@ impl Extent {
             (spec.drawn (range_of self) key_scale high.units high.scale) }
         ensures below { result ≤ million }
     {
-        let from = self.drawn(key_scale, low);
-        let to = self.drawn(key_scale, high);
+        let from = self.clamp(key_scale, low);
+        let to = self.clamp(key_scale, high);
         fraction(distance(from, to), self.width())
     }
 
@@ -79,7 +79,7 @@ impl Extent {
     }
 
     /// A number drawn into the range: the bound that it lies beyond, or itself, cut towards zero to the scale of the keys (own).
-    fn drawn(self, key_scale: u8, number: Num) -> i128
+    fn clamp(self, key_scale: u8, number: Num) -> i128
         ensures exact { result ≡ spec.drawn (range_of self) key_scale number.units number.scale }
         ensures within { IsWithin (range_of self) result }
     {

@@ -40,17 +40,17 @@ pub(crate) fn side_of(expr: &ValueExpr) -> Side
             scale: key_scale(*sql_type),
         },
         ValueExpr::Number(literal) => Side::KnownNumber(literal.number()),
-        ValueExpr::Signed { minus, operand } => signed(*minus, side_of(operand)),
+        ValueExpr::Signed { minus, operand } => apply_sign(*minus, side_of(operand)),
         _ => Side::OtherValue,
     }
 }
 
 /// A value under a sign.
-fn signed(minus: bool, side: Side) -> Side
+fn apply_sign(minus: bool, side: Side) -> Side
     ensures { side_in result ≡ spec.signed minus (side_in side) }
 {
     match side {
-        Side::KnownNumber(number) if minus => Side::KnownNumber(number.negated()),
+        Side::KnownNumber(number) if minus => Side::KnownNumber(number.negate()),
         Side::KnownNumber(number) => Side::KnownNumber(number),
         Side::PlainColumn { .. } | Side::OtherValue => Side::OtherValue,
     }

@@ -11,7 +11,8 @@ use Rattle.definitions.specs.Queries.Conjuncts.{conjuncts}
 use Rattle.definitions.specs.Binding.Formed.{IsFormedSomewhere}
 use Rattle.definitions.specs.Plans.Order.{Order, BlockColumn, ascending}
 use Rattle.definitions.specs.Plans.Conjunct.{Conjunct}
-use Rattle.definitions.specs.Plans.Numbering.{same_order, without_repeats, side_orders, merge_orders}
+use Rattle.definitions.specs.Lists.{without_repeats}
+use Rattle.definitions.specs.Plans.Numbering.{same_order, side_orders, merge_orders}
 use Rattle.definitions.specs.Estimates.Version.{Three, directions}
 use Rattle.definitions.specs.Estimates.PlanConjuncts.{plan_conjuncts, plan_conjunct}
 use Rattle.definitions.specs.Estimates.Orders.{known_indexes, indexes_at, required_of, index_order, table_orders, index_orders, orders_of}
@@ -29,11 +30,11 @@ fewer p (x ∷ xs) = of_test (p x) (fewer p xs)
     of_test true h = omega (arith, h)
     of_test false h = omega (arith, h)
 
-no_more_orders : (orders : List Order) → length (without_repeats orders) ≤ length orders
+no_more_orders : (orders : List Order) → length (without_repeats same_order orders) ≤ length orders
 no_more_orders [] = lit≤ tt
 no_more_orders (order ∷ orders) =
     let h = no_more_orders orders in
-    let k = fewer (λ other. not (same_order order other)) (without_repeats orders) in
+    let k = fewer (λ other. not (same_order order other)) (without_repeats same_order orders) in
     omega (arith, h, k)
 
 few_flat : {X Y : Type 0} (f : X → List Y) (n : ℕ) → ((x : X) → length (f x) ≤ n) → (xs : List X) → length (flat_map f xs) ≤ n * length xs

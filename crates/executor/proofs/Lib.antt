@@ -1,10 +1,7 @@
 pub mod Lists
 pub mod AnswerArranged
-pub mod Answering
 pub mod Formed
 pub mod Testing
-pub mod Fields
-pub mod Columns
 pub mod Taking
 pub mod Meaning
 pub mod Ending
@@ -15,3 +12,11 @@ mod Few
 mod PathsThere
 mod PlansSpelled
 mod Explained
+mod Keys
+mod Cuts
+mod GroupFacts
+mod GroupTelling
+mod GroupTaking
+mod GroupEnding
+mod GroupTaken
+mod GroupMeaning

@@ -19,8 +19,8 @@ use Rattle.conjuncts.specs.declared.split.Conjunct.{Conjunct}
 use Rattle.scans.specs.Asks.{CanEvaluate}
 use Rattle.executor.specs.OneComposite.{are_true_in, raised_in}
 use Rattle.executor.specs.Views.{conditions_of}
-use Rattle.executor.proofs.Answering.{told_raise, told_result}
-use Rattle.executor.proofs.Lists.{at_place, next}
+use Rattle.grouping.proofs.Answering.{told_raise, told_result}
+use Rattle.grouping.proofs.Lists.{at_place, next}
 
 -- ---- which they are
 

@@ -1,25 +1,31 @@
 -- What is told of composites.
-use Rattle.std.specs.Prelude.{ℕ, ◌≡◌, ◌≤◌, ⊤, List, [], ◌∷◌, ◌++◌, Option, Some, None, Contains, IsPermutation, length, map, filter, flat_map}
+use Rattle.std.specs.Prelude.{ℕ, ◌≡◌, Bool, true, false, is_some, List, [], ◌∷◌, ◌++◌, Option, Some, None, Contains, IsPermutation, length, map, filter, flat_map}
+use Rattle.std.specs.List.{AllByRecursion}
 use Rattle.definitions.specs.Table.{Row}
 use Rattle.definitions.specs.Arithmetic as arithmetic
-use Rattle.definitions.specs.Printing.{fields_line, row_line, table_text}
-use Rattle.definitions.specs.Queries.BoundBlock.{Item}
+use Rattle.definitions.specs.Printing.{table_text}
+use Rattle.definitions.specs.Queries.BoundBlock.{Item, Key}
 use Rattle.definitions.specs.Queries.Conjuncts.{late_conjuncts}
 use Rattle.definitions.specs.Queries.Evaluation.{Combination, Environment}
 use Rattle.definitions.specs.Queries.Combinations.{passing}
-use Rattle.definitions.specs.Queries.Answer.{block_answer}
+use Rattle.definitions.specs.Queries.Answer.{block_answer, distinct_rows}
 use Rattle.definitions.specs.Queries.Outcomes.{Allowed, Told}
+use Rattle.definitions_answers.specs.Shapes.{Shape, HasShapes}
 use Rattle.sqlvalue.specs.Raises.{raise_of}
 use Rattle.sqlvalue.specs.declared.arithmetic.Raise.{Raise}
 use Rattle.definitions_execution.specs.Stored.{Composite}
 use Rattle.definitions_execution.specs.OfBlock.{combination_of}
 use Rattle.scans.specs.Sources.{BlockSource, block_in, context_in, environment_at}
-use Rattle.executor.specs.OneComposite.{are_true_in, raised_in, row_in, row_raises_in}
-use Rattle.executor.specs.declared.lines.Lines.{Lines}
+use Rattle.grouping.specs.ResultRows.{AreArranged, HasDistinct, HasOrdered, HasPrinted}
+use Rattle.grouping.specs.RowAt.{row_in, row_raises_in}
+use Rattle.executor.specs.OneComposite.{are_true_in, raised_in}
+use Rattle.executor.specs.declared.result_rows.ResultRows.{ResultRows}
+use Rattle.executor.specs.declared.result_rows.RowStore.{RowStore}
+use Rattle.executor.specs.declared.result_rows.RowStore.TheVariants as store
 
--- what may be told of a block that has no order, in the rows of the blocks around it
+-- what may be told of a block in the rows of the blocks around it
 abbrev pub MayTell : BlockSource → List Combination → Told → Type 0
-MayTell source outer told = Allowed (block_answer (context_in source outer) (block_in source)) [] told
+MayTell source outer told = Allowed (block_answer (context_in source outer) (block_in source)) (block_in source).order told
 
 -- composites stand for all combinations that pass the early conjuncts, each as often as there
 abbrev pub ArrangePassing : BlockSource → List Combination → List Composite → Type 0
@@ -48,40 +54,54 @@ module _ (source : BlockSource) (outer : List Combination) where
   abbrev pub column_raises : List Composite → List arithmetic.Raise
   column_raises composites = flat_map (λ composite. row_raises_in (environment_at source outer composite) (block_in source).items) (kept composites)
 
--- ---- the lines of rows
+-- ---- the rows that are kept
 
--- lines tell of rows, or where result columns may raise, of one of these exceptions
-abbrev pub TellsBy : Option Raise → List (List ℕ) → List Row → List arithmetic.Raise → Lines → Type 0
-TellsBy None names rows raises lines = (raises ≡ []) × (lines.text.items ≡ fields_line names ++ flat_map row_line rows) × (lines.count ≡ length rows)
-TellsBy (Some raise) names rows raises lines = Contains raises (raise_of raise)
+abbrev pub Holds : RowStore → List (List ℕ) → List Row → Type 0
+Holds (store.Printed p) names rows = HasPrinted names rows p
+Holds (store.Distinct d) names rows = HasDistinct names rows d
+Holds (store.Ordered o) names rows = HasOrdered names rows o
 
-abbrev pub Tells : List (List ℕ) → List Row → List arithmetic.Raise → Lines → Type 0
-Tells names rows raises lines = TellsBy lines.raised names rows raises lines
+abbrev pub leaves_repeats_out : RowStore → Bool
+leaves_repeats_out (store.Printed p) = false
+leaves_repeats_out (store.Distinct d) = true
+leaves_repeats_out (store.Ordered o) = is_some o.seen
+
+abbrev pub puts_in_order : RowStore → Bool
+puts_in_order (store.Ordered o) = true
+puts_in_order _ = false
+
+-- rows are told as they came, or in the order of keys; under DISTINCT each once
+abbrev pub AreToldAs : (in_order distinct : Bool) → List Key → List Row → List Row → Type 0
+AreToldAs true distinct keys rows printed = AreArranged distinct keys rows printed
+AreToldAs false distinct keys rows printed = printed ≡ distinct_rows distinct rows
+
+-- they tell of rows, or where result columns may raise, of one of these exceptions
+abbrev pub TellsBy : Option Raise → List (List ℕ) → List Row → List arithmetic.Raise → ResultRows → Type 0
+TellsBy None names rows raises told = (raises ≡ []) × Holds told.store names rows
+TellsBy (Some raise) names rows raises told = Contains raises (raise_of raise)
+
+abbrev pub Tells : List (List ℕ) → List Row → List arithmetic.Raise → ResultRows → Type 0
+Tells names rows raises told = TellsBy told.raised names rows raises told
 
 -- they tell of one row more, and of what result columns raise in it
-abbrev pub TellsOneMore : Environment → List Item → Lines → Lines → Type 0
-TellsOneMore env items lines lines' =
-    (names : List (List ℕ)) (rows : List Row) (raises : List arithmetic.Raise) → Tells names rows raises lines → Tells names (rows ++ row_in env items ∷ []) (raises ++ row_raises_in env items) lines'
+abbrev pub TellsOneMore : Environment → List Item → ResultRows → ResultRows → Type 0
+TellsOneMore env items told told' =
+    (names : List (List ℕ)) (rows : List Row) (raises : List arithmetic.Raise) → Tells names rows raises told → Tells names (rows ++ row_in env items ∷ []) (raises ++ row_raises_in env items) told'
 
 -- what is told of rows at their end: all that they print, where no result column raises, or one of the exceptions
-abbrev pub IsTextOf : Lines → List ℕ → Type 0
-IsTextOf lines text = (names : List (List ℕ)) (rows : List Row) (raises : List arithmetic.Raise) → Tells names rows raises lines → (raises ≡ []) × (text ≡ table_text names rows)
+abbrev pub IsTextOf : ResultRows → List Key → List ℕ → Type 0
+IsTextOf told keys text =
+    (names : List (List ℕ)) (rows : List Row) (raises : List arithmetic.Raise) → Tells names rows raises told
+    → (raises ≡ []) × ((shapes : List Shape) → AllByRecursion (HasShapes shapes) rows
+    → (printed : List Row) × AreToldAs (puts_in_order told.store) (leaves_repeats_out told.store) keys rows printed × (text ≡ table_text names printed))
 
-abbrev pub IsRaiseOf : Lines → arithmetic.Raise → Type 0
-IsRaiseOf lines raise = (names : List (List ℕ)) (rows : List Row) (raises : List arithmetic.Raise) → Tells names rows raises lines → Contains raises raise
-
--- there are no more rows than bytes
-abbrev pub IsCountedBy : Option Raise → Lines → Type 0
-IsCountedBy None lines = lines.count ≤ length lines.text.items
-IsCountedBy (Some raise) lines = ⊤
-
-abbrev pub IsCounted : Lines → Type 0
-IsCounted lines = IsCountedBy lines.raised lines
+abbrev pub IsRaiseOf : ResultRows → arithmetic.Raise → Type 0
+IsRaiseOf told raise = (names : List (List ℕ)) (rows : List Row) (raises : List arithmetic.Raise) → Tells names rows raises told → Contains raises raise
 
 -- they tell of composites on which no late conjunct raises
-pub record HaveTaken (source : BlockSource) (outer : List Combination) (composites : List Composite) (lines : Lines) : Type 0 where
+pub record HaveTaken (source : BlockSource) (outer : List Combination) (composites : List Composite) (rows : ResultRows) : Type 0 where
   pub quiet : late_raises source outer composites ≡ []
-  pub told : Tells (names_of source) (rows_of source outer composites) (column_raises source outer composites) lines
+  pub told : Tells (names_of source) (rows_of source outer composites) (column_raises source outer composites) rows
 
-abbrev pub HaveTakenOneMore : BlockSource → List Combination → Composite → Lines → Lines → Type 0
+abbrev pub HaveTakenOneMore : BlockSource → List Combination → Composite → ResultRows → ResultRows → Type 0
 HaveTakenOneMore source outer composite lines lines' = (composites : List Composite) → HaveTaken source outer composites lines → HaveTaken source outer (composites ++ composite ∷ []) lines'

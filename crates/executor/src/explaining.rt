@@ -15,8 +15,8 @@ use join_dp::optimise;
 use query_tree::Block;
 use std::alloc::{AllocError, Global};
 
-/// What EXPLAIN prints of the blocks of a query (own): for each of them, in the order of their numbers, the text of a least plan and of
-/// the certificate that lists every cheaper state. It fails where memory runs out.
+/// What EXPLAIN prints of the blocks of a query (own): for each of them, in the order of their numbers, the text of a
+/// least plan and of the certificate that lists every cheaper state. It fails where memory runs out.
 pub fn explain_text(
     alloc: Global,
     database: &Database,
@@ -53,5 +53,5 @@ fn block_text(
 {
     let own = BlockSpace::new(alloc, database, block, number, Version::Three)?;
     let (plan, certificate, _) = optimise(alloc, &own.space)?;
-    write_text(alloc, &own.certified(), &plan, &certificate)
+    write_text(alloc, &own.certified_block(), &plan, &certificate)
 }

@@ -31,7 +31,8 @@ pub(crate) fn late_conditions<'s>(
     Ok(conditions)
 }
 
-/// Whether all conditions are true. All are evaluated, whatever the others say, and the first that raises is told (own).
+/// Whether all conditions are true. All are evaluated, whatever the others say, and the first that raises is told
+/// (own).
 pub(crate) fn try_all<S: Environment>(conditions: &[&Condition], env: &S) -> Result<bool, Raise>
     requires { AllByRecursion (CanEvaluate (S.environment env.now)) (conditions_of conditions.now) }
     ensures truth { IfOk result (λ all. all ≡ are_true_in (S.environment env.now) (conditions_of conditions.now)) }

@@ -2,14 +2,17 @@
 #![tactic(auto)]
 
 mod answer;
+mod answer_groups;
 mod answer_rows;
 mod explaining;
-mod fault;
+mod group_rows;
+mod having;
 mod late;
-mod lines;
 mod planning;
-mod row;
+mod result_rows;
+mod running;
 
-pub use answer::answer_text;
+pub use answer::{answer_by_plan, answer_text};
 pub use explaining::explain_text;
-pub use fault::AnswerFault;
+pub use grouping::AnswerFault;
+pub use running::run_plan;

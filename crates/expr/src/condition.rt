@@ -17,7 +17,7 @@ ghost use Rattle.expr.specs.Answers.{answer_of, truth_answer_of, IsTyped};
 use crate::environments::Environment;
 use crate::evaluation::value;
 use crate::predicate::{
-    both, compared, either, fits, has_row, is_null, opposite, quantified, unless,
+    both, comparison, either, fits, has_row, is_null, opposite, quantified_comparison, unless,
 };
 use crate::short::compared_in_short;
 use query_tree::{Condition, Quantifier, ValueExpr};
@@ -33,14 +33,14 @@ pub fn truth<'a, S: Environment>(condition: &'a Condition, env: &'a S) -> Result
     match condition {
         Condition::Compare { op, left, right } => match compared_in_short(*op, left, right, env) {
             Some(truth) => Ok(truth),
-            None => compared(*op, value(left, env), value(right, env)),
+            None => comparison(*op, value(left, env), value(right, env)),
         },
         Condition::Quantified {
             op,
             quantifier,
             value: operand,
             block,
-        } => quantified(
+        } => quantified_comparison(
             *op,
             *quantifier,
             value(operand, env),
@@ -75,7 +75,7 @@ pub fn truth<'a, S: Environment>(condition: &'a Condition, env: &'a S) -> Result
             block,
         } => unless(
             *negated,
-            quantified(
+            quantified_comparison(
                 ComparisonOperator::Equals,
                 Quantifier::Any,
                 value(operand, env),
@@ -113,8 +113,8 @@ fn between(
         (meaning.on_two (is.compared LessOrEquals) m h)) (truth_answer_of result) }
 {
     both(
-        compared(ComparisonOperator::GreaterOrEquals, operand, low),
-        compared(ComparisonOperator::LessOrEquals, operand, high),
+        comparison(ComparisonOperator::GreaterOrEquals, operand, low),
+        comparison(ComparisonOperator::LessOrEquals, operand, high),
     )
 }
 
@@ -135,7 +135,7 @@ fn is_member<'a, S: Environment>(
     for member in members {
         any = either(
             any,
-            compared(
+            comparison(
                 ComparisonOperator::Equals,
                 operand,
                 member_value(member, env),

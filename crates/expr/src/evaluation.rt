@@ -10,7 +10,7 @@ ghost use Rattle.query_tree.specs.Bound.{value_of as tree_of};
 ghost use Rattle.expr.specs.Answers.{answer_of};
 
 use crate::environments::Environment;
-use crate::operation::{only_value, operated, signed};
+use crate::operation::{apply_operator, apply_sign, only_value};
 use query_tree::ValueExpr;
 use sqlvalue::{Raise, Value};
 
@@ -29,11 +29,11 @@ pub fn value<'a, S: Environment>(expr: &'a ValueExpr, env: &'a S) -> Result<Valu
         } => Ok(env.parameter(*between, *column)),
         ValueExpr::Number(literal) => Ok(Value::Num(literal.number())),
         ValueExpr::Text(text) => Ok(Value::Text(text.as_str())),
-        ValueExpr::Signed { minus, operand } => signed(*minus, value(operand, env)),
+        ValueExpr::Signed { minus, operand } => apply_sign(*minus, value(operand, env)),
         ValueExpr::Chain { first, others } => {
             let mut left = value(first, env);
             for operand in others {
-                left = operated(operand.operator, left, value(&operand.value, env));
+                left = apply_operator(operand.operator, left, value(&operand.value, env));
             }
             left
         }

@@ -16,19 +16,22 @@ use query_tree::Operator;
 use sqlvalue::{Num, Raise, Value, add, div, mul, sub};
 
 /// A value under a sign: minus, or else plus (ISO/IEC 9075:1992, 6.12).
-pub(crate) fn signed<'a>(minus: bool, operand: Result<Value<'a>, Raise>) -> Result<Value<'a>, Raise>
+pub(crate) fn apply_sign<'a>(
+    minus: bool,
+    operand: Result<Value<'a>, Raise>,
+) -> Result<Value<'a>, Raise>
     ensures { (m : Meaning spec.Value) → MayAnswer m (answer_of operand.entry) →
         MayAnswer (meaning.on_one (meaning.signed minus) m) (answer_of result) }
 {
     match operand {
-        Ok(Value::Num(number)) if minus => Ok(Value::Num(number.negated())),
+        Ok(Value::Num(number)) if minus => Ok(Value::Num(number.negate())),
         other => other,
     }
 }
 
 /// Two operands with an operator between them: null where one is null (ISO/IEC 9075:1992, 6.12). Of two that raise, the
 /// left one is told.
-pub(crate) fn operated<'a>(
+pub(crate) fn apply_operator<'a>(
     operator: Operator,
     left: Result<Value<'a>, Raise>,
     right: Result<Value<'a>, Raise>,
@@ -38,7 +41,7 @@ pub(crate) fn operated<'a>(
         MayAnswer (meaning.and_then_two (meaning.operation (operator_of operator)) m n) (answer_of result) }
 {
     match (left, right) {
-        (Ok(Value::Num(a)), Ok(Value::Num(b))) => match calculated(operator, a, b) {
+        (Ok(Value::Num(a)), Ok(Value::Num(b))) => match calculate(operator, a, b) {
             Ok(number) => Ok(Value::Num(number)),
             Err(raise) => Err(raise),
         },
@@ -47,7 +50,7 @@ pub(crate) fn operated<'a>(
     }
 }
 
-fn calculated(operator: Operator, a: Num, b: Num) -> Result<Num, Raise>
+fn calculate(operator: Operator, a: Num, b: Num) -> Result<Num, Raise>
     requires { FitsOperator (operator_of operator) (value_of (v.Num a)) (value_of (v.Num b)) }
     ensures { meaning_of result ≡ meaning.operation (operator_of operator) (number_of a) (number_of b) }
 {

@@ -17,7 +17,7 @@ use query_tree::Quantifier;
 use sqlvalue::{ComparisonOperator, Raise, Tri, Value, like};
 
 /// A comparison (ISO/IEC 9075:1992, 8.2).
-pub(crate) fn compared(
+pub(crate) fn comparison(
     op: ComparisonOperator,
     left: Result<Value, Raise>,
     right: Result<Value, Raise>,
@@ -26,7 +26,7 @@ pub(crate) fn compared(
         MayAnswer (meaning.on_two (truth.compared (op_of op)) m n) (truth_answer_of result) }
 {
     match (left, right) {
-        (Ok(a), Ok(b)) => Ok(op.compared(&a, &b)),
+        (Ok(a), Ok(b)) => Ok(op.compare(&a, &b)),
         (Err(raise), _) | (Ok(_), Err(raise)) => Err(raise),
     }
 }
@@ -34,7 +34,7 @@ pub(crate) fn compared(
 /// IS NULL (ISO/IEC 9075:1992, 8.6).
 pub(crate) fn is_null(negated: bool, operand: Result<Value, Raise>) -> Result<Tri, Raise>
     ensures { (m : Meaning spec.Value) → MayAnswer m (answer_of operand.entry) →
-        MayAnswer (meaning.on_one (λ v. truth.unless negated (truth.known (truth.is_null v))) m)
+        MayAnswer (meaning.on_one (λ v. truth.unless negated (truth.known (spec.is_null v))) m)
         (truth_answer_of result) }
 {
     match operand {
@@ -112,7 +112,7 @@ pub(crate) fn has_row(rows: Result<&[Value], Raise>) -> Result<Tri, Raise>
 }
 
 /// A value compared with all or any of the rows of a subquery, by their first values (ISO/IEC 9075:1992, 8.7).
-pub(crate) fn quantified(
+pub(crate) fn quantified_comparison(
     op: ComparisonOperator,
     quantifier: Quantifier,
     operand: Result<Value, Raise>,
@@ -136,7 +136,7 @@ fn with_all(op: ComparisonOperator, value: Value, values: &[Value]) -> Tri
 {
     let mut all = Tri::True;
     for other in values {
-        all = all.and(op.compared(&value, other));
+        all = all.and(op.compare(&value, other));
     }
     all
 }
@@ -146,7 +146,7 @@ fn with_any(op: ComparisonOperator, value: Value, values: &[Value]) -> Tri
 {
     let mut any = Tri::False;
     for other in values {
-        any = any.or(op.compared(&value, other));
+        any = any.or(op.compare(&value, other));
     }
     any
 }

@@ -41,13 +41,13 @@ fn short_value<'a, S: Environment>(expr: &'a ValueExpr, env: &'a S) -> Option<Sh
     ensures { IfSome result (λ s. meaning.value (S.environment env.now) (tree_of expr.now) ≡ Is (short_of s)) }
 {
     match expr {
-        ValueExpr::Column { column, .. } => shortened(env.cell(*column)),
+        ValueExpr::Column { column, .. } => to_short(env.cell(*column)),
         ValueExpr::Number(literal) => short_number(literal.number()),
         ValueExpr::Signed { minus, operand } => under_sign(*minus, short_value(operand, env)?),
         ValueExpr::Chain { first, others } => {
             let mut left = short_value(first, env)?;
             for operand in others {
-                left = joined(operand.operator, left, short_value(&operand.value, env)?)?;
+                left = apply_short(operand.operator, left, short_value(&operand.value, env)?)?;
             }
             Some(left)
         }
@@ -55,7 +55,7 @@ fn short_value<'a, S: Environment>(expr: &'a ValueExpr, env: &'a S) -> Option<Sh
     }
 }
 
-fn shortened(value: Value) -> Option<Short>
+fn to_short(value: Value) -> Option<Short>
     ensures { IfSome result (λ s. short_of s ≡ value_of value.entry) }
 {
     match value {
@@ -99,7 +99,7 @@ fn number(units: Option<i64>, scale: u8) -> Option<Short>
 }
 
 /// Two operands with an operator between them: null where one is null (ISO/IEC 9075:1992, 6.12).
-fn joined(operator: Operator, left: Short, right: Short) -> Option<Short>
+fn apply_short(operator: Operator, left: Short, right: Short) -> Option<Short>
     ensures { IfSome result (λ s. meaning.operation (operator_of operator) (short_of left) (short_of right)
         ≡ Is (short_of s)) }
 {

@@ -10,8 +10,8 @@ use Rattle.std.proofs.lemmas.List.FromFn.{map-range_with_len_more, fill_by_all, 
 use Rattle.std.specs.Ordering.{ordering_then, ordering_reverse, is_eq, is_lt}
 use Rattle.std.specs.declared.cmp.Ordering.{Ordering}
 use Rattle.std.specs.declared.cmp.Ordering.TheVariants.{Less, Equal, Greater}
-use Rattle.definitions.specs.Value.{Value, Null, Number, Text, rank}
-use Rattle.definitions.specs.Key.{Key, key_rank, is_null, has_null, full_keys, distinct_keys}
+use Rattle.definitions.specs.Value.{Value, Null, Number, Text, rank, is_null}
+use Rattle.definitions.specs.Key.{Key, key_rank, has_null, full_keys, distinct_keys}
 use Rattle.definitions.specs.IndexRun.{Entry, AreRising, keys_of}
 use Rattle.columns.specs.Cells.{CellList}
 use Rattle.columns.specs.Starts.{value_in}

@@ -7,8 +7,8 @@ use Rattle.std.specs.Ordering.{nat_cmp, ordering_then, is_eq}
 use Rattle.std.specs.declared.cmp.Ordering.{Ordering}
 use Rattle.std.specs.declared.cmp.Ordering.TheVariants.{Less, Equal, Greater}
 use Rattle.std.proofs.lemmas.Cmp.{nat_cmp_total}
-use Rattle.definitions.specs.Value.{rank}
-use Rattle.definitions.specs.Key.{Key, key_rank, has_null, is_null}
+use Rattle.definitions.specs.Value.{rank, is_null}
+use Rattle.definitions.specs.Key.{Key, key_rank, has_null}
 use Rattle.definitions.proofs.Ranking.{rank_total}
 use Rattle.columns.specs.Cells.{CellList}
 use Rattle.columns.specs.Starts.{value_in}

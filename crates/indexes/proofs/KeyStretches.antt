@@ -8,8 +8,8 @@ use Rattle.std.proofs.lemmas.Cmp.{tied_itself}
 use Rattle.std.specs.Ordering.{nat_cmp, ordering_then, ordering_reverse, is_lt, is_eq, is_ge, is_le}
 use Rattle.std.specs.declared.cmp.Ordering.{Ordering}
 use Rattle.std.specs.declared.cmp.Ordering.TheVariants.{Less, Equal, Greater}
-use Rattle.definitions.specs.Value.{Value, Null, Number, Text, rank, compare}
-use Rattle.definitions.specs.Key.{Key, key_rank, is_null}
+use Rattle.definitions.specs.Value.{Value, Null, Number, Text, rank, compare, is_null}
+use Rattle.definitions.specs.Key.{Key, key_rank}
 use Rattle.definitions.specs.IndexRun.{Entry, Limit, Inclusive, AreRising, comes_before, keys_of, is_true_of, is_from, is_up_to, begins_with, lies_in}
 use Rattle.definitions.proofs.Ranking.{rank_total}
 use Rattle.columns.specs.Cells.{CellList}

@@ -18,7 +18,7 @@ use loading::TableColumn;
 use sqlvalue::Value;
 
 /// The statistics of an index on the columns of these numbers, whose rows stand in an order.
-pub(crate) fn counted(
+pub(crate) fn index_statistics(
     columns: &[TableColumn],
     rows: usize,
     numbers: &[usize],
@@ -62,14 +62,14 @@ fn key_range(column: &TableColumn, rows: usize) -> Option<KeyRange>
     let mut range = None;
     for row in 0..rows {
         if let Value::Num(number) = column.cell(row) {
-            range = Some(widened(range, number.units));
+            range = Some(widen_range(range, number.units));
         }
     }
     range
 }
 
 /// The range with one number more.
-fn widened(range: Option<KeyRange>, units: i128) -> KeyRange
+fn widen_range(range: Option<KeyRange>, units: i128) -> KeyRange
     ensures { key_range_of result ≡ widened_by (option_map key_range_of range) units }
 {
     match range {

@@ -12,7 +12,7 @@ ghost use Rattle.columns.specs.Starts.{limit_of};
 ghost use Rattle.indexes.specs.Meaning.{index_statistics_of};
 ghost use Rattle.indexes.specs.Indexes.{AreIndexColumns, IsIndexOn, RefusesIndexOn, IsBeginning};
 
-use crate::counting::counted;
+use crate::counting::index_statistics;
 use crate::index_kind::IndexKind;
 use crate::key_columns::key_columns;
 use crate::ordered::OrderedIndex;
@@ -68,7 +68,7 @@ impl Index {
             Ok(order) => order,
             Err(fault) => return Err(fault),
         };
-        let statistics = counted(columns, rows, numbers.as_slice(), &order);
+        let statistics = index_statistics(columns, rows, numbers.as_slice(), &order);
         Ok(Index {
             columns: numbers,
             order,
@@ -104,7 +104,7 @@ impl Index {
             Ok(order) => order,
             Err(fault) => return Err(fault),
         };
-        let statistics = counted(columns, rows, numbers.as_slice(), &order);
+        let statistics = index_statistics(columns, rows, numbers.as_slice(), &order);
         Ok(Index {
             columns: numbers,
             order,

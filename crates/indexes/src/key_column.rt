@@ -3,8 +3,7 @@
 ghost use Rattle.std.specs.Prelude.{ℕ, ◌≡◌, ◌<◌, ◌≤◌, ◌*◌, ◌&&◌, not, List, [], map, length, slice_index_or, IfOk};
 ghost use Rattle.std.specs.List.{AllByRecursion, range_with_len};
 ghost use Rattle.std.specs.Int.{div_ceil};
-ghost use Rattle.definitions.specs.Value.{rank};
-ghost use Rattle.definitions.specs.Key.{is_null};
+ghost use Rattle.definitions.specs.Value.{rank, is_null};
 ghost use Rattle.definitions.specs.IndexRun.{is_from, is_up_to};
 ghost use Rattle.columns.specs.Columns.{cells_of};
 ghost use Rattle.columns.specs.Starts.{AreOrdered, IsHeld, Splits, limit_of, starts, value_in};
@@ -93,7 +92,7 @@ impl KeyColumn {
                 ..within
             };
         };
-        let Some(end) = self.values.start(turned(high)) else {
+        let Some(end) = self.values.start(opposite_limit(high)) else {
             return Stretch {
                 to: within.from,
                 ..within
@@ -149,7 +148,7 @@ impl KeyColumn {
 }
 
 /// The limit from which on values aren't up to a bound any more.
-fn turned<'a>(bound: Bound<Value<'a>>) -> Bound<Value<'a>>
+fn opposite_limit<'a>(bound: Bound<Value<'a>>) -> Bound<Value<'a>>
     ensures { limit_of result ≡ turned_limit (limit_of bound.entry) }
 {
     match bound {

@@ -21,7 +21,7 @@ pub struct TableStatistics {
 
 impl TableStatistics {
     /// The statistics of a table of so many rows.
-    pub fn counted(columns: &[TableColumn], rows: usize) -> TableStatistics
+    pub fn table_statistics(columns: &[TableColumn], rows: usize) -> TableStatistics
         requires narrow { length columns.now ≤ most_columns }
         requires types { AllByRecursion (λ (c : spec.Column). IsType c.type) (headers columns.now) }
         requires few { rows ≤ most_rows }

@@ -13,7 +13,8 @@ use Rattle.plan_tree.specs.declared.order.SortKey as code
 use Rattle.definitions.specs.Table.{Index, Table, Database}
 use Rattle.definitions.specs.Plans.Order.{Order}
 use Rattle.definitions.specs.Plans.Conjunct.{Conjunct}
-use Rattle.definitions.specs.Plans.Numbering.{same_order, without_repeats, number_of, merge_orders, numbered}
+use Rattle.definitions.specs.Lists.{without_repeats}
+use Rattle.definitions.specs.Plans.Numbering.{same_order, number_of, merge_orders, numbered}
 use Rattle.definitions.specs.Queries.BoundBlock.{Block}
 use Rattle.definitions.specs.Estimates.BlockTables.{table_at, index_columns}
 use Rattle.definitions.specs.Estimates.Version.{Version, directions}
@@ -30,7 +31,7 @@ use Rattle.interesting_orders.proofs.OrderPlaces.{next_number}
 pub same_is : (x y : Order) → same_order x y ≡ true → x ≡ y
 same_is x y e = by_place (first_or_rest x [] y kept)
   where
-    alone : without_repeats (x ∷ y ∷ []) ≡ x ∷ []
+    alone : without_repeats same_order (x ∷ y ∷ []) ≡ x ∷ []
     alone = rw e refl
 
     kept : Contains (x ∷ []) y
@@ -139,30 +140,30 @@ new_differs found x e y n = by_test (same_order x y) refl
         let there : list_any (same_order y) found ≡ true = subst (λ (z : Order). list_any (same_order z) found ≡ true) (same_is x y f) e in
         absurd (false≢true (sym (ap not there) ∙ n))
 
-all_added : (found xs : List Order) → fold added found xs ≡ found ++ filter (is_new found) (without_repeats xs)
+all_added : (found xs : List Order) → fold added found xs ≡ found ++ filter (is_new found) (without_repeats same_order xs)
 all_added found [] = sym (nothing_more found)
 all_added found (x ∷ xs) = by_test (list_any (same_order x) found) refl (all_added found xs) (all_added (found ++ x ∷ []) xs)
   where
-    by_test : (b : Bool) → list_any (same_order x) found ≡ b → fold added found xs ≡ found ++ filter (is_new found) (without_repeats xs)
-        → fold added (found ++ x ∷ []) xs ≡ (found ++ x ∷ []) ++ filter (is_new (found ++ x ∷ [])) (without_repeats xs)
-        → fold added (added found x) xs ≡ found ++ filter (is_new found) (x ∷ filter (differs x) (without_repeats xs))
+    by_test : (b : Bool) → list_any (same_order x) found ≡ b → fold added found xs ≡ found ++ filter (is_new found) (without_repeats same_order xs)
+        → fold added (found ++ x ∷ []) xs ≡ (found ++ x ∷ []) ++ filter (is_new (found ++ x ∷ [])) (without_repeats same_order xs)
+        → fold added (added found x) xs ≡ found ++ filter (is_new found) (x ∷ filter (differs x) (without_repeats same_order xs))
     by_test true e same more =
-        let left_out : filter (is_new found) (x ∷ filter (differs x) (without_repeats xs)) ≡ filter (is_new found) (filter (differs x) (without_repeats xs)) = rw e refl in
+        let left_out : filter (is_new found) (x ∷ filter (differs x) (without_repeats same_order xs)) ≡ filter (is_new found) (filter (differs x) (without_repeats same_order xs)) = rw e refl in
         ap (λ ys. fold added ys xs) (stays found x e) ∙ same
-        ∙ ap (λ ys. found ++ ys) (sym (left_out ∙ implied (differs x) (is_new found) (new_differs found x e) (without_repeats xs)))
+        ∙ ap (λ ys. found ++ ys) (sym (left_out ∙ implied (differs x) (is_new found) (new_differs found x e) (without_repeats same_order xs)))
     by_test false e same more =
-        let kept : filter (is_new found) (x ∷ filter (differs x) (without_repeats xs)) ≡ x ∷ filter (is_new found) (filter (differs x) (without_repeats xs)) = rw e refl in
+        let kept : filter (is_new found) (x ∷ filter (differs x) (without_repeats same_order xs)) ≡ x ∷ filter (is_new found) (filter (differs x) (without_repeats same_order xs)) = rw e refl in
         ap (λ ys. fold added ys xs) (goes_behind found x e) ∙ more
-        ∙ put_before found x (filter (is_new (found ++ x ∷ [])) (without_repeats xs))
-        ∙ ap (λ ys. found ++ x ∷ ys) (joined (differs x) (is_new found) (is_new (found ++ x ∷ [])) (new_behind found x) (without_repeats xs))
+        ∙ put_before found x (filter (is_new (found ++ x ∷ [])) (without_repeats same_order xs))
+        ∙ ap (λ ys. found ++ x ∷ ys) (joined (differs x) (is_new found) (is_new (found ++ x ∷ [])) (new_behind found x) (without_repeats same_order xs))
         ∙ ap (λ ys. found ++ ys) (sym kept)
 
 every : (xs : List Order) → filter (is_new []) xs ≡ xs
 every [] = refl
 every (x ∷ xs) = ap (λ ys. x ∷ ys) (every xs)
 
-pub none_twice : (xs : List Order) → fold added [] xs ≡ without_repeats xs
-none_twice xs = all_added [] xs ∙ every (without_repeats xs)
+pub none_twice : (xs : List Order) → fold added [] xs ≡ without_repeats same_order xs
+none_twice xs = all_added [] xs ∙ every (without_repeats same_order xs)
 
 -- the numbered orders of a block, added in turn
 module _ (asked : Order) (conjuncts : List Conjunct) (indexes : List Order) where

@@ -16,7 +16,7 @@ ghost use Rattle.interesting_orders.specs.Reach.{AreThose};
 ghost use Rattle.interesting_orders.specs.Merges.{leading_of, IsOpened, IsWithin, IsWithSide};
 
 use crate::equivalence_classes::{Equality, EquivalenceClasses};
-use crate::places::{are_equal, equated_columns, equations_of, place_of, stated};
+use crate::places::{are_equal, equated_columns, equations_of, given_equations, place_of};
 use crate::reach::with_table;
 use estimate::PlanConjunct;
 use plan_tree::{SortKey, TableSet};
@@ -56,7 +56,7 @@ impl EquatedColumns {
     {
         let columns = equated_columns(alloc, conjuncts)?;
         let equations = equations_of(alloc, &columns, conjuncts)?;
-        let stated = stated(alloc, &equations)?;
+        let stated = given_equations(alloc, &equations)?;
         let classes = EquivalenceClasses::new(alloc, &columns, &stated, tables)?;
         Ok(EquatedColumns {
             columns,
@@ -131,7 +131,7 @@ impl EquatedColumns {
         ensures within { IsWithin (places_in self.now) result }
         ensures exact { IsLead self.now (order_of order.now) result }
     {
-        place_of(&self.columns, leading(order)?)
+        place_of(&self.columns, leading_column(order)?)
     }
 
     /// What an early conjunct equates.
@@ -210,7 +210,7 @@ impl EquatedColumns {
 }
 
 /// The column that an order leads with, if it is ascending.
-fn leading(order: &[SortKey]) -> Option<BlockColumn>
+fn leading_column(order: &[SortKey]) -> Option<BlockColumn>
     ensures { option_map column_of result ≡ leading_of (order_of order.now) }
 {
     let key = order.first()?;

@@ -18,7 +18,7 @@ mod version;
 pub use equivalence_classes::{Equality, EquivalenceClasses};
 pub use interesting_orders::InterestingOrders;
 pub use known::known_indexes;
-pub use required::required_order;
+pub use required::{is_grouped, required_order};
 pub use sort_orders::SortOrders;
 pub use sorts::Sorts;
 pub use version::Version;

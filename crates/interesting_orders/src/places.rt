@@ -115,7 +115,7 @@ fn equation_of(
 }
 
 /// The equations that are there.
-pub(crate) fn stated(
+pub(crate) fn given_equations(
     alloc: Global,
     equations: &[Option<Equality>],
 ) -> Result<Vec<Equality>, AllocError>

@@ -25,8 +25,8 @@ pub fn required_order(alloc: Global, block: &Block) -> Result<Vec<SortKey>, Allo
     }
 }
 
-/// Whether a block is grouped (7.8, 7.9).
-fn is_grouped(block: &Block) -> bool
+/// Whether a block is grouped: it has GROUP BY, HAVING or a set function (ISO/IEC 9075:1992, 7.8, 7.9).
+pub fn is_grouped(block: &Block) -> bool
     ensures { result ≡ answer.is_grouped (bound.block_of block.now) }
 {
     !block.groups.is_empty() || block.having.is_some() || !block.functions.is_empty()

@@ -122,8 +122,8 @@ impl SortOrders {
     {
         'conjuncts: for conjunct in conjuncts {
             if let Some((x, y)) = merge_columns(conjunct) {
-                self.add(ascending(alloc, x)?)?;
-                self.add(ascending(alloc, y)?)?;
+                self.add(ascending_order(alloc, x)?)?;
+                self.add(ascending_order(alloc, y)?)?;
             }
         }
         Ok(())
@@ -230,7 +230,7 @@ fn merge_columns(conjunct: &PlanConjunct) -> Option<(BlockColumn, BlockColumn)>
     }
 }
 
-fn ascending(alloc: Global, column: BlockColumn) -> Result<Vec<SortKey>, AllocError>
+fn ascending_order(alloc: Global, column: BlockColumn) -> Result<Vec<SortKey>, AllocError>
     ensures { IfOk result (λ keys. order_of keys.items ≡ order.ascending (column_of column)) }
 {
     let mut keys = Vec::new(alloc);

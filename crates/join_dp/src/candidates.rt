@@ -27,7 +27,7 @@ use crate::set_candidates::SetCandidates;
 use crate::states::States;
 use crate::step::{AddedJoin, Candidate, Join, Step};
 use plan_space::Space;
-use plan_tree::{TableSet, saturated};
+use plan_tree::{TableSet, saturate};
 
 /// Looks at the accesses of a table, as plans of the set of that table alone.
 fn add_accesses<'a>(space: &'a Space<'_>, table: usize, row: &mut SetCandidates<'a>)
@@ -97,7 +97,7 @@ fn add_join_on<'a>(
             join: added.join,
         },
         sorted: None,
-        cost: saturated(u128::from(state.found.cost) + u128::from(added.cost)),
+        cost: saturate(u128::from(state.found.cost) + u128::from(added.cost)),
     };
     row.offer(space.fold(next, state.order), candidate);
 }
@@ -162,7 +162,7 @@ fn add_loop<'a>(
         return u64::MAX;
     };
     let cardinality = u128::from(space.cardinality(tables));
-    let cost = saturated(cardinality * u128::from(item.cost));
+    let cost = saturate(cardinality * u128::from(item.cost));
     let added = AddedJoin {
         tables,
         table,
@@ -316,7 +316,7 @@ fn add_sorts_of<'a>(
     ensures steps { (orders : List ℕ) × AreSorts (space_in space.now) (set_of tables) orders ×
         (row.new.steps ≤ row.old.steps + length orders) }
 {
-    let cost = saturated(u128::from(cheapest.cost) + u128::from(space.sort_cost(tables)));
+    let cost = saturate(u128::from(cheapest.cost) + u128::from(space.sort_cost(tables)));
     'orders: for order in space.sorts(tables) {
         let candidate = Candidate {
             step: cheapest.step,

@@ -42,7 +42,7 @@ fn step_plan(alloc: Global, states: &States<'_>, place: usize) -> Result<Plan, A
         IfOk result (λ plan. IsStepPlanAt space (states_in states.now) place (plan_of plan)) }
 {
     match states.at(place).found.step {
-        Step::Access { path } => Ok(Plan::Access(copied(path)?)),
+        Step::Access { path } => Ok(Plan::Access(copy_path(path)?)),
         Step::Join { from, join } => {
             let outer = Box::new(alloc, plan_at(alloc, states, from)?)?;
             joined_plan(outer, join)
@@ -57,7 +57,7 @@ fn joined_plan(outer: Box<Plan>, join: Join<'_>) -> Result<Plan, AllocError>
     match join {
         Join::Loop { path } => Ok(Plan::Loop {
             outer,
-            path: copied(path)?,
+            path: copy_path(path)?,
         }),
         Join::Merge {
             conjunct,
@@ -67,7 +67,7 @@ fn joined_plan(outer: Box<Plan>, join: Join<'_>) -> Result<Plan, AllocError>
             outer,
             conjunct,
             inner: Inner {
-                path: copied(path)?,
+                path: copy_path(path)?,
                 sorted,
             },
         }),
@@ -75,7 +75,7 @@ fn joined_plan(outer: Box<Plan>, join: Join<'_>) -> Result<Plan, AllocError>
 }
 
 /// The same path once more.
-fn copied(path: &Path) -> Result<Path, AllocError>
+fn copy_path(path: &Path) -> Result<Path, AllocError>
     ensures { IfOk result (λ p. path_of p ≡ path_of path.now) }
 {
     path.clone()

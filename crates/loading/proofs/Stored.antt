@@ -2,9 +2,8 @@
 use Rattle.std.proofs.Common.{◌≡◌, ◌≢◌, refl, ℕ, List, Ok, Err, true, false}
 use Rattle.std.specs.Prelude.{bytes_eq, IsTrue, not, ◌||◌, Bool, Result}
 use Rattle.std.proofs.lemmas.Slice.Eq.{bytes_eq-Decides}
-use Rattle.definitions.specs.Value.{Value, Null, Number, Text, SqlType, Numbers, kind_of}
+use Rattle.definitions.specs.Value.{Value, Null, Number, Text, SqlType, Numbers, kind_of, is_null}
 use Rattle.definitions.specs.Table.{Column, may_be_null}
-use Rattle.definitions.specs.Key.{is_null}
 use Rattle.definitions.specs.Loading as load
 use Rattle.definitions.specs.Loading.{FieldLoads, ColumnLoads, not_stored, null_field}
 use Rattle.definitions.specs.Refusal.{FieldError, BadText, OutOfRange, TooLong, NullOrRepeated, Field}

@@ -2,12 +2,11 @@
 use Rattle.std.proofs.Common.{◌≡◌, refl, List, [], ◌∷◌, Result, Ok, ℕ}
 use Rattle.std.specs.Prelude.{IsTrue, not, ◌||◌}
 use Rattle.std.specs.List.{AllByRecursion}
-use Rattle.definitions.specs.Value.{Value, Null, SqlType, HasType}
+use Rattle.definitions.specs.Value.{Value, Null, SqlType, HasType, is_null}
 use Rattle.definitions.specs.Refusal.{Refusal, FieldError}
 use Rattle.definitions.specs.Loading as load
 use Rattle.definitions.specs.Loading.{Record, FieldLoads, ColumnLoads, FieldsLoad, RecordReads, AllRead}
 use Rattle.definitions.specs.Table.{Column, Row, IsRow, may_be_null}
-use Rattle.definitions.specs.Key.{is_null}
 use Rattle.definitions.specs.Invariant.{KeepsNullsOut}
 
 null_typed : (type : SqlType) → HasType type Null

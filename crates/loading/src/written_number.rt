@@ -33,13 +33,13 @@ pub fn units_in(written: WrittenNumber, sql_type: SqlType) -> Option<i64>
 {
     let limit = size_limit(sql_type, written.negative);
     let to = usize::from(sql_type.scale());
-    match rescaled(written.digits, written.scale, to, limit) {
-        Some(size) => Some(signed(written.negative, size)),
+    match rescale(written.digits, written.scale, to, limit) {
+        Some(size) => Some(apply_sign(written.negative, size)),
         None => None,
     }
 }
 
-fn signed(negative: bool, size: u128) -> i64
+fn apply_sign(negative: bool, size: u128) -> i64
     requires { size ≤ 10 ^ greatest_precision }
     ensures { result ≡ negated negative (pos size) }
 {
@@ -51,7 +51,7 @@ fn signed(negative: bool, size: u128) -> i64
 }
 
 /// Units at one scale as units at another, where they are whole and below a limit.
-fn rescaled(units: u128, from: usize, to: usize, limit: u128) -> Option<u128>
+fn rescale(units: u128, from: usize, to: usize, limit: u128) -> Option<u128>
     requires sized { units < 10 ^ most_digits }
     requires kept { to ≤ greatest_precision }
     requires limited { limit ≤ 10 ^ greatest_precision }
@@ -59,15 +59,15 @@ fn rescaled(units: u128, from: usize, to: usize, limit: u128) -> Option<u128>
     ensures none { IfNone result ((size : ℕ) → size * 10 ^ from ≡ units * 10 ^ to → limit ≤ size) }
 {
     if from <= to {
-        scaled_up(units, power_of_ten(to - from), limit)
+        scale_up(units, power_of_ten(to - from), limit)
     } else {
         // units are below any higher power, as they are below this one
         let exponent = (from - to).min(MAX_DIGITS);
-        scaled_down(units, power_of_ten(exponent), limit)
+        scale_down(units, power_of_ten(exponent), limit)
     }
 }
 
-fn scaled_up(units: u128, factor: u128, limit: u128) -> Option<u128>
+fn scale_up(units: u128, factor: u128, limit: u128) -> Option<u128>
     requires positive { 0 < factor }
     requires factored { factor ≤ 10 ^ greatest_precision }
     requires limited { limit ≤ 10 ^ greatest_precision }
@@ -81,7 +81,7 @@ fn scaled_up(units: u128, factor: u128, limit: u128) -> Option<u128>
     if size < limit { Some(size) } else { None }
 }
 
-fn scaled_down(units: u128, divisor: u128, limit: u128) -> Option<u128>
+fn scale_down(units: u128, divisor: u128, limit: u128) -> Option<u128>
     requires { 0 < divisor }
     ensures some { IfSome result (λ size. (size * divisor ≡ units) × (size < limit)) }
     ensures none { IfNone result ((size : ℕ) → size * divisor ≡ units → limit ≤ size) }

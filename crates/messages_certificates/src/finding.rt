@@ -155,7 +155,7 @@ fn rule_found(
     requires { IsFormedSomewhere database.now (block_of block.now) }
 {
     let own = BlockSpace::new(alloc, database, block, refused.number, refused.version)?;
-    match read_text(alloc, &own.certified(), refused.text) {
+    match read_text(alloc, &own.certified_block(), refused.text) {
         Ok(spelled) => Ok(rule_failing(&own, &spelled, refused.text, rule, place)),
         Err(_) => Ok(None),
     }

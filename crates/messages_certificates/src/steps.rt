@@ -11,7 +11,7 @@ use crate::reason::{LowStep, Step};
 use crate::spelling::{spelled, state_name};
 use certificate::BlockSpace;
 use certificate_files::StateKey;
-use plan_tree::{Certificate, State, TableSet, saturated};
+use plan_tree::{Certificate, State, TableSet, saturate};
 
 /// Where a state stands in the list, if it does.
 pub(crate) fn state_at(certificate: &Certificate, place: StateKey) -> Option<usize> {
@@ -91,7 +91,7 @@ pub(crate) fn sort_below(
     if own.space.whole().place() < from.tables.place() {
         return None;
     }
-    let cost = saturated(u128::from(from.cost) + u128::from(own.space.sort_cost(from.tables)));
+    let cost = saturate(u128::from(from.cost) + u128::from(own.space.sort_cost(from.tables)));
     'orders: for order in own.space.sorts(from.tables) {
         let to = State {
             tables: from.tables,
@@ -163,8 +163,8 @@ fn loop_below(own: &BlockSpace<'_>, from: State, table: usize, bound: u64) -> Op
 {
     let rows = u128::from(own.space.cardinality(from.tables));
     'paths: for item in own.space.paths(from.tables, table) {
-        let added = saturated(rows * u128::from(item.cost));
-        let cost = saturated(u128::from(from.cost) + u128::from(added));
+        let added = saturate(rows * u128::from(item.cost));
+        let cost = saturate(u128::from(from.cost) + u128::from(added));
         if cost < bound {
             return Some((Step::Loop(spelled(own, item.path)?), cost));
         }
@@ -178,7 +178,7 @@ fn merge_below(own: &BlockSpace<'_>, from: State, table: usize, bound: u64) -> O
     requires set { set_of from.tables < 2 ^ (space_in own.now.space).table_count }
 {
     'merges: for item in own.space.merges(from.tables, table) {
-        let cost = saturated(u128::from(from.cost) + u128::from(item.cost));
+        let cost = saturate(u128::from(from.cost) + u128::from(item.cost));
         if cost < bound
             && own
                 .space

@@ -26,10 +26,6 @@ use std::alloc::Global;
 use std::fmt::{self, Display, Formatter};
 use syntax::Name;
 
-/// What can be run so far, for a query.
-const NOT_YET_HINT: &str =
-    "hint: so far: SELECT without DISTINCT, GROUP BY, HAVING, set functions, ORDER BY and subqueries\n";
-
 /// Makes the messages on a script, one after another.
 #[derive(Drop)]
 pub struct Reporter<'a> {
@@ -151,7 +147,7 @@ impl Report<'_> {
             Cause::NoFile(file) => write!(f, "there is no file '{}'", file.text),
             Cause::ManyRows(_) => write!(f, "a table has at most {MAX_ROWS} rows"),
             Cause::Query(cause) => crate::words::write_fault(f, cause.query, cause.fault),
-            Cause::NotYet(_) => f.write_str("this form of SELECT can't be run yet"),
+            Cause::NotYet(_) => f.write_str("a SELECT with a subquery can't be run yet"),
             Cause::Record { .. } | Cause::Repeated { .. } => Ok(()),
         }
     }
@@ -178,7 +174,6 @@ impl Report<'_> {
             Cause::Query(cause) => {
                 crate::words::write_hint(f, self.alloc, self.database, cause.query, cause.fault)
             },
-            Cause::NotYet(_) => f.write_str(NOT_YET_HINT),
             _ => Ok(()),
         }
     }

@@ -75,9 +75,6 @@ source_of t = record { table = name_of t.table; correlation = option_map name_of
 abbrev pub OperandTree : Type 0
 OperandTree = spec.LineOperator × spec.Expr
 
-abbrev pub member_layer : Option spec.Expr → Option spec.Expr
-member_layer m = m
-
 abbrev pub condition_layer : Option spec.Expr → spec.Condition
 condition_layer None = spec.Absent
 condition_layer (Some e) = spec.Present e

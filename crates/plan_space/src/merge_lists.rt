@@ -29,7 +29,7 @@ use crate::path_lists::BlockPaths;
 use crate::paths::{CostedPath, Paths};
 use estimate::{Estimate, SetEstimates};
 use interesting_orders::InterestingOrders;
-use plan_tree::{Path, TableSet, saturated};
+use plan_tree::{Path, TableSet, saturate};
 use std::alloc::{AllocError, Global};
 
 /// The merges that may bring each table of a block, on top of plans on any set of tables.
@@ -171,21 +171,21 @@ fn add_path(
         OnOk result (AddsPath space way.table way.conjunct (path_of item.entry.path.now)
         (map merge_told merges.old.items) (map merge_told merges.new.items)) }
 {
-    let sorted = saturated(u128::from(item.cost) + u128::from(way.sort_cost));
-    merges.push(listed(way, item.path, true, sorted)?)?;
+    let sorted = saturate(u128::from(item.cost) + u128::from(way.sort_cost));
+    merges.push(merge_path(way, item.path, true, sorted)?)?;
     if uses.goes_by(
         TableSet::only(way.table),
         item.order,
         way.conjunct,
         way.other,
     ) {
-        merges.push(listed(way, item.path, false, item.cost)?)?;
+        merges.push(merge_path(way, item.path, false, item.cost)?)?;
     }
     Ok(())
 }
 
 /// A merge of a conjunct with a path, whose inner side costs so much.
-fn listed(
+fn merge_path(
     way: MergeClause,
     path: &Path,
     sorted: bool,

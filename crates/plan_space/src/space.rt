@@ -33,7 +33,7 @@ use crate::plan_summary::PlanSummary;
 use crate::summarising::summarise;
 use estimate::{Estimate, SetEstimates};
 use interesting_orders::{InterestingOrders, SortOrders, Sorts, Version, required_order};
-use plan_tree::{Plan, SortKey, TableSet, saturated};
+use plan_tree::{Plan, SortKey, TableSet, saturate};
 use std::alloc::{AllocError, Global};
 use std::marker::Model;
 
@@ -169,7 +169,7 @@ impl<'a> Space<'a> {
     {
         let outer = u128::from(self.cardinality(tables));
         let inner = u128::from(self.table_rows(table));
-        self.merges.merges(tables, table, saturated(outer * inner))
+        self.merges.merges(tables, table, saturate(outer * inner))
     }
 
     /// Whether rows of a set of tables may be sorted into an order.

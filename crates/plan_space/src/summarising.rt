@@ -19,7 +19,7 @@ use crate::paths::CostedPath;
 use crate::plan_summary::PlanSummary;
 use crate::same::are_one;
 use crate::space::Space;
-use plan_tree::{Inner, Path, Plan, TableSet, saturated};
+use plan_tree::{Inner, Path, Plan, TableSet, saturate};
 
 /// What a plan comes to, if it is one of the block.
 pub(crate) fn summarise(space: &Space, plan: &Plan) -> Option<PlanSummary>
@@ -60,11 +60,11 @@ fn loop_summary(space: &Space, outer: PlanSummary, path: &Path) -> Option<PlanSu
     }
     let item = find_path(space, outer.tables, path)?;
     let rows = u128::from(space.cardinality(outer.tables));
-    let scans = saturated(rows * u128::from(item.cost));
+    let scans = saturate(rows * u128::from(item.cost));
     Some(PlanSummary {
         tables: outer.tables.with(path.table()),
         order: outer.order,
-        cost: saturated(u128::from(outer.cost) + u128::from(scans)),
+        cost: saturate(u128::from(outer.cost) + u128::from(scans)),
     })
 }
 
@@ -90,7 +90,7 @@ fn merge_summary(
     Some(PlanSummary {
         tables: outer.tables.with(table),
         order: outer.order,
-        cost: saturated(u128::from(outer.cost) + u128::from(item.cost)),
+        cost: saturate(u128::from(outer.cost) + u128::from(item.cost)),
     })
 }
 
@@ -107,7 +107,7 @@ fn sort_summary(space: &Space, input: PlanSummary, order: usize) -> Option<PlanS
     Some(PlanSummary {
         tables: input.tables,
         order,
-        cost: saturated(u128::from(input.cost) + u128::from(sort_cost)),
+        cost: saturate(u128::from(input.cost) + u128::from(sort_cost)),
     })
 }
 

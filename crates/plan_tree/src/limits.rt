@@ -7,7 +7,7 @@ ghost use Rattle.definitions.specs.Plans.Cost as cost;
 const LIMIT: u64 = 1_000_000_000_000_000_000;
 
 /// A sum or a product, which stops at the limit (own).
-pub fn saturated(number: u128) -> u64
+pub fn saturate(number: u128) -> u64
     ensures exact { result ≡ cost.saturated number }
     ensures below { result ≤ cost.limit }
 {

@@ -20,7 +20,7 @@ pub(crate) fn push_columns<'a>(
         ≡ map found_of columns.old.items ++ table_columns place 0 table.now.columns) }
 {
     'columns: for number in 0..table.width() {
-        columns.push(found(place, table, number))?;
+        columns.push(column_at(place, table, number))?;
     }
     Ok(())
 }
@@ -37,7 +37,7 @@ pub(crate) fn with_columns<'a>(
         (with_name name.now (table_columns place 0 table.now.columns)) }
 {
     'columns: for number in 0..table.width() {
-        let column = found(place, table, number);
+        let column = column_at(place, table, number);
         if column.name == name {
             resolution = resolution.with(level, column);
         }
@@ -46,7 +46,7 @@ pub(crate) fn with_columns<'a>(
 }
 
 /// A column of the table at a place of a FROM.
-fn found<'a>(place: usize, table: &'a Table, number: usize) -> Found<'a>
+fn column_at<'a>(place: usize, table: &'a Table, number: usize) -> Found<'a>
     requires { number < length table.now.columns }
     ensures { slice_get (table_columns place 0 table.now.columns) number ≡ Some (found_of result) }
 {

@@ -1,8 +1,6 @@
 -- What a query is refused for, and what is told of its answer.
 use Rattle.std.proofs.Common.{◌≡◌, ◌∙◌, refl, sym, ap, subst, ℕ, Bool, true, false, not, List, [], ◌∷◌, Option, Some, None, Result, Ok, Err, IfOk, length, map, get_or, arith}
-use Rattle.std.specs.Prelude.{◌==◌, is_some, option_map}
 use Rattle.std.proofs.lemmas.List.{length-map}
-use Rattle.std.proofs.lemmas.Bool.Decides.{nat_tests}
 use Rattle.definitions.specs.Statement.{Select, Query}
 use Rattle.definitions.specs.Table.{Row, Database}
 use Rattle.definitions.specs.Refusal.{Refusal, OverQueryLimit}
@@ -11,14 +9,17 @@ use Rattle.definitions.specs.Arithmetic.{Raise}
 use Rattle.definitions.specs.Queries.BoundBlock.{Block, Blocks}
 use Rattle.definitions.specs.Queries.Outcomes.{Rows, Exception, AllowedOf, names_of, shown}
 use Rattle.definitions.specs.Binding.Faults.{Binds}
+use Rattle.std.specs.List.{AllByRecursion}
+use Rattle.definitions.specs.Binding.Answerable.{IsAnswerable}
+use Rattle.definitions.proofs.BindingTheory.AnswerableBlocks.{accepted_queries_are_answerable}
 use Rattle.definitions.specs.Binding.Formed as formed
 use Rattle.definitions.specs.Binding.Formed.{AreFormed, IsFormedBlock}
 use Rattle.definitions.specs.Estimates.Version.{current_version}
-use Rattle.definitions.specs.NotYet.{CanAnswer, IsPlain}
+use Rattle.definitions.specs.NotYet.{CanAnswer}
 use Rattle.definitions.specs.Faults as faults
 use Rattle.definitions.specs.Faults.{Faulty, IsAccepted}
 use Rattle.definitions_execution.specs.Total.{IsTotal}
-use Rattle.query_tree.specs.Bound.{block_of, bound_function_of, column_of, condition_of, key_of}
+use Rattle.query_tree.specs.Bound.{block_of}
 use Rattle.query_tree.specs.declared.block.Block as tree
 use Rattle.sqlr.specs.declared.ended.Ended.TheVariants as e
 use Rattle.sqlr.specs.declared.outcome.Printed.{Printed}
@@ -41,10 +42,16 @@ accepted db q blocks bound can r (faults.not_yet q' a n) = n (subst CanAnswer bo
 
 -- ---- the only block
 
-pub only_block : (blocks : List tree.Block) (b : tree.Block) → CanAnswer (map block_of blocks) → b ≡ get_or blocks 0 b → map block_of blocks ≡ block_of b ∷ []
-only_block [] b can e = absurd can
-only_block (x ∷ []) b can e = ap (λ (y : tree.Block). block_of y ∷ []) (sym e)
-only_block (x ∷ y ∷ ys) b can e = absurd can
+pub can_answer : (blocks : List tree.Block) → length blocks ≡ 1 → CanAnswer (map block_of blocks)
+can_answer blocks one = length-map blocks block_of ∙ one
+
+pub cannot_answer : (blocks : List tree.Block) → ¬ (length blocks ≡ 1) → ¬ (CanAnswer (map block_of blocks))
+cannot_answer blocks other can = other (sym (length-map blocks block_of) ∙ can)
+
+pub only_block : (blocks : List tree.Block) (b : tree.Block) → length blocks ≡ 1 → b ≡ get_or blocks 0 b → map block_of blocks ≡ block_of b ∷ []
+only_block [] b one e = absurd (omega (arith, one))
+only_block (x ∷ []) b one e = ap (λ (y : tree.Block). block_of y ∷ []) (sym e)
+only_block (x ∷ y ∷ ys) b one e = absurd (omega (arith, one))
 
 same_block : (b c : Block) → Some b ≡ Some c → c ≡ b
 same_block b c e = cc
@@ -52,31 +59,9 @@ same_block b c e = cc
 pub formed_block : (db : Database) (b : Block) → AreFormed db (b ∷ []) [] 0 → IsFormedBlock db (b ∷ []) [] 0 b
 formed_block db b (formed.formed around n c is h inside) = subst (IsFormedBlock db (b ∷ []) [] 0) (same_block b c is) h
 
--- ---- a plain block
-
-no_items : {A : Type 0} (xs : List A) → length xs ≡ 0 → xs ≡ []
-no_items [] h = refl
-no_items (x ∷ xs) h = absurd (omega (arith, h))
-
-none_when : {A : Type 0} (o : Option A) → is_some o ≡ false → o ≡ None
-none_when None h = refl
-none_when (Some x) h = absurd cc
-
-pub plain_block : (b : tree.Block) → b.distinct ≡ false → length b.groups.items ≡ 0 → is_some b.having ≡ false → length b.functions.items ≡ 0 → length b.order.items ≡ 0 → IsPlain (block_of b)
-plain_block b distinct groups having functions order =
-    record {
-      distinct = distinct;
-      groups = ap (λ xs. map column_of xs) (no_items b.groups.items groups);
-      having = ap (λ o. option_map condition_of o) (none_when b.having having);
-      functions = ap (λ xs. map bound_function_of xs) (no_items b.functions.items functions);
-      order = ap (λ xs. map key_of xs) (no_items b.order.items order);
-    }
-
-pub zero_when : (n : ℕ) → (n == 0) ≡ true → n ≡ 0
-zero_when n h = grind (arith, nat_tests, h)
-
-pub unordered : (b : tree.Block) → IsPlain (block_of b) → length b.order.items ≡ 0
-unordered b p = sym (length-map b.order.items key_of) ∙ ap (λ xs. length xs) p.order
+-- what is accepted can be answered
+pub answerable_block : (db : Database) (q : Select) (b : Block) → formed.AreWritten db q → Binds db q (b ∷ []) → IsAnswerable b
+answerable_block db q b w bound = (subst (AllByRecursion IsAnswerable) (sym bound.1) (accepted_queries_are_answerable db q w bound.0)).0
 
 -- ---- answers
 

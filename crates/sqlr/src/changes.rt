@@ -7,7 +7,7 @@ ghost use Rattle.sqlr.specs.declared.outcome.StepFault.TheVariants as fault;
 ghost use Rattle.sqlr.specs.Outcomes.{Changes};
 
 use crate::cause::{Cause, ColumnList, StatisticsCause, TableStatisticsCause};
-use crate::outcome::{Printed, StepFault, done, refused, refused_by};
+use crate::outcome::{Printed, StepFault, done, refusal_line, refused_by};
 use catalog::Database;
 use std::alloc::Global;
 use syntax::{ColumnDefinition, Count, IndexStatistics, Name};
@@ -81,7 +81,7 @@ pub fn set_table_statistics<'a>(
         pages,
         fault,
     };
-    refused(alloc, fault.refusal(), Cause::TableStatistics(cause))
+    refusal_line(alloc, fault.refusal(), Cause::TableStatistics(cause))
 }
 
 /// SET STATISTICS of an index.

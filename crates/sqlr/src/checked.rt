@@ -7,7 +7,7 @@ ghost use Rattle.sqlr.specs.Checking.{IsChecked, end_of_file};
 
 use crate::cause::{Cause, QueryCause};
 use crate::ended::Ended;
-use crate::outcome::{Printed, StepFault, refused};
+use crate::outcome::{Printed, StepFault, refusal_line};
 use binder::{BindFault, bind};
 use catalog::Database;
 use certificate_files::{FileEnded, FileTold, check_file};
@@ -46,7 +46,7 @@ pub(crate) fn check_query<'a>(
         Ok(blocks) => blocks,
         Err(BindFault::Refused(fault)) => {
             let cause = QueryCause { query, fault };
-            let printed = refused(alloc, fault.refusal(), Cause::Query(cause))?;
+            let printed = refusal_line(alloc, fault.refusal(), Cause::Query(cause))?;
             return Ok(Checked::Refused(printed));
         }
         Err(BindFault::Memory) => return Err(StepFault::Memory),

@@ -6,7 +6,7 @@ ghost use Rattle.sqlr.specs.declared.outcome.StepFault.TheVariants as fault;
 ghost use Rattle.sqlr.specs.Explaining.{Explains};
 
 use crate::cause::{Cause, QueryCause};
-use crate::outcome::{Printed, StepFault, done, refused};
+use crate::outcome::{Printed, StepFault, done, refusal_line};
 use binder::{BindFault, bind};
 use catalog::Database;
 use executor::explain_text;
@@ -28,7 +28,7 @@ pub(crate) fn explain<'q>(
         Ok(blocks) => blocks,
         Err(BindFault::Refused(fault)) => {
             let cause = QueryCause { query, fault };
-            return refused(alloc, fault.refusal(), Cause::Query(cause));
+            return refusal_line(alloc, fault.refusal(), Cause::Query(cause));
         }
         Err(BindFault::Memory) => return Err(StepFault::Memory),
     };

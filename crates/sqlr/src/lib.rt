@@ -10,7 +10,6 @@ mod ended;
 mod explaining;
 pub mod laws;
 mod library;
-mod not_yet;
 mod outcome;
 mod script;
 mod select;

@@ -53,7 +53,7 @@ pub fn done<'a>(text: Vec<u8>) -> Printed<'a>
 }
 
 /// The line of an exception that a query raises.
-pub fn raised<'a>(alloc: Global, raise: Raise) -> Result<Printed<'a>, StepFault>
+pub fn exception_line<'a>(alloc: Global, raise: Raise) -> Result<Printed<'a>, StepFault>
     ensures text { IfOk result (λ p. p.text.items ≡ shown [] (Exception (raise_of raise))) }
     ensures ended { IfOk result (λ p. p.ended ≡ ended.Faulted) }
     ensures work { IfOk result (λ p. p.work ≡ None) }
@@ -70,7 +70,7 @@ pub fn raised<'a>(alloc: Global, raise: Raise) -> Result<Printed<'a>, StepFault>
 }
 
 /// A refused statement's line.
-pub fn refused<'a>(
+pub fn refusal_line<'a>(
     alloc: Global,
     refusal: Refusal,
     cause: Cause<'a>,
@@ -100,7 +100,7 @@ pub fn refused_by<'a>(
     ensures memory { IfErr result (λ f. f ≡ fault.Memory) }
 {
     match refusal {
-        Some(refusal) => refused(alloc, refusal, cause),
+        Some(refusal) => refusal_line(alloc, refusal, cause),
         None => Err(StepFault::Memory),
     }
 }

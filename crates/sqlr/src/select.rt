@@ -6,8 +6,7 @@ ghost use Rattle.sqlr.specs.declared.outcome.StepFault.TheVariants as fault;
 ghost use Rattle.sqlr.specs.Selecting.{Answers};
 
 use crate::cause::{Cause, QueryCause};
-use crate::not_yet::can_answer;
-use crate::outcome::{Printed, StepFault, done, raised, refused};
+use crate::outcome::{Printed, StepFault, done, exception_line, refusal_line};
 use binder::{BindFault, bind};
 use catalog::Database;
 use executor::{AnswerFault, answer_text};
@@ -30,19 +29,19 @@ pub(crate) fn select<'q>(
         Ok(blocks) => blocks,
         Err(BindFault::Refused(fault)) => {
             let cause = QueryCause { query, fault };
-            return refused(alloc, fault.refusal(), Cause::Query(cause));
+            return refusal_line(alloc, fault.refusal(), Cause::Query(cause));
         }
         Err(BindFault::Memory) => return Err(StepFault::Memory),
     };
-    if !can_answer(&blocks) {
-        return refused(alloc, Refusal::OverQueryLimit, Cause::NotYet(query));
+    if blocks.len() != 1 {
+        return refusal_line(alloc, Refusal::OverQueryLimit, Cause::NotYet(query));
     }
     match answer_text(alloc, database, &blocks[0]) {
         Ok((text, work)) => Ok(Printed {
             work: Some(work),
             ..done(text)
         }),
-        Err(AnswerFault::Raised(raise)) => raised(alloc, raise),
+        Err(AnswerFault::Raised(raise)) => exception_line(alloc, raise),
         Err(AnswerFault::Memory) => Err(StepFault::Memory),
     }
 }

@@ -15,7 +15,7 @@ use crate::changes::{create_index, create_table, set_index_statistics, set_table
 use crate::ended::{Ended, RunFault};
 use crate::explaining::explain;
 use crate::library::{FetchFault, Fetched, Library};
-use crate::outcome::{Printed, StepFault, done, refused, refused_record};
+use crate::outcome::{Printed, StepFault, done, refusal_line, refused_record};
 use crate::script::{ScriptFault, parse_script};
 use crate::select::select;
 use crate::sink::Sink;
@@ -202,11 +202,11 @@ impl<L: Library> Session<L> {
         ensures blamed { IsStepBlamed (L.failures self.old.library) (L.failures self.new.library) result }
     {
         if self.database.table(table.text.as_str()).is_none() {
-            return refused(self.alloc, Refusal::NotFound, Cause::NoTable(table));
+            return refusal_line(self.alloc, Refusal::NotFound, Cause::NoTable(table));
         }
         match self.library.fetch(file.text.as_str()) {
             Ok(Fetched::Bytes(bytes)) => self.load_bytes(FileLoad { table, file, bytes }),
-            Ok(Fetched::Absent) => refused(self.alloc, Refusal::NoFile, Cause::NoFile(file)),
+            Ok(Fetched::Absent) => refusal_line(self.alloc, Refusal::NoFile, Cause::NoFile(file)),
             Err(FetchFault::Device) => Err(StepFault::Library),
             Err(FetchFault::Memory) => Err(StepFault::Memory),
         }
@@ -238,7 +238,7 @@ impl<L: Library> Session<L> {
                 refused_record(self.alloc, Refusal::NullOrRepeated, record.number, cause)
             }
             Err(LoadFault::ManyRows) => {
-                refused(self.alloc, Refusal::OverLimit, Cause::ManyRows(load.table))
+                refusal_line(self.alloc, Refusal::OverLimit, Cause::ManyRows(load.table))
             }
             Err(LoadFault::Memory) => Err(StepFault::Memory),
         }

@@ -31,19 +31,19 @@ pub fn add(a: Num, b: Num) -> Result<Num, Raise>
 {
     let scale = a.scale.max(b.scale);
     let (Some(x), Some(y)) = (
-        scaled(a.units, scale - a.scale),
-        scaled(b.units, scale - b.scale),
+        scale_up(a.units, scale - a.scale),
+        scale_up(b.units, scale - b.scale),
     ) else {
         return Err(Raise::OutOfRange);
     };
-    judged(x.checked_add(y), scale)
+    check_number(x.checked_add(y), scale)
 }
 
 /// The difference, at the greater scale of the two.
 pub fn sub(a: Num, b: Num) -> Result<Num, Raise>
     ensures { meaning_of result ≡ spec.minus (number_of a) (number_of b) }
 {
-    add(a, b.negated())
+    add(a, b.negate())
 }
 
 /// The product, whose scale is the sum of the scales.
@@ -51,7 +51,7 @@ pub fn mul(a: Num, b: Num) -> Result<Num, Raise>
     requires { a.scale + b.scale ≤ greatest_scale }
     ensures { meaning_of result ≡ spec.times (number_of a) (number_of b) }
 {
-    judged(a.units.checked_mul(b.units), a.scale + b.scale)
+    check_number(a.units.checked_mul(b.units), a.scale + b.scale)
 }
 
 /// The quotient, cut towards zero, at the scale of `a` but with at least 6 digits behind the point (own).
@@ -62,7 +62,7 @@ pub fn div(a: Num, b: Num) -> Result<Num, Raise>
         return Err(Raise::DivisionByZero);
     }
     let scale = a.scale.max(QUOTIENT_SCALE);
-    match scaled(a.units, scale + b.scale - a.scale) {
+    match scale_up(a.units, scale + b.scale - a.scale) {
         Some(numerator) => Ok(Num {
             units: numerator / b.units,
             scale,
@@ -72,7 +72,7 @@ pub fn div(a: Num, b: Num) -> Result<Num, Raise>
 }
 
 /// Units at a scale that is so many digits greater, where they are below 10^38 in size.
-fn scaled(units: i128, digits: u8) -> Option<i128>
+fn scale_up(units: i128, digits: u8) -> Option<i128>
     requires { digits ≤ 24 }
     ensures exact { result ≡ if_in_bounds (units *ℤ pos (10 ^ digits)) }
     ensures below { IfSome result (λ u. nat_abs u < 10 ^ most_digits) }
@@ -81,7 +81,7 @@ fn scaled(units: i128, digits: u8) -> Option<i128>
 }
 
 /// The number of so many units, where they are below 10^38 in size.
-fn judged(units: Option<i128>, scale: u8) -> Result<Num, Raise>
+fn check_number(units: Option<i128>, scale: u8) -> Result<Num, Raise>
     requires { scale ≤ greatest_scale }
     ensures { (whole : ℤ) → IsWhole whole units → meaning_of result ≡ spec.judged whole scale }
 {

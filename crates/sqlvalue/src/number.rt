@@ -22,7 +22,7 @@ impl Num {
     }
 
     /// The number on the other side of zero.
-    pub fn negated(self) -> Num
+    pub fn negate(self) -> Num
         ensures units { result.units ≡ neg_ℤ self.units }
         ensures scale { result.scale ≡ self.scale }
     {

@@ -72,7 +72,7 @@ impl From<bool> for Tri {
 
 impl ComparisonOperator {
     /// The truth of a comparison, which is unknown with a null, and of values of two kinds (ISO/IEC 9075:1992, 8.2).
-    pub fn compared(self, a: &Value, b: &Value) -> Tri
+    pub fn compare(self, a: &Value, b: &Value) -> Tri
         ensures { truth_of result ≡ spec.compared (op_of self) (value_of a.now) (value_of b.now) }
     {
         match compare(a, b) {

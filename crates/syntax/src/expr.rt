@@ -56,7 +56,7 @@ fn operand(cursor: &mut Cursor, kind: LineKind, levels: u8) -> Result<Expr, Pars
         LineKind::Disjunction => line(cursor, LineKind::Conjunction, levels),
         LineKind::Conjunction => negation(cursor, levels),
         LineKind::Sum => line(cursor, LineKind::Product, levels),
-        LineKind::Product => signed(cursor, levels),
+        LineKind::Product => signed_operand(cursor, levels),
     }
 }
 
@@ -95,7 +95,7 @@ fn tail(cursor: &mut Cursor, value: Expr, levels: u8) -> Result<Expr, ParseStop>
 {
     let start = cursor.start();
     if let Some(op) = cursor.take_comparison() {
-        compared(cursor, start, op, value, levels)
+        comparison(cursor, start, op, value, levels)
     } else if cursor.eat_word_as(Word::Is, TokenClass::Operator) {
         null_test(cursor, start, value)
     } else if cursor.eat_word_as(Word::Not, TokenClass::Operator) {
@@ -107,7 +107,7 @@ fn tail(cursor: &mut Cursor, value: Expr, levels: u8) -> Result<Expr, ParseStop>
 
 /// What stands behind a comparison operator (ISO/IEC 9075:1992, 8.2 and 8.7).
 #[cycle(expressions)]
-fn compared(
+fn comparison(
     cursor: &mut Cursor,
     start: usize,
     op: ComparisonOperator,
@@ -307,7 +307,7 @@ fn member(cursor: &mut Cursor, levels: u8) -> Result<Option<Expr>, ParseStop>
 
 /// `( "+" | "-" ) signed | primary` (ISO/IEC 9075:1992, 6.12).
 #[cycle(expressions)]
-fn signed(cursor: &mut Cursor, levels: u8) -> Result<Expr, ParseStop>
+fn signed_operand(cursor: &mut Cursor, levels: u8) -> Result<Expr, ParseStop>
     ensures reads { Parses (λ m. grammar.SignOf (within m)) levels cursor.old cursor.new (viewed expr_of result) }
     ensures placed { IfOk result (λ expr. Stands cursor.old cursor.new (expr_leaves expr)) }
 {
@@ -316,7 +316,7 @@ fn signed(cursor: &mut Cursor, levels: u8) -> Result<Expr, ParseStop>
         return primary(cursor, levels);
     };
     let below = cursor.below(levels)?;
-    let operand = signed(cursor, below)?;
+    let operand = signed_operand(cursor, below)?;
     let operand = Box::new(cursor.alloc, operand)?;
     Ok(Expr::Signed {
         start,

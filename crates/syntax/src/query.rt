@@ -176,7 +176,7 @@ fn key_name(cursor: &mut Cursor) -> Result<KeyName, ParseStop>
 }
 
 /// `[ ASC | DESC ]`, whether DESC.
-fn descending(cursor: &mut Cursor) -> bool
+fn is_descending(cursor: &mut Cursor) -> bool
     ensures reads { Given grammar.DirectionAt cursor.old cursor.new result }
     ensures placed { Stands cursor.old cursor.new [] }
 {
@@ -253,7 +253,7 @@ impl Element for Key {
     /// `(name | count) [ ASC | DESC ]` (ISO/IEC 9075:1992, 13.1).
     fn read(cursor: &mut Cursor) -> Result<Key, ParseStop> {
         let name = key_name(cursor)?;
-        let descending = descending(cursor);
+        let descending = is_descending(cursor);
         Ok(Key { name, descending })
     }
 }

@@ -21,12 +21,12 @@ pub fn without_quotes(alloc: Global, text: &str) -> Result<String, AllocError>
     ensures { IfOk result (λ inner. string_bytes inner ≡ quoted_text text.now) }
 {
     match text.strip_prefix('\'') {
-        Some(quoted) => undoubled(alloc, quoted),
+        Some(quoted) => undouble_quotes(alloc, quoted),
         None => Ok(String::new(alloc)),
     }
 }
 
-fn undoubled(alloc: Global, quoted: &str) -> Result<String, AllocError>
+fn undouble_quotes(alloc: Global, quoted: &str) -> Result<String, AllocError>
     ensures { IfOk result (λ inner. string_bytes inner ≡ unquoted false quoted.now) }
 {
     let mut inner = String::new(alloc);

@@ -26,7 +26,7 @@ pub(crate) struct Step {
 /// A script that shows what the steps have left.
 pub(crate) const LOOK: &str = "SELECT A FROM T;";
 
-pub(crate) static STEPS: [Step; 8] = [
+pub(crate) static STEPS: [Step; 11] = [
     Step {
         statement: "CREATE TABLE T (A INTEGER, B CHAR(3)); ",
         printed: "OK\n",
@@ -60,6 +60,21 @@ pub(crate) static STEPS: [Step; 8] = [
     Step {
         statement: "SELECT B, A FROM T WHERE A > 1; ",
         printed: "B|A\n'b  '|2\n1 rows\n",
+        seen: "A\n1\n2\n2 rows\n",
+    },
+    Step {
+        statement: "SELECT A, COUNT(DISTINCT B) FROM T GROUP BY A; ",
+        printed: "A|COL2\n1|1\n2|1\n2 rows\n",
+        seen: "A\n1\n2\n2 rows\n",
+    },
+    Step {
+        statement: "SELECT DISTINCT B FROM T; ",
+        printed: "B\n'a  '\n'b  '\n2 rows\n",
+        seen: "A\n1\n2\n2 rows\n",
+    },
+    Step {
+        statement: "SELECT DISTINCT 0 - A FROM T ORDER BY 1; ",
+        printed: "COL1\n-2\n-1\n2 rows\n",
         seen: "A\n1\n2\n2 rows\n",
     },
     Step {

@@ -30,7 +30,7 @@ pub(crate) fn rank_of_keyed<const WIDTH: usize>(
         return Ordering::Equal;
     };
     if a.key != b.key {
-        return directed(a.key.cmp(&b.key), first.descending);
+        return by_direction(a.key.cmp(&b.key), first.descending);
     }
     rank_of_packed(
         source,
@@ -58,7 +58,7 @@ pub(crate) fn rank_of_packed(
             &source.cell(key.column, row_in(members, b, table) as usize),
         );
         if ranked != Ordering::Equal {
-            return directed(ranked, key.descending);
+            return by_direction(ranked, key.descending);
         }
     }
     Ordering::Equal
@@ -75,7 +75,7 @@ fn rank_of_values(a: &Value, b: &Value) -> Ordering
 }
 
 /// A rank in the direction of a key.
-fn directed(ranked: Ordering, descending: bool) -> Ordering
+fn by_direction(ranked: Ordering, descending: bool) -> Ordering
     ensures { result ≡ directed descending ranked }
 {
     if descending { ranked.reverse() } else { ranked }

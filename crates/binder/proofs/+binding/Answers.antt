@@ -278,345 +278,42 @@ condition::column_of_query-returns-in_default-None t c =
     not_one_column c.args.clause.now.database.now c.args.clause.now.scopes.now (place_of c.args.clause.now.place) (record { blocks = map block_of c.args.blocks.now.items; functions = functions }) (record { blocks = map block_of c.inner_block.new.blocks.items; functions = functions }) (query_of c.args.query.now) c.in_ok-block.field-0.0 query
 
 -- src/condition.rt:41:27
-pub condition::condition-returns-in_err-operand-in-Not :
-    goal.condition::condition-returns-in_err-operand-in-Not
-condition::condition-returns-in_err-operand-in-Not t c =
-    let tree = ap expr_of c.in-Not.is ∙ of_not c.in-Not.start c.in-Not.operand in
-    let f = c.in_err-operand-in-Not.field-0.0 in
-    let inner : IfSome (bind_refusal f) (RefusesCondition c.args.clause.now.database.now c.args.clause.now.scopes.now (place_of c.args.clause.now.place) (progress_of c.args.blocks.now.items c.args.functions.now.items) (expr_of c.in-Not.operand.value)) = rw c.deref-in-Not.ensures at c.in_err-operand-in-Not.ensures in
-    condition_err c.args.clause.now (progress_of c.args.blocks.now.items c.args.functions.now.items) _ _ _ f (search rules) (rw tree (if_some (bind_refusal f) _ _ (not_operand c.args.clause.now.database.now c.args.clause.now.scopes.now (place_of c.args.clause.now.place) (progress_of c.args.blocks.now.items c.args.functions.now.items) (expr_of c.in-Not.operand.value)) inner))
-
 -- src/condition.rt:50:24
-pub condition::condition-returns-in_err-left-in-Compare :
-    goal.condition::condition-returns-in_err-left-in-Compare
-condition::condition-returns-in_err-left-in-Compare t c =
-    let tree = ap expr_of c.in-Compare.is ∙ of_compare c.in-Compare.start c.in-Compare.op c.in-Compare.left c.in-Compare.other in
-    let f = c.in_err-left-in-Compare.field-0.0 in
-    let inner : IfSome (bind_refusal f) (RefusesValue c.args.clause.now.database.now c.args.clause.now.scopes.now (place_of c.args.clause.now.place) (progress_of c.args.blocks.now.items c.args.functions.now.items) (expr_of c.in-Compare.left.value)) = rw c.deref-in-Compare.ensures at c.in_err-left-in-Compare.ensures in
-    condition_err c.args.clause.now (progress_of c.args.blocks.now.items c.args.functions.now.items) _ _ _ f (search rules) (rw tree (if_some (bind_refusal f) _ _ (compare_left c.args.clause.now.database.now c.args.clause.now.scopes.now (place_of c.args.clause.now.place) (progress_of c.args.blocks.now.items c.args.functions.now.items) (op_of c.in-Compare.op) (expr_of c.in-Compare.left.value) (expr_of c.in-Compare.other.value)) inner))
-
 -- src/condition.rt:51:25
-pub condition::condition-value-requires-in-Compare :
-    goal.condition::condition-value-requires-in-Compare
-condition::condition-value-requires-in-Compare t c =
-    let first : BindsValue c.args.clause.now.database.now c.args.clause.now.scopes.now (place_of c.args.clause.now.place) (progress_of c.args.blocks.now.items c.args.functions.now.items) (progress_of c.value.new.blocks.items c.value.new.functions.items) (expr_of c.in-Compare.left.value) (value_of c.in_ok-left-in-Compare.left.value) (value_type_of c.in_ok-left-in-Compare.left.value_type) = rw c.deref-in-Compare.ensures at c.in_ok-left-in-Compare.ensures in
-    let sight = c.requires.sight in let few = few_items c.value.new.blocks.items (few_after c.args.clause.now.database.now c.args.clause.now.scopes.now (place_of c.args.clause.now.place) (progress_of c.args.blocks.now.items c.args.functions.now.items) (progress_of c.value.new.blocks.items c.value.new.functions.items) _ _ first.adds) in search (rules, the_lemmas, sight, few)
-
 -- src/condition.rt:51:25
-pub condition::condition-returns-in_err-right-in-Compare :
-    goal.condition::condition-returns-in_err-right-in-Compare
-condition::condition-returns-in_err-right-in-Compare t c =
-    let tree = ap expr_of c.in-Compare.is ∙ of_compare c.in-Compare.start c.in-Compare.op c.in-Compare.left c.in-Compare.other in
-    let first : BindsValue c.args.clause.now.database.now c.args.clause.now.scopes.now (place_of c.args.clause.now.place) (progress_of c.args.blocks.now.items c.args.functions.now.items) (progress_of c.value.new.blocks.items c.value.new.functions.items) (expr_of c.in-Compare.left.value) (value_of c.in_ok-left-in-Compare.left.value) (value_type_of c.in_ok-left-in-Compare.left.value_type) = rw c.deref-in-Compare.ensures at c.in_ok-left-in-Compare.ensures in
-    let f = c.in_err-right-in-Compare.field-0.0 in
-    let inner : IfSome (bind_refusal f) (RefusesValue c.args.clause.now.database.now c.args.clause.now.scopes.now (place_of c.args.clause.now.place) (progress_of c.value.new.blocks.items c.value.new.functions.items) (expr_of c.in-Compare.other.value)) = rw c.deref-in-Compare-2.ensures at c.in_err-right-in-Compare.ensures in
-    condition_err c.args.clause.now (progress_of c.args.blocks.now.items c.args.functions.now.items) _ _ _ f (search rules) (rw tree (if_some (bind_refusal f) _ _ (λ r e. compare_right c.args.clause.now.database.now c.args.clause.now.scopes.now (place_of c.args.clause.now.place) (progress_of c.args.blocks.now.items c.args.functions.now.items) (progress_of c.value.new.blocks.items c.value.new.functions.items) (op_of c.in-Compare.op) (expr_of c.in-Compare.left.value) (expr_of c.in-Compare.other.value) (value_of c.in_ok-left-in-Compare.left.value) (value_type_of c.in_ok-left-in-Compare.left.value_type) r first e) inner))
-
 -- src/condition.rt:52:13
-pub condition::condition-returns-in_err-judge_kinds-in-Compare :
-    goal.condition::condition-returns-in_err-judge_kinds-in-Compare
-condition::condition-returns-in_err-judge_kinds-in-Compare t c =
-    let tree = ap expr_of c.in-Compare.is ∙ of_compare c.in-Compare.start c.in-Compare.op c.in-Compare.left c.in-Compare.other in
-    let first : BindsValue c.args.clause.now.database.now c.args.clause.now.scopes.now (place_of c.args.clause.now.place) (progress_of c.args.blocks.now.items c.args.functions.now.items) (progress_of c.value.new.blocks.items c.value.new.functions.items) (expr_of c.in-Compare.left.value) (value_of c.in_ok-left-in-Compare.left.value) (value_type_of c.in_ok-left-in-Compare.left.value_type) = rw c.deref-in-Compare.ensures at c.in_ok-left-in-Compare.ensures in
-    let second : BindsValue c.args.clause.now.database.now c.args.clause.now.scopes.now (place_of c.args.clause.now.place) (progress_of c.value.new.blocks.items c.value.new.functions.items) (progress_of c.value-in-Compare.new.blocks.items c.value-in-Compare.new.functions.items) (expr_of c.in-Compare.other.value) (value_of c.in_ok-right-in-Compare.right.value) (value_type_of c.in_ok-right-in-Compare.right.value_type) = rw c.deref-in-Compare-2.ensures at c.in_ok-right-in-Compare.ensures in
-    let q = c.in_err-judge_kinds-in-Compare.field-0.0 in
-    condition_refused c.args.clause.now (progress_of c.args.blocks.now.items c.args.functions.now.items) _ _ _ q MixedKinds (is_refused _ q c.from_residual-in_err-judge_kinds-in-Compare.ensures) c.in_err-judge_kinds-in-Compare.ensures.refused
-    (rw tree (compare_mixed c.args.clause.now.database.now c.args.clause.now.scopes.now (place_of c.args.clause.now.place) (progress_of c.args.blocks.now.items c.args.functions.now.items) (progress_of c.value.new.blocks.items c.value.new.functions.items) (progress_of c.value-in-Compare.new.blocks.items c.value-in-Compare.new.functions.items) (op_of c.in-Compare.op) (expr_of c.in-Compare.left.value) (expr_of c.in-Compare.other.value) (value_of c.in_ok-left-in-Compare.left.value) (value_of c.in_ok-right-in-Compare.right.value) (value_type_of c.in_ok-left-in-Compare.left.value_type) (value_type_of c.in_ok-right-in-Compare.right.value_type) first second c.in_err-judge_kinds-in-Compare.ensures.apart))
-
 -- src/condition.rt:66:24
-pub condition::condition-returns-in_err-left-in-CompareAll :
-    goal.condition::condition-returns-in_err-left-in-CompareAll
-condition::condition-returns-in_err-left-in-CompareAll t c =
-    let tree = ap expr_of c.in-CompareAll.is ∙ of_compare_all c.in-CompareAll.start c.in-CompareAll.op c.in-CompareAll.quantifier c.in-CompareAll.left c.in-CompareAll.query in
-    let f = c.in_err-left-in-CompareAll.field-0.0 in
-    let inner : IfSome (bind_refusal f) (RefusesValue c.args.clause.now.database.now c.args.clause.now.scopes.now (place_of c.args.clause.now.place) (progress_of c.args.blocks.now.items c.args.functions.now.items) (expr_of c.in-CompareAll.left.value)) = rw c.deref-in-CompareAll.ensures at c.in_err-left-in-CompareAll.ensures in
-    condition_err c.args.clause.now (progress_of c.args.blocks.now.items c.args.functions.now.items) _ _ _ f (search rules) (rw tree (if_some (bind_refusal f) _ _ (λ r e. test_operand c.args.clause.now.database.now c.args.clause.now.scopes.now (place_of c.args.clause.now.place) (progress_of c.args.blocks.now.items c.args.functions.now.items) (spec.CompareAll (op_of c.in-CompareAll.op) (quantifier_of c.in-CompareAll.quantifier) (expr_of c.in-CompareAll.left.value) (query_of c.in-CompareAll.query.value)) (expr_of c.in-CompareAll.left.value) (query_of c.in-CompareAll.query.value) (b.Quantified (op_of c.in-CompareAll.op) (quantifier_of c.in-CompareAll.quantifier)) r (compare_all (op_of c.in-CompareAll.op) (quantifier_of c.in-CompareAll.quantifier)) e) inner))
-
 -- src/condition.rt:67:39
-pub condition::condition-column_of_query-requires :
-    goal.condition::condition-column_of_query-requires
-condition::condition-column_of_query-requires t c =
-    let first : BindsValue c.args.clause.now.database.now c.args.clause.now.scopes.now (place_of c.args.clause.now.place) (progress_of c.args.blocks.now.items c.args.functions.now.items) (progress_of c.value-in-CompareAll.new.blocks.items c.value-in-CompareAll.new.functions.items) (expr_of c.in-CompareAll.left.value) (value_of c.in_ok-left-in-CompareAll.left.value) (value_type_of c.in_ok-left-in-CompareAll.left.value_type) = rw c.deref-in-CompareAll.ensures at c.in_ok-left-in-CompareAll.ensures in
-    let sight = c.requires.sight in let few = few_items c.value-in-CompareAll.new.blocks.items (few_after c.args.clause.now.database.now c.args.clause.now.scopes.now (place_of c.args.clause.now.place) (progress_of c.args.blocks.now.items c.args.functions.now.items) (progress_of c.value-in-CompareAll.new.blocks.items c.value-in-CompareAll.new.functions.items) _ _ first.adds) in search (rules, the_lemmas, sight, few)
-
 -- src/condition.rt:67:39
-pub condition::condition-returns-in_err-block-in-CompareAll :
-    goal.condition::condition-returns-in_err-block-in-CompareAll
-condition::condition-returns-in_err-block-in-CompareAll t c =
-    let tree = ap expr_of c.in-CompareAll.is ∙ of_compare_all c.in-CompareAll.start c.in-CompareAll.op c.in-CompareAll.quantifier c.in-CompareAll.left c.in-CompareAll.query in
-    let first : BindsValue c.args.clause.now.database.now c.args.clause.now.scopes.now (place_of c.args.clause.now.place) (progress_of c.args.blocks.now.items c.args.functions.now.items) (progress_of c.value-in-CompareAll.new.blocks.items c.value-in-CompareAll.new.functions.items) (expr_of c.in-CompareAll.left.value) (value_of c.in_ok-left-in-CompareAll.left.value) (value_type_of c.in_ok-left-in-CompareAll.left.value_type) = rw c.deref-in-CompareAll.ensures at c.in_ok-left-in-CompareAll.ensures in
-    let f = c.in_err-block-in-CompareAll.field-0.0 in
-    let inner : IfSome (bind_refusal f) (RefusesColumn c.args.clause.now.database.now c.args.clause.now.scopes.now (place_of c.args.clause.now.place) (progress_of c.value-in-CompareAll.new.blocks.items c.value-in-CompareAll.new.functions.items) (query_of c.in-CompareAll.query.value)) = rw c.deref-in-CompareAll-2.ensures at (c.in_err-block-in-CompareAll.ensures (map bound_function_of c.value-in-CompareAll.new.functions.items)) in
-    condition_err c.args.clause.now (progress_of c.args.blocks.now.items c.args.functions.now.items) _ _ _ f (search rules) (rw tree (if_some (bind_refusal f) _ _ (λ r e. test_query c.args.clause.now.database.now c.args.clause.now.scopes.now (place_of c.args.clause.now.place) (progress_of c.args.blocks.now.items c.args.functions.now.items) (progress_of c.value-in-CompareAll.new.blocks.items c.value-in-CompareAll.new.functions.items) (spec.CompareAll (op_of c.in-CompareAll.op) (quantifier_of c.in-CompareAll.quantifier) (expr_of c.in-CompareAll.left.value) (query_of c.in-CompareAll.query.value)) (expr_of c.in-CompareAll.left.value) (query_of c.in-CompareAll.query.value) (b.Quantified (op_of c.in-CompareAll.op) (quantifier_of c.in-CompareAll.quantifier)) (value_of c.in_ok-left-in-CompareAll.left.value) (value_type_of c.in_ok-left-in-CompareAll.left.value_type) r (compare_all (op_of c.in-CompareAll.op) (quantifier_of c.in-CompareAll.quantifier)) first e) inner))
-
 -- src/condition.rt:68:13
-pub condition::condition-returns-in_err-judge_kinds-in-CompareAll :
-    goal.condition::condition-returns-in_err-judge_kinds-in-CompareAll
-condition::condition-returns-in_err-judge_kinds-in-CompareAll t c =
-    let tree = ap expr_of c.in-CompareAll.is ∙ of_compare_all c.in-CompareAll.start c.in-CompareAll.op c.in-CompareAll.quantifier c.in-CompareAll.left c.in-CompareAll.query in
-    let first : BindsValue c.args.clause.now.database.now c.args.clause.now.scopes.now (place_of c.args.clause.now.place) (progress_of c.args.blocks.now.items c.args.functions.now.items) (progress_of c.value-in-CompareAll.new.blocks.items c.value-in-CompareAll.new.functions.items) (expr_of c.in-CompareAll.left.value) (value_of c.in_ok-left-in-CompareAll.left.value) (value_type_of c.in_ok-left-in-CompareAll.left.value_type) = rw c.deref-in-CompareAll.ensures at c.in_ok-left-in-CompareAll.ensures in
-    let second : BindsColumn c.args.clause.now.database.now c.args.clause.now.scopes.now (place_of c.args.clause.now.place) (progress_of c.value-in-CompareAll.new.blocks.items c.value-in-CompareAll.new.functions.items) (progress_of c.column_of_query.new.blocks.items c.value-in-CompareAll.new.functions.items) (query_of c.in-CompareAll.query.value) c.in_ok-block-in-CompareAll.block (value_type_of c.in_ok-block-in-CompareAll.value_type) = rw c.deref-in-CompareAll-2.ensures at (c.in_ok-block-in-CompareAll.ensures (map bound_function_of c.value-in-CompareAll.new.functions.items)) in
-    let q = c.in_err-judge_kinds-in-CompareAll.field-0.0 in
-    condition_refused c.args.clause.now (progress_of c.args.blocks.now.items c.args.functions.now.items) _ _ _ q MixedKinds (is_refused _ q c.from_residual-in_err-judge_kinds-in-CompareAll.ensures) c.in_err-judge_kinds-in-CompareAll.ensures.refused
-    (rw tree (test_mixed c.args.clause.now.database.now c.args.clause.now.scopes.now (place_of c.args.clause.now.place) (progress_of c.args.blocks.now.items c.args.functions.now.items) (progress_of c.value-in-CompareAll.new.blocks.items c.value-in-CompareAll.new.functions.items) (progress_of c.column_of_query.new.blocks.items c.value-in-CompareAll.new.functions.items) (spec.CompareAll (op_of c.in-CompareAll.op) (quantifier_of c.in-CompareAll.quantifier) (expr_of c.in-CompareAll.left.value) (query_of c.in-CompareAll.query.value)) (expr_of c.in-CompareAll.left.value) (query_of c.in-CompareAll.query.value) (b.Quantified (op_of c.in-CompareAll.op) (quantifier_of c.in-CompareAll.quantifier)) (value_of c.in_ok-left-in-CompareAll.left.value) (value_type_of c.in_ok-left-in-CompareAll.left.value_type) (value_type_of c.in_ok-block-in-CompareAll.value_type) c.in_ok-block-in-CompareAll.block (compare_all (op_of c.in-CompareAll.op) (quantifier_of c.in-CompareAll.quantifier)) first second c.in_err-judge_kinds-in-CompareAll.ensures.apart))
-
 -- src/condition.rt:81:25
-pub condition::condition-returns-in_err-typed-in-IsNull :
-    goal.condition::condition-returns-in_err-typed-in-IsNull
-condition::condition-returns-in_err-typed-in-IsNull t c =
-    let tree = ap expr_of c.in-IsNull.is ∙ of_is_null c.in-IsNull.start c.in-IsNull.negated c.in-IsNull.operand in
-    let f = c.in_err-typed-in-IsNull.field-0.0 in
-    let inner : IfSome (bind_refusal f) (RefusesValue c.args.clause.now.database.now c.args.clause.now.scopes.now (place_of c.args.clause.now.place) (progress_of c.args.blocks.now.items c.args.functions.now.items) (expr_of c.in-IsNull.operand.value)) = rw c.deref-in-IsNull.ensures at c.in_err-typed-in-IsNull.ensures in
-    condition_err c.args.clause.now (progress_of c.args.blocks.now.items c.args.functions.now.items) _ _ _ f (search rules) (rw tree (if_some (bind_refusal f) _ _ (is_null_operand c.args.clause.now.database.now c.args.clause.now.scopes.now (place_of c.args.clause.now.place) (progress_of c.args.blocks.now.items c.args.functions.now.items) c.in-IsNull.negated (expr_of c.in-IsNull.operand.value)) inner))
-
 -- src/condition.rt:94:25
-pub condition::condition-returns-in_err-typed-in-Between :
-    goal.condition::condition-returns-in_err-typed-in-Between
-condition::condition-returns-in_err-typed-in-Between t c =
-    let tree = ap expr_of c.in-Between.is ∙ of_between c.in-Between.start c.in-Between.negated c.in-Between.operand c.in-Between.least c.in-Between.greatest in
-    let f = c.in_err-typed-in-Between.field-0.0 in
-    let inner : IfSome (bind_refusal f) (RefusesValue c.args.clause.now.database.now c.args.clause.now.scopes.now (place_of c.args.clause.now.place) (progress_of c.args.blocks.now.items c.args.functions.now.items) (expr_of c.in-Between.operand.value)) = rw c.deref-in-Between.ensures at c.in_err-typed-in-Between.ensures in
-    condition_err c.args.clause.now (progress_of c.args.blocks.now.items c.args.functions.now.items) _ _ _ f (search rules) (rw tree (if_some (bind_refusal f) _ _ (between_operand c.args.clause.now.database.now c.args.clause.now.scopes.now (place_of c.args.clause.now.place) (progress_of c.args.blocks.now.items c.args.functions.now.items) c.in-Between.negated (expr_of c.in-Between.operand.value) (expr_of c.in-Between.least.value) (expr_of c.in-Between.greatest.value)) inner))
-
 -- src/condition.rt:95:23
-pub condition::condition-value-requires-in-Between-2 :
-    goal.condition::condition-value-requires-in-Between-2
-condition::condition-value-requires-in-Between-2 t c =
-    let first : BindsValue c.args.clause.now.database.now c.args.clause.now.scopes.now (place_of c.args.clause.now.place) (progress_of c.args.blocks.now.items c.args.functions.now.items) (progress_of c.value-in-Between.new.blocks.items c.value-in-Between.new.functions.items) (expr_of c.in-Between.operand.value) (value_of c.in_ok-typed-in-Between.typed.value) (value_type_of c.in_ok-typed-in-Between.typed.value_type) = rw c.deref-in-Between.ensures at c.in_ok-typed-in-Between.ensures in
-    let sight = c.requires.sight in let few = few_items c.value-in-Between.new.blocks.items (few_after c.args.clause.now.database.now c.args.clause.now.scopes.now (place_of c.args.clause.now.place) (progress_of c.args.blocks.now.items c.args.functions.now.items) (progress_of c.value-in-Between.new.blocks.items c.value-in-Between.new.functions.items) _ _ first.adds) in search (rules, the_lemmas, sight, few)
-
 -- src/condition.rt:95:23
-pub condition::condition-returns-in_err-low-in-Between :
-    goal.condition::condition-returns-in_err-low-in-Between
-condition::condition-returns-in_err-low-in-Between t c =
-    let tree = ap expr_of c.in-Between.is ∙ of_between c.in-Between.start c.in-Between.negated c.in-Between.operand c.in-Between.least c.in-Between.greatest in
-    let first : BindsValue c.args.clause.now.database.now c.args.clause.now.scopes.now (place_of c.args.clause.now.place) (progress_of c.args.blocks.now.items c.args.functions.now.items) (progress_of c.value-in-Between.new.blocks.items c.value-in-Between.new.functions.items) (expr_of c.in-Between.operand.value) (value_of c.in_ok-typed-in-Between.typed.value) (value_type_of c.in_ok-typed-in-Between.typed.value_type) = rw c.deref-in-Between.ensures at c.in_ok-typed-in-Between.ensures in
-    let f = c.in_err-low-in-Between.field-0.0 in
-    let inner : IfSome (bind_refusal f) (RefusesValue c.args.clause.now.database.now c.args.clause.now.scopes.now (place_of c.args.clause.now.place) (progress_of c.value-in-Between.new.blocks.items c.value-in-Between.new.functions.items) (expr_of c.in-Between.least.value)) = rw c.deref-in-Between-2.ensures at c.in_err-low-in-Between.ensures in
-    condition_err c.args.clause.now (progress_of c.args.blocks.now.items c.args.functions.now.items) _ _ _ f (search rules) (rw tree (if_some (bind_refusal f) _ _ (λ r x. between_low c.args.clause.now.database.now c.args.clause.now.scopes.now (place_of c.args.clause.now.place) (progress_of c.args.blocks.now.items c.args.functions.now.items) (progress_of c.value-in-Between.new.blocks.items c.value-in-Between.new.functions.items) c.in-Between.negated (expr_of c.in-Between.operand.value) (expr_of c.in-Between.least.value) (expr_of c.in-Between.greatest.value) (value_of c.in_ok-typed-in-Between.typed.value) (value_type_of c.in_ok-typed-in-Between.typed.value_type) r first x) inner))
-
 -- src/condition.rt:96:24
-pub condition::condition-value-requires-in-Between-3 :
-    goal.condition::condition-value-requires-in-Between-3
-condition::condition-value-requires-in-Between-3 t c =
-    let second : BindsValue c.args.clause.now.database.now c.args.clause.now.scopes.now (place_of c.args.clause.now.place) (progress_of c.value-in-Between.new.blocks.items c.value-in-Between.new.functions.items) (progress_of c.value-in-Between-2.new.blocks.items c.value-in-Between-2.new.functions.items) (expr_of c.in-Between.least.value) (value_of c.in_ok-low-in-Between.low.value) (value_type_of c.in_ok-low-in-Between.low.value_type) = rw c.deref-in-Between-2.ensures at c.in_ok-low-in-Between.ensures in
-    let sight = c.requires.sight in let few = few_items c.value-in-Between-2.new.blocks.items (few_after c.args.clause.now.database.now c.args.clause.now.scopes.now (place_of c.args.clause.now.place) (progress_of c.value-in-Between.new.blocks.items c.value-in-Between.new.functions.items) (progress_of c.value-in-Between-2.new.blocks.items c.value-in-Between-2.new.functions.items) _ _ second.adds) in search (rules, the_lemmas, sight, few)
-
 -- src/condition.rt:96:24
-pub condition::condition-returns-in_err-high-in-Between :
-    goal.condition::condition-returns-in_err-high-in-Between
-condition::condition-returns-in_err-high-in-Between t c =
-    let tree = ap expr_of c.in-Between.is ∙ of_between c.in-Between.start c.in-Between.negated c.in-Between.operand c.in-Between.least c.in-Between.greatest in
-    let first : BindsValue c.args.clause.now.database.now c.args.clause.now.scopes.now (place_of c.args.clause.now.place) (progress_of c.args.blocks.now.items c.args.functions.now.items) (progress_of c.value-in-Between.new.blocks.items c.value-in-Between.new.functions.items) (expr_of c.in-Between.operand.value) (value_of c.in_ok-typed-in-Between.typed.value) (value_type_of c.in_ok-typed-in-Between.typed.value_type) = rw c.deref-in-Between.ensures at c.in_ok-typed-in-Between.ensures in
-    let second : BindsValue c.args.clause.now.database.now c.args.clause.now.scopes.now (place_of c.args.clause.now.place) (progress_of c.value-in-Between.new.blocks.items c.value-in-Between.new.functions.items) (progress_of c.value-in-Between-2.new.blocks.items c.value-in-Between-2.new.functions.items) (expr_of c.in-Between.least.value) (value_of c.in_ok-low-in-Between.low.value) (value_type_of c.in_ok-low-in-Between.low.value_type) = rw c.deref-in-Between-2.ensures at c.in_ok-low-in-Between.ensures in
-    let f = c.in_err-high-in-Between.field-0.0 in
-    let inner : IfSome (bind_refusal f) (RefusesValue c.args.clause.now.database.now c.args.clause.now.scopes.now (place_of c.args.clause.now.place) (progress_of c.value-in-Between-2.new.blocks.items c.value-in-Between-2.new.functions.items) (expr_of c.in-Between.greatest.value)) = rw c.deref-in-Between-3.ensures at c.in_err-high-in-Between.ensures in
-    condition_err c.args.clause.now (progress_of c.args.blocks.now.items c.args.functions.now.items) _ _ _ f (search rules) (rw tree (if_some (bind_refusal f) _ _ (λ r x. between_high c.args.clause.now.database.now c.args.clause.now.scopes.now (place_of c.args.clause.now.place) (progress_of c.args.blocks.now.items c.args.functions.now.items) (progress_of c.value-in-Between.new.blocks.items c.value-in-Between.new.functions.items) (progress_of c.value-in-Between-2.new.blocks.items c.value-in-Between-2.new.functions.items) c.in-Between.negated (expr_of c.in-Between.operand.value) (expr_of c.in-Between.least.value) (expr_of c.in-Between.greatest.value) (value_of c.in_ok-typed-in-Between.typed.value) (value_of c.in_ok-low-in-Between.low.value) (value_type_of c.in_ok-typed-in-Between.typed.value_type) (value_type_of c.in_ok-low-in-Between.low.value_type) r first second x) inner))
-
 -- src/condition.rt:97:13
-pub condition::condition-returns-in_err-judge_kinds-in-Between :
-    goal.condition::condition-returns-in_err-judge_kinds-in-Between
-condition::condition-returns-in_err-judge_kinds-in-Between t c =
-    let tree = ap expr_of c.in-Between.is ∙ of_between c.in-Between.start c.in-Between.negated c.in-Between.operand c.in-Between.least c.in-Between.greatest in
-    let first : BindsValue c.args.clause.now.database.now c.args.clause.now.scopes.now (place_of c.args.clause.now.place) (progress_of c.args.blocks.now.items c.args.functions.now.items) (progress_of c.value-in-Between.new.blocks.items c.value-in-Between.new.functions.items) (expr_of c.in-Between.operand.value) (value_of c.in_ok-typed-in-Between.typed.value) (value_type_of c.in_ok-typed-in-Between.typed.value_type) = rw c.deref-in-Between.ensures at c.in_ok-typed-in-Between.ensures in
-    let second : BindsValue c.args.clause.now.database.now c.args.clause.now.scopes.now (place_of c.args.clause.now.place) (progress_of c.value-in-Between.new.blocks.items c.value-in-Between.new.functions.items) (progress_of c.value-in-Between-2.new.blocks.items c.value-in-Between-2.new.functions.items) (expr_of c.in-Between.least.value) (value_of c.in_ok-low-in-Between.low.value) (value_type_of c.in_ok-low-in-Between.low.value_type) = rw c.deref-in-Between-2.ensures at c.in_ok-low-in-Between.ensures in
-    let q = c.in_err-judge_kinds-in-Between.field-0.0 in
-    condition_refused c.args.clause.now (progress_of c.args.blocks.now.items c.args.functions.now.items) _ _ _ q MixedKinds (is_refused _ q c.from_residual-in_err-judge_kinds-in-Between.ensures) c.in_err-judge_kinds-in-Between.ensures.refused
-    (rw tree (between_low_mixed c.args.clause.now.database.now c.args.clause.now.scopes.now (place_of c.args.clause.now.place) (progress_of c.args.blocks.now.items c.args.functions.now.items) (progress_of c.value-in-Between.new.blocks.items c.value-in-Between.new.functions.items) (progress_of c.value-in-Between-2.new.blocks.items c.value-in-Between-2.new.functions.items) c.in-Between.negated (expr_of c.in-Between.operand.value) (expr_of c.in-Between.least.value) (expr_of c.in-Between.greatest.value) (value_of c.in_ok-typed-in-Between.typed.value) (value_of c.in_ok-low-in-Between.low.value) (value_type_of c.in_ok-typed-in-Between.typed.value_type) (value_type_of c.in_ok-low-in-Between.low.value_type) first second c.in_err-judge_kinds-in-Between.ensures.apart))
-
 -- src/condition.rt:98:13
-pub condition::condition-returns-in_err-judge_kinds-in-Between-2 :
-    goal.condition::condition-returns-in_err-judge_kinds-in-Between-2
-condition::condition-returns-in_err-judge_kinds-in-Between-2 t c =
-    let tree = ap expr_of c.in-Between.is ∙ of_between c.in-Between.start c.in-Between.negated c.in-Between.operand c.in-Between.least c.in-Between.greatest in
-    let first : BindsValue c.args.clause.now.database.now c.args.clause.now.scopes.now (place_of c.args.clause.now.place) (progress_of c.args.blocks.now.items c.args.functions.now.items) (progress_of c.value-in-Between.new.blocks.items c.value-in-Between.new.functions.items) (expr_of c.in-Between.operand.value) (value_of c.in_ok-typed-in-Between.typed.value) (value_type_of c.in_ok-typed-in-Between.typed.value_type) = rw c.deref-in-Between.ensures at c.in_ok-typed-in-Between.ensures in
-    let third : BindsValue c.args.clause.now.database.now c.args.clause.now.scopes.now (place_of c.args.clause.now.place) (progress_of c.value-in-Between-2.new.blocks.items c.value-in-Between-2.new.functions.items) (progress_of c.value-in-Between-3.new.blocks.items c.value-in-Between-3.new.functions.items) (expr_of c.in-Between.greatest.value) (value_of c.in_ok-high-in-Between.high.value) (value_type_of c.in_ok-high-in-Between.high.value_type) = rw c.deref-in-Between-3.ensures at c.in_ok-high-in-Between.ensures in
-    let q = c.in_err-judge_kinds-in-Between-2.field-0.0 in
-    condition_refused c.args.clause.now (progress_of c.args.blocks.now.items c.args.functions.now.items) _ _ _ q MixedKinds (is_refused _ q c.from_residual-in_err-judge_kinds-in-Between-2.ensures) c.in_err-judge_kinds-in-Between-2.ensures.refused
-    (rw tree (between_high_mixed c.args.clause.now.database.now c.args.clause.now.scopes.now (place_of c.args.clause.now.place) (progress_of c.args.blocks.now.items c.args.functions.now.items) (progress_of c.value-in-Between.new.blocks.items c.value-in-Between.new.functions.items) (progress_of c.value-in-Between-2.new.blocks.items c.value-in-Between-2.new.functions.items) (progress_of c.value-in-Between-3.new.blocks.items c.value-in-Between-3.new.functions.items) c.in-Between.negated (expr_of c.in-Between.operand.value) (expr_of c.in-Between.least.value) (expr_of c.in-Between.greatest.value) (value_of c.in_ok-typed-in-Between.typed.value) (value_of c.in_ok-high-in-Between.high.value) (value_type_of c.in_ok-typed-in-Between.typed.value_type) (value_type_of c.in_ok-high-in-Between.high.value_type) first third c.in_err-judge_kinds-in-Between-2.ensures.apart))
-
 -- src/condition.rt:112:25
-pub condition::condition-returns-in_err-typed-in-Like :
-    goal.condition::condition-returns-in_err-typed-in-Like
-condition::condition-returns-in_err-typed-in-Like t c =
-    let tree = ap expr_of c.in-Like.is ∙ of_like c.in-Like.start c.in-Like.negated c.in-Like.operand c.in-Like.pattern in
-    let f = c.in_err-typed-in-Like.field-0.0 in
-    let inner : IfSome (bind_refusal f) (RefusesValue c.args.clause.now.database.now c.args.clause.now.scopes.now (place_of c.args.clause.now.place) (progress_of c.args.blocks.now.items c.args.functions.now.items) (expr_of c.in-Like.operand.value)) = rw c.deref-in-Like.ensures at c.in_err-typed-in-Like.ensures in
-    condition_err c.args.clause.now (progress_of c.args.blocks.now.items c.args.functions.now.items) _ _ _ f (search rules) (rw tree (if_some (bind_refusal f) _ _ (like_operand c.args.clause.now.database.now c.args.clause.now.scopes.now (place_of c.args.clause.now.place) (progress_of c.args.blocks.now.items c.args.functions.now.items) c.in-Like.negated (expr_of c.in-Like.operand.value) (text_of c.in-Like.pattern)) inner))
-
 -- src/condition.rt:114:17
-pub condition::condition-returns-in-Number : goal.condition::condition-returns-in-Number
-condition::condition-returns-in-Number t c =
-    let tree = ap expr_of c.in-Like.is ∙ of_like c.in-Like.start c.in-Like.negated c.in-Like.operand c.in-Like.pattern in
-    let first : BindsValue c.args.clause.now.database.now c.args.clause.now.scopes.now (place_of c.args.clause.now.place) (progress_of c.args.blocks.now.items c.args.functions.now.items) (progress_of c.value-in-Like.new.blocks.items c.value-in-Like.new.functions.items) (expr_of c.in-Like.operand.value) (value_of c.in_ok-typed-in-Like.typed.value) (NumberType c.in-Number.scale) = rw (c.deref-in-Like.ensures, c.in-Number.is) at c.in_ok-typed-in-Like.ensures in
-    rw tree (like_number c.args.clause.now.database.now c.args.clause.now.scopes.now (place_of c.args.clause.now.place) (progress_of c.args.blocks.now.items c.args.functions.now.items) (progress_of c.value-in-Like.new.blocks.items c.value-in-Like.new.functions.items) c.in-Like.negated (expr_of c.in-Like.operand.value) (text_of c.in-Like.pattern) (value_of c.in_ok-typed-in-Like.typed.value) c.in-Number.scale first)
-
 -- src/condition.rt:129:17
-pub condition::condition-returns-then-len-gt-MAX_MEMBERS :
-    goal.condition::condition-returns-then-len-gt-MAX_MEMBERS
-condition::condition-returns-then-len-gt-MAX_MEMBERS t c =
-    let tree = ap expr_of c.in-InList.is ∙ of_in_list c.in-InList.start c.in-InList.negated c.in-InList.operand c.in-InList.members in
-    let many : 256 < member_count (members (map member_of c.in-InList.members.items)) = (let k = as_many_members c.in-InList.members.items in let l = c.len.ensures in let h = c.if-len-gt-MAX_MEMBERS.true in omega (arith, k, l, h)) in
-    rw tree (many_in_list c.args.clause.now.database.now c.args.clause.now.scopes.now (place_of c.args.clause.now.place) (progress_of c.args.blocks.now.items c.args.functions.now.items) c.in-InList.negated (expr_of c.in-InList.operand.value) (members (map member_of c.in-InList.members.items)) many)
-
 -- src/condition.rt:131:25
-pub condition::condition-returns-in_err-typed-in-InList :
-    goal.condition::condition-returns-in_err-typed-in-InList
-condition::condition-returns-in_err-typed-in-InList t c =
-    let tree = ap expr_of c.in-InList.is ∙ of_in_list c.in-InList.start c.in-InList.negated c.in-InList.operand c.in-InList.members in
-    let f = c.in_err-typed-in-InList.field-0.0 in
-    let inner : IfSome (bind_refusal f) (RefusesValue c.args.clause.now.database.now c.args.clause.now.scopes.now (place_of c.args.clause.now.place) (progress_of c.args.blocks.now.items c.args.functions.now.items) (expr_of c.in-InList.operand.value)) = rw c.deref-in-InList.ensures at c.in_err-typed-in-InList.ensures in
-    condition_err c.args.clause.now (progress_of c.args.blocks.now.items c.args.functions.now.items) _ _ _ f (search rules) (rw tree (if_some (bind_refusal f) _ _ (in_list_operand c.args.clause.now.database.now c.args.clause.now.scopes.now (place_of c.args.clause.now.place) (progress_of c.args.blocks.now.items c.args.functions.now.items) c.in-InList.negated (expr_of c.in-InList.operand.value) (members (map member_of c.in-InList.members.items))) inner))
-
 -- src/condition.rt:132:27
-pub condition::condition-bound_members-requires : goal.condition::condition-bound_members-requires
-condition::condition-bound_members-requires t c =
-    let first : BindsValue c.args.clause.now.database.now c.args.clause.now.scopes.now (place_of c.args.clause.now.place) (progress_of c.args.blocks.now.items c.args.functions.now.items) (progress_of c.value-in-InList.new.blocks.items c.value-in-InList.new.functions.items) (expr_of c.in-InList.operand.value) (value_of c.in_ok-typed-in-InList.typed.value) (value_type_of c.in_ok-typed-in-InList.typed.value_type) = rw c.deref-in-InList.ensures at c.in_ok-typed-in-InList.ensures in
-    let list : IsList c.args.expr.now = (c.in-InList.start, c.in-InList.negated, c.in-InList.operand, c.in-InList.members, c.in-InList.is) in let sight = c.requires.sight in let few = few_items c.value-in-InList.new.blocks.items (few_after c.args.clause.now.database.now c.args.clause.now.scopes.now (place_of c.args.clause.now.place) (progress_of c.args.blocks.now.items c.args.functions.now.items) (progress_of c.value-in-InList.new.blocks.items c.value-in-InList.new.functions.items) _ _ first.adds) in search (rules, the_lemmas, sight, few, list)
-
 -- src/condition.rt:132:27
-pub condition::condition-returns-in_err-members-in-InList :
-    goal.condition::condition-returns-in_err-members-in-InList
-condition::condition-returns-in_err-members-in-InList t c =
-    let tree = ap expr_of c.in-InList.is ∙ of_in_list c.in-InList.start c.in-InList.negated c.in-InList.operand c.in-InList.members in
-    let first : BindsValue c.args.clause.now.database.now c.args.clause.now.scopes.now (place_of c.args.clause.now.place) (progress_of c.args.blocks.now.items c.args.functions.now.items) (progress_of c.value-in-InList.new.blocks.items c.value-in-InList.new.functions.items) (expr_of c.in-InList.operand.value) (value_of c.in_ok-typed-in-InList.typed.value) (value_type_of c.in_ok-typed-in-InList.typed.value_type) = rw c.deref-in-InList.ensures at c.in_ok-typed-in-InList.ensures in
-    let f = c.in_err-members-in-InList.field-0.0 in
-    let inner : IfSome (bind_refusal f) (RefusesMembers c.args.clause.now.database.now c.args.clause.now.scopes.now (place_of c.args.clause.now.place) (progress_of c.value-in-InList.new.blocks.items c.value-in-InList.new.functions.items) (value_type_of c.in_ok-typed-in-InList.typed.value_type) (members (map member_of c.in-InList.members.items))) = rw tree at c.in_err-members-in-InList.ensures in
-    condition_err c.args.clause.now (progress_of c.args.blocks.now.items c.args.functions.now.items) _ _ _ f (search rules) (rw tree (if_some (bind_refusal f) _ _ (λ r x. in_list_members c.args.clause.now.database.now c.args.clause.now.scopes.now (place_of c.args.clause.now.place) (progress_of c.args.blocks.now.items c.args.functions.now.items) (progress_of c.value-in-InList.new.blocks.items c.value-in-InList.new.functions.items) c.in-InList.negated (expr_of c.in-InList.operand.value) (members (map member_of c.in-InList.members.items)) (value_of c.in_ok-typed-in-InList.typed.value) (value_type_of c.in_ok-typed-in-InList.typed.value_type) r first x) inner))
-
 -- src/condition.rt:145:25
-pub condition::condition-returns-in_err-typed-in-InQuery :
-    goal.condition::condition-returns-in_err-typed-in-InQuery
-condition::condition-returns-in_err-typed-in-InQuery t c =
-    let tree = ap expr_of c.in-InQuery.is ∙ of_in_query c.in-InQuery.start c.in-InQuery.negated c.in-InQuery.operand c.in-InQuery.query in
-    let f = c.in_err-typed-in-InQuery.field-0.0 in
-    let inner : IfSome (bind_refusal f) (RefusesValue c.args.clause.now.database.now c.args.clause.now.scopes.now (place_of c.args.clause.now.place) (progress_of c.args.blocks.now.items c.args.functions.now.items) (expr_of c.in-InQuery.operand.value)) = rw c.deref-in-InQuery.ensures at c.in_err-typed-in-InQuery.ensures in
-    condition_err c.args.clause.now (progress_of c.args.blocks.now.items c.args.functions.now.items) _ _ _ f (search rules) (rw tree (if_some (bind_refusal f) _ _ (λ r e. test_operand c.args.clause.now.database.now c.args.clause.now.scopes.now (place_of c.args.clause.now.place) (progress_of c.args.blocks.now.items c.args.functions.now.items) (spec.InQuery c.in-InQuery.negated (expr_of c.in-InQuery.operand.value) (query_of c.in-InQuery.query.value)) (expr_of c.in-InQuery.operand.value) (query_of c.in-InQuery.query.value) (b.InQuery c.in-InQuery.negated) r (in_query c.in-InQuery.negated) e) inner))
-
 -- src/condition.rt:146:39
-pub condition::condition-column_of_query-requires-in-InQuery :
-    goal.condition::condition-column_of_query-requires-in-InQuery
-condition::condition-column_of_query-requires-in-InQuery t c =
-    let first : BindsValue c.args.clause.now.database.now c.args.clause.now.scopes.now (place_of c.args.clause.now.place) (progress_of c.args.blocks.now.items c.args.functions.now.items) (progress_of c.value-in-InQuery.new.blocks.items c.value-in-InQuery.new.functions.items) (expr_of c.in-InQuery.operand.value) (value_of c.in_ok-typed-in-InQuery.typed.value) (value_type_of c.in_ok-typed-in-InQuery.typed.value_type) = rw c.deref-in-InQuery.ensures at c.in_ok-typed-in-InQuery.ensures in
-    let sight = c.requires.sight in let few = few_items c.value-in-InQuery.new.blocks.items (few_after c.args.clause.now.database.now c.args.clause.now.scopes.now (place_of c.args.clause.now.place) (progress_of c.args.blocks.now.items c.args.functions.now.items) (progress_of c.value-in-InQuery.new.blocks.items c.value-in-InQuery.new.functions.items) _ _ first.adds) in search (rules, the_lemmas, sight, few)
-
 -- src/condition.rt:146:39
-pub condition::condition-returns-in_err-block-in-InQuery :
-    goal.condition::condition-returns-in_err-block-in-InQuery
-condition::condition-returns-in_err-block-in-InQuery t c =
-    let tree = ap expr_of c.in-InQuery.is ∙ of_in_query c.in-InQuery.start c.in-InQuery.negated c.in-InQuery.operand c.in-InQuery.query in
-    let first : BindsValue c.args.clause.now.database.now c.args.clause.now.scopes.now (place_of c.args.clause.now.place) (progress_of c.args.blocks.now.items c.args.functions.now.items) (progress_of c.value-in-InQuery.new.blocks.items c.value-in-InQuery.new.functions.items) (expr_of c.in-InQuery.operand.value) (value_of c.in_ok-typed-in-InQuery.typed.value) (value_type_of c.in_ok-typed-in-InQuery.typed.value_type) = rw c.deref-in-InQuery.ensures at c.in_ok-typed-in-InQuery.ensures in
-    let f = c.in_err-block-in-InQuery.field-0.0 in
-    let inner : IfSome (bind_refusal f) (RefusesColumn c.args.clause.now.database.now c.args.clause.now.scopes.now (place_of c.args.clause.now.place) (progress_of c.value-in-InQuery.new.blocks.items c.value-in-InQuery.new.functions.items) (query_of c.in-InQuery.query.value)) = rw c.deref-in-InQuery-2.ensures at (c.in_err-block-in-InQuery.ensures (map bound_function_of c.value-in-InQuery.new.functions.items)) in
-    condition_err c.args.clause.now (progress_of c.args.blocks.now.items c.args.functions.now.items) _ _ _ f (search rules) (rw tree (if_some (bind_refusal f) _ _ (λ r e. test_query c.args.clause.now.database.now c.args.clause.now.scopes.now (place_of c.args.clause.now.place) (progress_of c.args.blocks.now.items c.args.functions.now.items) (progress_of c.value-in-InQuery.new.blocks.items c.value-in-InQuery.new.functions.items) (spec.InQuery c.in-InQuery.negated (expr_of c.in-InQuery.operand.value) (query_of c.in-InQuery.query.value)) (expr_of c.in-InQuery.operand.value) (query_of c.in-InQuery.query.value) (b.InQuery c.in-InQuery.negated) (value_of c.in_ok-typed-in-InQuery.typed.value) (value_type_of c.in_ok-typed-in-InQuery.typed.value_type) r (in_query c.in-InQuery.negated) first e) inner))
-
 -- src/condition.rt:147:13
-pub condition::condition-returns-in_err-judge_kinds-in-InQuery :
-    goal.condition::condition-returns-in_err-judge_kinds-in-InQuery
-condition::condition-returns-in_err-judge_kinds-in-InQuery t c =
-    let tree = ap expr_of c.in-InQuery.is ∙ of_in_query c.in-InQuery.start c.in-InQuery.negated c.in-InQuery.operand c.in-InQuery.query in
-    let first : BindsValue c.args.clause.now.database.now c.args.clause.now.scopes.now (place_of c.args.clause.now.place) (progress_of c.args.blocks.now.items c.args.functions.now.items) (progress_of c.value-in-InQuery.new.blocks.items c.value-in-InQuery.new.functions.items) (expr_of c.in-InQuery.operand.value) (value_of c.in_ok-typed-in-InQuery.typed.value) (value_type_of c.in_ok-typed-in-InQuery.typed.value_type) = rw c.deref-in-InQuery.ensures at c.in_ok-typed-in-InQuery.ensures in
-    let second : BindsColumn c.args.clause.now.database.now c.args.clause.now.scopes.now (place_of c.args.clause.now.place) (progress_of c.value-in-InQuery.new.blocks.items c.value-in-InQuery.new.functions.items) (progress_of c.column_of_query-in-InQuery.new.blocks.items c.value-in-InQuery.new.functions.items) (query_of c.in-InQuery.query.value) c.in_ok-block-in-InQuery.block (value_type_of c.in_ok-block-in-InQuery.value_type) = rw c.deref-in-InQuery-2.ensures at (c.in_ok-block-in-InQuery.ensures (map bound_function_of c.value-in-InQuery.new.functions.items)) in
-    let q = c.in_err-judge_kinds-in-InQuery.field-0.0 in
-    condition_refused c.args.clause.now (progress_of c.args.blocks.now.items c.args.functions.now.items) _ _ _ q MixedKinds (is_refused _ q c.from_residual-in_err-judge_kinds-in-InQuery.ensures) c.in_err-judge_kinds-in-InQuery.ensures.refused
-    (rw tree (test_mixed c.args.clause.now.database.now c.args.clause.now.scopes.now (place_of c.args.clause.now.place) (progress_of c.args.blocks.now.items c.args.functions.now.items) (progress_of c.value-in-InQuery.new.blocks.items c.value-in-InQuery.new.functions.items) (progress_of c.column_of_query-in-InQuery.new.blocks.items c.value-in-InQuery.new.functions.items) (spec.InQuery c.in-InQuery.negated (expr_of c.in-InQuery.operand.value) (query_of c.in-InQuery.query.value)) (expr_of c.in-InQuery.operand.value) (query_of c.in-InQuery.query.value) (b.InQuery c.in-InQuery.negated) (value_of c.in_ok-typed-in-InQuery.typed.value) (value_type_of c.in_ok-typed-in-InQuery.typed.value_type) (value_type_of c.in_ok-block-in-InQuery.value_type) c.in_ok-block-in-InQuery.block (in_query c.in-InQuery.negated) first second c.in_err-judge_kinds-in-InQuery.ensures.apart))
-
 -- src/condition.rt:155:30
-pub condition::condition-returns-in_err-block-in-Exists :
-    goal.condition::condition-returns-in_err-block-in-Exists
-condition::condition-returns-in_err-block-in-Exists t c =
-    let tree = ap expr_of c.in-Exists.is ∙ of_exists c.in-Exists.start c.in-Exists.query in
-    let f = c.in_err-block-in-Exists.field-0.0 in
-    let inner : IfSome (bind_refusal f) (RefusesQuery c.args.clause.now.database.now c.args.clause.now.scopes.now (place_of c.args.clause.now.place) (progress_of c.args.blocks.now.items c.args.functions.now.items) (query_of c.in-Exists.query.value)) = rw c.deref-in-Exists.ensures at (c.in_err-block-in-Exists.ensures (map bound_function_of c.args.functions.now.items)) in
-    condition_err c.args.clause.now (progress_of c.args.blocks.now.items c.args.functions.now.items) _ _ _ f (search rules) (rw tree (if_some (bind_refusal f) _ _ (exists_query c.args.clause.now.database.now c.args.clause.now.scopes.now (place_of c.args.clause.now.place) (progress_of c.args.blocks.now.items c.args.functions.now.items) (query_of c.in-Exists.query.value)) inner))
-
 -- src/condition.rt:25:1
-pub condition::condition-returns-in_ok-new-in-Not :
-    goal.condition::condition-returns-in_ok-new-in-Not
-condition::condition-returns-in_ok-new-in-Not t c =
-    let tree = ap expr_of c.in-Not.is ∙ of_not c.in-Not.start c.in-Not.operand in
-    let operand : BindsCondition c.args.clause.now.database.now c.args.clause.now.scopes.now (place_of c.args.clause.now.place) (progress_of c.args.blocks.now.items c.args.functions.now.items) (progress_of c.condition.new.blocks.items c.condition.new.functions.items) (expr_of c.in-Not.operand.value) (bound_condition_of c.in_ok-operand-in-Not.operand) = rw c.deref-in-Not.ensures at c.in_ok-operand-in-Not.ensures in
-    rw (tree, bound_not c.in_ok-new-in-Not.field-0, c.in_ok-new-in-Not.ensures.ok)
-    (binds_not c.args.clause.now.database.now c.args.clause.now.scopes.now (place_of c.args.clause.now.place) (progress_of c.args.blocks.now.items c.args.functions.now.items) (progress_of c.condition.new.blocks.items c.condition.new.functions.items) (expr_of c.in-Not.operand.value) _ operand)
-
 -- src/condition.rt:25:1
-pub condition::condition-returns-in_ok-judge_kinds-in-Compare :
-    goal.condition::condition-returns-in_ok-judge_kinds-in-Compare
-condition::condition-returns-in_ok-judge_kinds-in-Compare t c =
-    let tree = ap expr_of c.in-Compare.is ∙ of_compare c.in-Compare.start c.in-Compare.op c.in-Compare.left c.in-Compare.other in
-    let first : BindsValue c.args.clause.now.database.now c.args.clause.now.scopes.now (place_of c.args.clause.now.place) (progress_of c.args.blocks.now.items c.args.functions.now.items) (progress_of c.value.new.blocks.items c.value.new.functions.items) (expr_of c.in-Compare.left.value) (value_of c.in_ok-left-in-Compare.left.value) (value_type_of c.in_ok-left-in-Compare.left.value_type) = rw c.deref-in-Compare.ensures at c.in_ok-left-in-Compare.ensures in
-    let second : BindsValue c.args.clause.now.database.now c.args.clause.now.scopes.now (place_of c.args.clause.now.place) (progress_of c.value.new.blocks.items c.value.new.functions.items) (progress_of c.value-in-Compare.new.blocks.items c.value-in-Compare.new.functions.items) (expr_of c.in-Compare.other.value) (value_of c.in_ok-right-in-Compare.right.value) (value_type_of c.in_ok-right-in-Compare.right.value_type) = rw c.deref-in-Compare-2.ensures at c.in_ok-right-in-Compare.ensures in
-    rw (tree, bound_compare c.in-Compare.op c.in_ok-left-in-Compare.left.value c.in_ok-right-in-Compare.right.value)
-    (binds_compare c.args.clause.now.database.now c.args.clause.now.scopes.now (place_of c.args.clause.now.place) (progress_of c.args.blocks.now.items c.args.functions.now.items) (progress_of c.value.new.blocks.items c.value.new.functions.items) (progress_of c.value-in-Compare.new.blocks.items c.value-in-Compare.new.functions.items) (op_of c.in-Compare.op) (expr_of c.in-Compare.left.value) (expr_of c.in-Compare.other.value) _ _ _ _ first second c.in_ok-judge_kinds-in-Compare.ensures.alike)
-
 -- src/condition.rt:25:1
-pub condition::condition-returns-in_ok-judge_kinds-in-CompareAll :
-    goal.condition::condition-returns-in_ok-judge_kinds-in-CompareAll
-condition::condition-returns-in_ok-judge_kinds-in-CompareAll t c =
-    let tree = ap expr_of c.in-CompareAll.is ∙ of_compare_all c.in-CompareAll.start c.in-CompareAll.op c.in-CompareAll.quantifier c.in-CompareAll.left c.in-CompareAll.query in
-    let first : BindsValue c.args.clause.now.database.now c.args.clause.now.scopes.now (place_of c.args.clause.now.place) (progress_of c.args.blocks.now.items c.args.functions.now.items) (progress_of c.value-in-CompareAll.new.blocks.items c.value-in-CompareAll.new.functions.items) (expr_of c.in-CompareAll.left.value) (value_of c.in_ok-left-in-CompareAll.left.value) (value_type_of c.in_ok-left-in-CompareAll.left.value_type) = rw c.deref-in-CompareAll.ensures at c.in_ok-left-in-CompareAll.ensures in
-    let second : BindsColumn c.args.clause.now.database.now c.args.clause.now.scopes.now (place_of c.args.clause.now.place) (progress_of c.value-in-CompareAll.new.blocks.items c.value-in-CompareAll.new.functions.items) (progress_of c.column_of_query.new.blocks.items c.value-in-CompareAll.new.functions.items) (query_of c.in-CompareAll.query.value) c.in_ok-block-in-CompareAll.block (value_type_of c.in_ok-block-in-CompareAll.value_type) = rw c.deref-in-CompareAll-2.ensures at (c.in_ok-block-in-CompareAll.ensures (map bound_function_of c.value-in-CompareAll.new.functions.items)) in
-    rw (tree, bound_quantified c.in-CompareAll.op c.in-CompareAll.quantifier c.in_ok-left-in-CompareAll.left.value c.in_ok-block-in-CompareAll.block)
-    (binds_test c.args.clause.now.database.now c.args.clause.now.scopes.now (place_of c.args.clause.now.place) (progress_of c.args.blocks.now.items c.args.functions.now.items) (progress_of c.value-in-CompareAll.new.blocks.items c.value-in-CompareAll.new.functions.items) (progress_of c.column_of_query.new.blocks.items c.value-in-CompareAll.new.functions.items) (spec.CompareAll (op_of c.in-CompareAll.op) (quantifier_of c.in-CompareAll.quantifier) (expr_of c.in-CompareAll.left.value) (query_of c.in-CompareAll.query.value)) (expr_of c.in-CompareAll.left.value) (query_of c.in-CompareAll.query.value) (b.Quantified (op_of c.in-CompareAll.op) (quantifier_of c.in-CompareAll.quantifier)) (value_of c.in_ok-left-in-CompareAll.left.value) (value_type_of c.in_ok-left-in-CompareAll.left.value_type) (value_type_of c.in_ok-block-in-CompareAll.value_type) c.in_ok-block-in-CompareAll.block (compare_all (op_of c.in-CompareAll.op) (quantifier_of c.in-CompareAll.quantifier)) first second c.in_ok-judge_kinds-in-CompareAll.ensures.alike)
-
 -- src/condition.rt:25:1
-pub condition::condition-returns-in_ok-typed-in-IsNull :
-    goal.condition::condition-returns-in_ok-typed-in-IsNull
-condition::condition-returns-in_ok-typed-in-IsNull t c =
-    let tree = ap expr_of c.in-IsNull.is ∙ of_is_null c.in-IsNull.start c.in-IsNull.negated c.in-IsNull.operand in
-    let first : BindsValue c.args.clause.now.database.now c.args.clause.now.scopes.now (place_of c.args.clause.now.place) (progress_of c.args.blocks.now.items c.args.functions.now.items) (progress_of c.value-in-IsNull.new.blocks.items c.value-in-IsNull.new.functions.items) (expr_of c.in-IsNull.operand.value) (value_of c.in_ok-typed-in-IsNull.typed.value) (value_type_of c.in_ok-typed-in-IsNull.typed.value_type) = rw c.deref-in-IsNull.ensures at c.in_ok-typed-in-IsNull.ensures in
-    rw (tree, bound_is_null c.in-IsNull.negated c.in_ok-typed-in-IsNull.typed.value) (binds_is_null c.args.clause.now.database.now c.args.clause.now.scopes.now (place_of c.args.clause.now.place) (progress_of c.args.blocks.now.items c.args.functions.now.items) (progress_of c.value-in-IsNull.new.blocks.items c.value-in-IsNull.new.functions.items) c.in-IsNull.negated (expr_of c.in-IsNull.operand.value) (value_of c.in_ok-typed-in-IsNull.typed.value) (value_type_of c.in_ok-typed-in-IsNull.typed.value_type) first)
-
 -- src/condition.rt:25:1
-pub condition::condition-returns-in_ok-judge_kinds-in-Between-2 :
-    goal.condition::condition-returns-in_ok-judge_kinds-in-Between-2
-condition::condition-returns-in_ok-judge_kinds-in-Between-2 t c =
-    let tree = ap expr_of c.in-Between.is ∙ of_between c.in-Between.start c.in-Between.negated c.in-Between.operand c.in-Between.least c.in-Between.greatest in
-    let first : BindsValue c.args.clause.now.database.now c.args.clause.now.scopes.now (place_of c.args.clause.now.place) (progress_of c.args.blocks.now.items c.args.functions.now.items) (progress_of c.value-in-Between.new.blocks.items c.value-in-Between.new.functions.items) (expr_of c.in-Between.operand.value) (value_of c.in_ok-typed-in-Between.typed.value) (value_type_of c.in_ok-typed-in-Between.typed.value_type) = rw c.deref-in-Between.ensures at c.in_ok-typed-in-Between.ensures in
-    let second : BindsValue c.args.clause.now.database.now c.args.clause.now.scopes.now (place_of c.args.clause.now.place) (progress_of c.value-in-Between.new.blocks.items c.value-in-Between.new.functions.items) (progress_of c.value-in-Between-2.new.blocks.items c.value-in-Between-2.new.functions.items) (expr_of c.in-Between.least.value) (value_of c.in_ok-low-in-Between.low.value) (value_type_of c.in_ok-low-in-Between.low.value_type) = rw c.deref-in-Between-2.ensures at c.in_ok-low-in-Between.ensures in
-    let third : BindsValue c.args.clause.now.database.now c.args.clause.now.scopes.now (place_of c.args.clause.now.place) (progress_of c.value-in-Between-2.new.blocks.items c.value-in-Between-2.new.functions.items) (progress_of c.value-in-Between-3.new.blocks.items c.value-in-Between-3.new.functions.items) (expr_of c.in-Between.greatest.value) (value_of c.in_ok-high-in-Between.high.value) (value_type_of c.in_ok-high-in-Between.high.value_type) = rw c.deref-in-Between-3.ensures at c.in_ok-high-in-Between.ensures in
-    rw (tree, bound_between c.in-Between.negated c.in_ok-typed-in-Between.typed.value c.in_ok-low-in-Between.low.value c.in_ok-high-in-Between.high.value)
-    (binds_between c.args.clause.now.database.now c.args.clause.now.scopes.now (place_of c.args.clause.now.place) (progress_of c.args.blocks.now.items c.args.functions.now.items) (progress_of c.value-in-Between.new.blocks.items c.value-in-Between.new.functions.items) (progress_of c.value-in-Between-2.new.blocks.items c.value-in-Between-2.new.functions.items) (progress_of c.value-in-Between-3.new.blocks.items c.value-in-Between-3.new.functions.items) c.in-Between.negated (expr_of c.in-Between.operand.value) (expr_of c.in-Between.least.value) (expr_of c.in-Between.greatest.value) (value_of c.in_ok-typed-in-Between.typed.value) (value_of c.in_ok-low-in-Between.low.value) (value_of c.in_ok-high-in-Between.high.value) (value_type_of c.in_ok-typed-in-Between.typed.value_type) (value_type_of c.in_ok-low-in-Between.low.value_type) (value_type_of c.in_ok-high-in-Between.high.value_type) first second third c.in_ok-judge_kinds-in-Between.ensures.alike c.in_ok-judge_kinds-in-Between-2.ensures.alike)
-
 -- src/condition.rt:25:1
-pub condition::condition-returns-in_ok-from_str-in-Like :
-    goal.condition::condition-returns-in_ok-from_str-in-Like
-condition::condition-returns-in_ok-from_str-in-Like t c =
-    let tree = ap expr_of c.in-Like.is ∙ of_like c.in-Like.start c.in-Like.negated c.in-Like.operand c.in-Like.pattern in
-    let first : BindsValue c.args.clause.now.database.now c.args.clause.now.scopes.now (place_of c.args.clause.now.place) (progress_of c.args.blocks.now.items c.args.functions.now.items) (progress_of c.value-in-Like.new.blocks.items c.value-in-Like.new.functions.items) (expr_of c.in-Like.operand.value) (value_of c.in_ok-typed-in-Like.typed.value) (value_type_of c.in_ok-typed-in-Like.typed.value_type) = rw c.deref-in-Like.ensures at c.in_ok-typed-in-Like.ensures in
-    let text : BindsValue c.args.clause.now.database.now c.args.clause.now.scopes.now (place_of c.args.clause.now.place) (progress_of c.args.blocks.now.items c.args.functions.now.items) (progress_of c.value-in-Like.new.blocks.items c.value-in-Like.new.functions.items) (expr_of c.in-Like.operand.value) (value_of c.in_ok-typed-in-Like.typed.value) TextType = rw (is_text c.in_ok-typed-in-Like.typed.value_type c.in_default-value_type.not-Number) at first in
-    rw (tree, bound_like c.in-Like.negated c.in_ok-typed-in-Like.typed.value c.in_ok-from_str-in-Like.field-0, c.in_ok-from_str-in-Like.ensures.ok, c.as_str.ensures.value)
-    (binds_like c.args.clause.now.database.now c.args.clause.now.scopes.now (place_of c.args.clause.now.place) (progress_of c.args.blocks.now.items c.args.functions.now.items) (progress_of c.value-in-Like.new.blocks.items c.value-in-Like.new.functions.items) c.in-Like.negated (expr_of c.in-Like.operand.value) (text_of c.in-Like.pattern) (value_of c.in_ok-typed-in-Like.typed.value) text)
-
 -- src/condition.rt:25:1
-pub condition::condition-returns-in_ok-members-in-InList :
-    goal.condition::condition-returns-in_ok-members-in-InList
-condition::condition-returns-in_ok-members-in-InList t c =
-    let tree = ap expr_of c.in-InList.is ∙ of_in_list c.in-InList.start c.in-InList.negated c.in-InList.operand c.in-InList.members in
-    let first : BindsValue c.args.clause.now.database.now c.args.clause.now.scopes.now (place_of c.args.clause.now.place) (progress_of c.args.blocks.now.items c.args.functions.now.items) (progress_of c.value-in-InList.new.blocks.items c.value-in-InList.new.functions.items) (expr_of c.in-InList.operand.value) (value_of c.in_ok-typed-in-InList.typed.value) (value_type_of c.in_ok-typed-in-InList.typed.value_type) = rw c.deref-in-InList.ensures at c.in_ok-typed-in-InList.ensures in
-    let list : BindsMembers c.args.clause.now.database.now c.args.clause.now.scopes.now (place_of c.args.clause.now.place) (progress_of c.value-in-InList.new.blocks.items c.value-in-InList.new.functions.items) (progress_of c.bound_members.new.blocks.items c.bound_members.new.functions.items) (value_type_of c.in_ok-typed-in-InList.typed.value_type) (members (map member_of c.in-InList.members.items)) (map bound_member_of c.in_ok-members-in-InList.members.items) = rw tree at c.in_ok-members-in-InList.ensures in
-    let few : HasManyMembers (spec.InList c.in-InList.negated (expr_of c.in-InList.operand.value) (members (map member_of c.in-InList.members.items))) → ⊥ = λ m. absurd (let k = as_many_members c.in-InList.members.items in let l = c.len.ensures in let h = c.if-len-gt-MAX_MEMBERS.false in omega (arith, m, k, l, h)) in
-    rw (tree, bound_in_list c.in-InList.negated c.in_ok-typed-in-InList.typed.value c.in_ok-members-in-InList.members)
-    (binds_in_list c.args.clause.now.database.now c.args.clause.now.scopes.now (place_of c.args.clause.now.place) (progress_of c.args.blocks.now.items c.args.functions.now.items) (progress_of c.value-in-InList.new.blocks.items c.value-in-InList.new.functions.items) (progress_of c.bound_members.new.blocks.items c.bound_members.new.functions.items) c.in-InList.negated (expr_of c.in-InList.operand.value) (members (map member_of c.in-InList.members.items)) (value_of c.in_ok-typed-in-InList.typed.value) (value_type_of c.in_ok-typed-in-InList.typed.value_type) _ first list few)
-
 -- src/condition.rt:25:1
-pub condition::condition-returns-in_ok-judge_kinds-in-InQuery :
-    goal.condition::condition-returns-in_ok-judge_kinds-in-InQuery
-condition::condition-returns-in_ok-judge_kinds-in-InQuery t c =
-    let tree = ap expr_of c.in-InQuery.is ∙ of_in_query c.in-InQuery.start c.in-InQuery.negated c.in-InQuery.operand c.in-InQuery.query in
-    let first : BindsValue c.args.clause.now.database.now c.args.clause.now.scopes.now (place_of c.args.clause.now.place) (progress_of c.args.blocks.now.items c.args.functions.now.items) (progress_of c.value-in-InQuery.new.blocks.items c.value-in-InQuery.new.functions.items) (expr_of c.in-InQuery.operand.value) (value_of c.in_ok-typed-in-InQuery.typed.value) (value_type_of c.in_ok-typed-in-InQuery.typed.value_type) = rw c.deref-in-InQuery.ensures at c.in_ok-typed-in-InQuery.ensures in
-    let second : BindsColumn c.args.clause.now.database.now c.args.clause.now.scopes.now (place_of c.args.clause.now.place) (progress_of c.value-in-InQuery.new.blocks.items c.value-in-InQuery.new.functions.items) (progress_of c.column_of_query-in-InQuery.new.blocks.items c.value-in-InQuery.new.functions.items) (query_of c.in-InQuery.query.value) c.in_ok-block-in-InQuery.block (value_type_of c.in_ok-block-in-InQuery.value_type) = rw c.deref-in-InQuery-2.ensures at (c.in_ok-block-in-InQuery.ensures (map bound_function_of c.value-in-InQuery.new.functions.items)) in
-    rw (tree, bound_in_query c.in-InQuery.negated c.in_ok-typed-in-InQuery.typed.value c.in_ok-block-in-InQuery.block)
-    (binds_test c.args.clause.now.database.now c.args.clause.now.scopes.now (place_of c.args.clause.now.place) (progress_of c.args.blocks.now.items c.args.functions.now.items) (progress_of c.value-in-InQuery.new.blocks.items c.value-in-InQuery.new.functions.items) (progress_of c.column_of_query-in-InQuery.new.blocks.items c.value-in-InQuery.new.functions.items) (spec.InQuery c.in-InQuery.negated (expr_of c.in-InQuery.operand.value) (query_of c.in-InQuery.query.value)) (expr_of c.in-InQuery.operand.value) (query_of c.in-InQuery.query.value) (b.InQuery c.in-InQuery.negated) (value_of c.in_ok-typed-in-InQuery.typed.value) (value_type_of c.in_ok-typed-in-InQuery.typed.value_type) (value_type_of c.in_ok-block-in-InQuery.value_type) c.in_ok-block-in-InQuery.block (in_query c.in-InQuery.negated) first second c.in_ok-judge_kinds-in-InQuery.ensures.alike)
-
 -- src/condition.rt:25:1
-pub condition::condition-returns-in_ok-block-in-Exists :
-    goal.condition::condition-returns-in_ok-block-in-Exists
-condition::condition-returns-in_ok-block-in-Exists t c =
-    let tree = ap expr_of c.in-Exists.is ∙ of_exists c.in-Exists.start c.in-Exists.query in
-    let query : BindsQuery c.args.clause.now.database.now c.args.clause.now.scopes.now (place_of c.args.clause.now.place) (progress_of c.args.blocks.now.items c.args.functions.now.items) (progress_of c.inner_block.new.blocks.items c.args.functions.now.items) (query_of c.in-Exists.query.value) c.in_ok-block-in-Exists.block (option_map value_type_of c.in_ok-block-in-Exists.field-0-1) = rw c.deref-in-Exists.ensures at (c.in_ok-block-in-Exists.ensures (map bound_function_of c.args.functions.now.items)) in
-    rw (tree, bound_exists c.in_ok-block-in-Exists.block) (binds_exists c.args.clause.now.database.now c.args.clause.now.scopes.now (place_of c.args.clause.now.place) (progress_of c.args.blocks.now.items c.args.functions.now.items) (progress_of c.inner_block.new.blocks.items c.args.functions.now.items) (query_of c.in-Exists.query.value) c.in_ok-block-in-Exists.block _ query)
-
 -- src/condition.rt:245:24
 pub condition::inner_block-returns-in_err-only-in-Where :
     goal.condition::inner_block-returns-in_err-only-in-Where
@@ -937,3 +634,297 @@ condition::logical-returns-in_default-operator t c =
     let whole = binds_logical c.args.clause.now.database.now c.args.clause.now.scopes.now (place_of c.args.clause.now.place) (progress_of c.args.blocks.now.items c.args.functions.now.items) (progress_of c.condition.new.blocks.items c.condition.new.functions.items) (progress_of c.operands.blocks.items c.operands.functions.items) (expr_of c.in-Line.first.value) (operands (map operand_of c.deref-operand-items.result.now)) (bound_condition_of c.in_ok-condition.field-0) c.operands.invariant.0 kind h (end_parts c.args.clause.now.database.now c.args.clause.now.scopes.now (place_of c.args.clause.now.place) (progress_of c.condition.new.blocks.items c.condition.new.functions.items) (operands (map operand_of c.deref-operand-items.result.now)) (progress_of c.operands.blocks.items c.operands.functions.items) c.operands.invariant.0 left) in
     let joined : connected (operands (map operand_of c.deref-operand-items.result.now)) (b.Part (bound_condition_of c.in_ok-condition.field-0) (conditions c.operands.invariant.0)) ≡ b.Or (b.Part (bound_condition_of c.in_ok-condition.field-0) (conditions c.operands.invariant.0)) = rw c.deref-operand-items.ensures.value (connected_or c.in-Line.others.items c.index.result.now (b.Part (bound_condition_of c.in_ok-condition.field-0) (conditions c.operands.invariant.0)) (search rules) (others_there c.in-Line.others.items (line_is c.args.line.now true c.in-Line.first c.in-Line.others c.requires.logical c.in-Line.is)) c.in_default-operator.not-And) in
     rw (tree, bound_or c.operands.parts, are) (subst (BindsCondition c.args.clause.now.database.now c.args.clause.now.scopes.now (place_of c.args.clause.now.place) (progress_of c.args.blocks.now.items c.args.functions.now.items) (progress_of c.operands.blocks.items c.operands.functions.items) (spec.Line (expr_of c.in-Line.first.value) (operands (map operand_of c.deref-operand-items.result.now)))) joined whole)
+
+pub condition::negation-returns-in_err-operand :
+    goal.condition::negation-returns-in_err-operand
+condition::negation-returns-in_err-operand t c =
+    let f = c.in_err-operand.field-0.0 in
+    let inner : IfSome (bind_refusal f) (RefusesCondition c.args.clause.now.database.now c.args.clause.now.scopes.now (place_of c.args.clause.now.place) (progress_of c.args.blocks.now.items c.args.functions.now.items) (expr_of c.args.operand.now)) = c.in_err-operand.ensures in
+    condition_err c.args.clause.now (progress_of c.args.blocks.now.items c.args.functions.now.items) _ _ _ f (search rules) ((if_some (bind_refusal f) _ _ (not_operand c.args.clause.now.database.now c.args.clause.now.scopes.now (place_of c.args.clause.now.place) (progress_of c.args.blocks.now.items c.args.functions.now.items) (expr_of c.args.operand.now)) inner))
+
+pub condition::negation-returns :
+    goal.condition::negation-returns
+condition::negation-returns t c =
+    let operand : BindsCondition c.args.clause.now.database.now c.args.clause.now.scopes.now (place_of c.args.clause.now.place) (progress_of c.args.blocks.now.items c.args.functions.now.items) (progress_of c.condition.new.blocks.items c.condition.new.functions.items) (expr_of c.args.operand.now) (bound_condition_of c.in_ok-operand.operand) = c.in_ok-operand.ensures in
+    rw (bound_not c.in_ok-new.field-0, c.in_ok-new.ensures.ok)
+    (binds_not c.args.clause.now.database.now c.args.clause.now.scopes.now (place_of c.args.clause.now.place) (progress_of c.args.blocks.now.items c.args.functions.now.items) (progress_of c.condition.new.blocks.items c.condition.new.functions.items) (expr_of c.args.operand.now) _ operand)
+
+pub condition::comparison-returns-in_err-left :
+    goal.condition::comparison-returns-in_err-left
+condition::comparison-returns-in_err-left t c =
+    let tree = ap expr_of c.in-Compare.is ∙ of_compare c.in-Compare.start c.in-Compare.op c.in-Compare.left c.in-Compare.other in
+    let f = c.in_err-left.field-0.0 in
+    let inner : IfSome (bind_refusal f) (RefusesValue c.args.clause.now.database.now c.args.clause.now.scopes.now (place_of c.args.clause.now.place) (progress_of c.args.blocks.now.items c.args.functions.now.items) (expr_of c.in-Compare.left.value)) = rw c.deref.ensures at c.in_err-left.ensures in
+    condition_err c.args.clause.now (progress_of c.args.blocks.now.items c.args.functions.now.items) _ _ _ f (search rules) (rw tree (if_some (bind_refusal f) _ _ (compare_left c.args.clause.now.database.now c.args.clause.now.scopes.now (place_of c.args.clause.now.place) (progress_of c.args.blocks.now.items c.args.functions.now.items) (op_of c.in-Compare.op) (expr_of c.in-Compare.left.value) (expr_of c.in-Compare.other.value)) inner))
+
+pub condition::comparison-value-requires-2 :
+    goal.condition::comparison-value-requires-2
+condition::comparison-value-requires-2 t c =
+    let first : BindsValue c.args.clause.now.database.now c.args.clause.now.scopes.now (place_of c.args.clause.now.place) (progress_of c.args.blocks.now.items c.args.functions.now.items) (progress_of c.value.new.blocks.items c.value.new.functions.items) (expr_of c.in-Compare.left.value) (value_of c.in_ok-left.left.value) (value_type_of c.in_ok-left.left.value_type) = rw c.deref.ensures at c.in_ok-left.ensures in
+    let sight = c.requires.sight in let few = few_items c.value.new.blocks.items (few_after c.args.clause.now.database.now c.args.clause.now.scopes.now (place_of c.args.clause.now.place) (progress_of c.args.blocks.now.items c.args.functions.now.items) (progress_of c.value.new.blocks.items c.value.new.functions.items) _ _ first.adds) in search (rules, the_lemmas, sight, few)
+
+pub condition::comparison-returns-in_err-right :
+    goal.condition::comparison-returns-in_err-right
+condition::comparison-returns-in_err-right t c =
+    let tree = ap expr_of c.in-Compare.is ∙ of_compare c.in-Compare.start c.in-Compare.op c.in-Compare.left c.in-Compare.other in
+    let first : BindsValue c.args.clause.now.database.now c.args.clause.now.scopes.now (place_of c.args.clause.now.place) (progress_of c.args.blocks.now.items c.args.functions.now.items) (progress_of c.value.new.blocks.items c.value.new.functions.items) (expr_of c.in-Compare.left.value) (value_of c.in_ok-left.left.value) (value_type_of c.in_ok-left.left.value_type) = rw c.deref.ensures at c.in_ok-left.ensures in
+    let f = c.in_err-right.field-0.0 in
+    let inner : IfSome (bind_refusal f) (RefusesValue c.args.clause.now.database.now c.args.clause.now.scopes.now (place_of c.args.clause.now.place) (progress_of c.value.new.blocks.items c.value.new.functions.items) (expr_of c.in-Compare.other.value)) = rw c.deref-2.ensures at c.in_err-right.ensures in
+    condition_err c.args.clause.now (progress_of c.args.blocks.now.items c.args.functions.now.items) _ _ _ f (search rules) (rw tree (if_some (bind_refusal f) _ _ (λ r e. compare_right c.args.clause.now.database.now c.args.clause.now.scopes.now (place_of c.args.clause.now.place) (progress_of c.args.blocks.now.items c.args.functions.now.items) (progress_of c.value.new.blocks.items c.value.new.functions.items) (op_of c.in-Compare.op) (expr_of c.in-Compare.left.value) (expr_of c.in-Compare.other.value) (value_of c.in_ok-left.left.value) (value_type_of c.in_ok-left.left.value_type) r first e) inner))
+
+pub condition::comparison-returns-in_err-judge_kinds :
+    goal.condition::comparison-returns-in_err-judge_kinds
+condition::comparison-returns-in_err-judge_kinds t c =
+    let tree = ap expr_of c.in-Compare.is ∙ of_compare c.in-Compare.start c.in-Compare.op c.in-Compare.left c.in-Compare.other in
+    let first : BindsValue c.args.clause.now.database.now c.args.clause.now.scopes.now (place_of c.args.clause.now.place) (progress_of c.args.blocks.now.items c.args.functions.now.items) (progress_of c.value.new.blocks.items c.value.new.functions.items) (expr_of c.in-Compare.left.value) (value_of c.in_ok-left.left.value) (value_type_of c.in_ok-left.left.value_type) = rw c.deref.ensures at c.in_ok-left.ensures in
+    let second : BindsValue c.args.clause.now.database.now c.args.clause.now.scopes.now (place_of c.args.clause.now.place) (progress_of c.value.new.blocks.items c.value.new.functions.items) (progress_of c.value-2.new.blocks.items c.value-2.new.functions.items) (expr_of c.in-Compare.other.value) (value_of c.in_ok-right.right.value) (value_type_of c.in_ok-right.right.value_type) = rw c.deref-2.ensures at c.in_ok-right.ensures in
+    let q = c.in_err-judge_kinds.field-0.0 in
+    condition_refused c.args.clause.now (progress_of c.args.blocks.now.items c.args.functions.now.items) _ _ _ q MixedKinds (is_refused _ q c.from_residual-in_err-judge_kinds.ensures) c.in_err-judge_kinds.ensures.refused
+    (rw tree (compare_mixed c.args.clause.now.database.now c.args.clause.now.scopes.now (place_of c.args.clause.now.place) (progress_of c.args.blocks.now.items c.args.functions.now.items) (progress_of c.value.new.blocks.items c.value.new.functions.items) (progress_of c.value-2.new.blocks.items c.value-2.new.functions.items) (op_of c.in-Compare.op) (expr_of c.in-Compare.left.value) (expr_of c.in-Compare.other.value) (value_of c.in_ok-left.left.value) (value_of c.in_ok-right.right.value) (value_type_of c.in_ok-left.left.value_type) (value_type_of c.in_ok-right.right.value_type) first second c.in_err-judge_kinds.ensures.apart))
+
+pub condition::comparison-returns :
+    goal.condition::comparison-returns
+condition::comparison-returns t c =
+    let tree = ap expr_of c.in-Compare.is ∙ of_compare c.in-Compare.start c.in-Compare.op c.in-Compare.left c.in-Compare.other in
+    let first : BindsValue c.args.clause.now.database.now c.args.clause.now.scopes.now (place_of c.args.clause.now.place) (progress_of c.args.blocks.now.items c.args.functions.now.items) (progress_of c.value.new.blocks.items c.value.new.functions.items) (expr_of c.in-Compare.left.value) (value_of c.in_ok-left.left.value) (value_type_of c.in_ok-left.left.value_type) = rw c.deref.ensures at c.in_ok-left.ensures in
+    let second : BindsValue c.args.clause.now.database.now c.args.clause.now.scopes.now (place_of c.args.clause.now.place) (progress_of c.value.new.blocks.items c.value.new.functions.items) (progress_of c.value-2.new.blocks.items c.value-2.new.functions.items) (expr_of c.in-Compare.other.value) (value_of c.in_ok-right.right.value) (value_type_of c.in_ok-right.right.value_type) = rw c.deref-2.ensures at c.in_ok-right.ensures in
+    rw (tree, bound_compare c.in-Compare.op c.in_ok-left.left.value c.in_ok-right.right.value)
+    (binds_compare c.args.clause.now.database.now c.args.clause.now.scopes.now (place_of c.args.clause.now.place) (progress_of c.args.blocks.now.items c.args.functions.now.items) (progress_of c.value.new.blocks.items c.value.new.functions.items) (progress_of c.value-2.new.blocks.items c.value-2.new.functions.items) (op_of c.in-Compare.op) (expr_of c.in-Compare.left.value) (expr_of c.in-Compare.other.value) _ _ _ _ first second c.in_ok-judge_kinds.ensures.alike)
+
+pub condition::quantified_comparison-returns-in_err-left :
+    goal.condition::quantified_comparison-returns-in_err-left
+condition::quantified_comparison-returns-in_err-left t c =
+    let tree = ap expr_of c.in-CompareAll.is ∙ of_compare_all c.in-CompareAll.start c.in-CompareAll.op c.in-CompareAll.quantifier c.in-CompareAll.left c.in-CompareAll.query in
+    let f = c.in_err-left.field-0.0 in
+    let inner : IfSome (bind_refusal f) (RefusesValue c.args.clause.now.database.now c.args.clause.now.scopes.now (place_of c.args.clause.now.place) (progress_of c.args.blocks.now.items c.args.functions.now.items) (expr_of c.in-CompareAll.left.value)) = rw c.deref.ensures at c.in_err-left.ensures in
+    condition_err c.args.clause.now (progress_of c.args.blocks.now.items c.args.functions.now.items) _ _ _ f (search rules) (rw tree (if_some (bind_refusal f) _ _ (λ r e. test_operand c.args.clause.now.database.now c.args.clause.now.scopes.now (place_of c.args.clause.now.place) (progress_of c.args.blocks.now.items c.args.functions.now.items) (spec.CompareAll (op_of c.in-CompareAll.op) (quantifier_of c.in-CompareAll.quantifier) (expr_of c.in-CompareAll.left.value) (query_of c.in-CompareAll.query.value)) (expr_of c.in-CompareAll.left.value) (query_of c.in-CompareAll.query.value) (b.Quantified (op_of c.in-CompareAll.op) (quantifier_of c.in-CompareAll.quantifier)) r (compare_all (op_of c.in-CompareAll.op) (quantifier_of c.in-CompareAll.quantifier)) e) inner))
+
+pub condition::quantified_comparison-column_of_query-requires :
+    goal.condition::quantified_comparison-column_of_query-requires
+condition::quantified_comparison-column_of_query-requires t c =
+    let first : BindsValue c.args.clause.now.database.now c.args.clause.now.scopes.now (place_of c.args.clause.now.place) (progress_of c.args.blocks.now.items c.args.functions.now.items) (progress_of c.value.new.blocks.items c.value.new.functions.items) (expr_of c.in-CompareAll.left.value) (value_of c.in_ok-left.left.value) (value_type_of c.in_ok-left.left.value_type) = rw c.deref.ensures at c.in_ok-left.ensures in
+    let sight = c.requires.sight in let few = few_items c.value.new.blocks.items (few_after c.args.clause.now.database.now c.args.clause.now.scopes.now (place_of c.args.clause.now.place) (progress_of c.args.blocks.now.items c.args.functions.now.items) (progress_of c.value.new.blocks.items c.value.new.functions.items) _ _ first.adds) in search (rules, the_lemmas, sight, few)
+
+pub condition::quantified_comparison-returns-in_err-block :
+    goal.condition::quantified_comparison-returns-in_err-block
+condition::quantified_comparison-returns-in_err-block t c =
+    let tree = ap expr_of c.in-CompareAll.is ∙ of_compare_all c.in-CompareAll.start c.in-CompareAll.op c.in-CompareAll.quantifier c.in-CompareAll.left c.in-CompareAll.query in
+    let first : BindsValue c.args.clause.now.database.now c.args.clause.now.scopes.now (place_of c.args.clause.now.place) (progress_of c.args.blocks.now.items c.args.functions.now.items) (progress_of c.value.new.blocks.items c.value.new.functions.items) (expr_of c.in-CompareAll.left.value) (value_of c.in_ok-left.left.value) (value_type_of c.in_ok-left.left.value_type) = rw c.deref.ensures at c.in_ok-left.ensures in
+    let f = c.in_err-block.field-0.0 in
+    let inner : IfSome (bind_refusal f) (RefusesColumn c.args.clause.now.database.now c.args.clause.now.scopes.now (place_of c.args.clause.now.place) (progress_of c.value.new.blocks.items c.value.new.functions.items) (query_of c.in-CompareAll.query.value)) = rw c.deref-2.ensures at (c.in_err-block.ensures (map bound_function_of c.value.new.functions.items)) in
+    condition_err c.args.clause.now (progress_of c.args.blocks.now.items c.args.functions.now.items) _ _ _ f (search rules) (rw tree (if_some (bind_refusal f) _ _ (λ r e. test_query c.args.clause.now.database.now c.args.clause.now.scopes.now (place_of c.args.clause.now.place) (progress_of c.args.blocks.now.items c.args.functions.now.items) (progress_of c.value.new.blocks.items c.value.new.functions.items) (spec.CompareAll (op_of c.in-CompareAll.op) (quantifier_of c.in-CompareAll.quantifier) (expr_of c.in-CompareAll.left.value) (query_of c.in-CompareAll.query.value)) (expr_of c.in-CompareAll.left.value) (query_of c.in-CompareAll.query.value) (b.Quantified (op_of c.in-CompareAll.op) (quantifier_of c.in-CompareAll.quantifier)) (value_of c.in_ok-left.left.value) (value_type_of c.in_ok-left.left.value_type) r (compare_all (op_of c.in-CompareAll.op) (quantifier_of c.in-CompareAll.quantifier)) first e) inner))
+
+pub condition::quantified_comparison-returns-in_err-judge_kinds :
+    goal.condition::quantified_comparison-returns-in_err-judge_kinds
+condition::quantified_comparison-returns-in_err-judge_kinds t c =
+    let tree = ap expr_of c.in-CompareAll.is ∙ of_compare_all c.in-CompareAll.start c.in-CompareAll.op c.in-CompareAll.quantifier c.in-CompareAll.left c.in-CompareAll.query in
+    let first : BindsValue c.args.clause.now.database.now c.args.clause.now.scopes.now (place_of c.args.clause.now.place) (progress_of c.args.blocks.now.items c.args.functions.now.items) (progress_of c.value.new.blocks.items c.value.new.functions.items) (expr_of c.in-CompareAll.left.value) (value_of c.in_ok-left.left.value) (value_type_of c.in_ok-left.left.value_type) = rw c.deref.ensures at c.in_ok-left.ensures in
+    let second : BindsColumn c.args.clause.now.database.now c.args.clause.now.scopes.now (place_of c.args.clause.now.place) (progress_of c.value.new.blocks.items c.value.new.functions.items) (progress_of c.column_of_query.new.blocks.items c.value.new.functions.items) (query_of c.in-CompareAll.query.value) c.in_ok-block.block (value_type_of c.in_ok-block.value_type) = rw c.deref-2.ensures at (c.in_ok-block.ensures (map bound_function_of c.value.new.functions.items)) in
+    let q = c.in_err-judge_kinds.field-0.0 in
+    condition_refused c.args.clause.now (progress_of c.args.blocks.now.items c.args.functions.now.items) _ _ _ q MixedKinds (is_refused _ q c.from_residual-in_err-judge_kinds.ensures) c.in_err-judge_kinds.ensures.refused
+    (rw tree (test_mixed c.args.clause.now.database.now c.args.clause.now.scopes.now (place_of c.args.clause.now.place) (progress_of c.args.blocks.now.items c.args.functions.now.items) (progress_of c.value.new.blocks.items c.value.new.functions.items) (progress_of c.column_of_query.new.blocks.items c.value.new.functions.items) (spec.CompareAll (op_of c.in-CompareAll.op) (quantifier_of c.in-CompareAll.quantifier) (expr_of c.in-CompareAll.left.value) (query_of c.in-CompareAll.query.value)) (expr_of c.in-CompareAll.left.value) (query_of c.in-CompareAll.query.value) (b.Quantified (op_of c.in-CompareAll.op) (quantifier_of c.in-CompareAll.quantifier)) (value_of c.in_ok-left.left.value) (value_type_of c.in_ok-left.left.value_type) (value_type_of c.in_ok-block.value_type) c.in_ok-block.block (compare_all (op_of c.in-CompareAll.op) (quantifier_of c.in-CompareAll.quantifier)) first second c.in_err-judge_kinds.ensures.apart))
+
+pub condition::quantified_comparison-returns :
+    goal.condition::quantified_comparison-returns
+condition::quantified_comparison-returns t c =
+    let tree = ap expr_of c.in-CompareAll.is ∙ of_compare_all c.in-CompareAll.start c.in-CompareAll.op c.in-CompareAll.quantifier c.in-CompareAll.left c.in-CompareAll.query in
+    let first : BindsValue c.args.clause.now.database.now c.args.clause.now.scopes.now (place_of c.args.clause.now.place) (progress_of c.args.blocks.now.items c.args.functions.now.items) (progress_of c.value.new.blocks.items c.value.new.functions.items) (expr_of c.in-CompareAll.left.value) (value_of c.in_ok-left.left.value) (value_type_of c.in_ok-left.left.value_type) = rw c.deref.ensures at c.in_ok-left.ensures in
+    let second : BindsColumn c.args.clause.now.database.now c.args.clause.now.scopes.now (place_of c.args.clause.now.place) (progress_of c.value.new.blocks.items c.value.new.functions.items) (progress_of c.column_of_query.new.blocks.items c.value.new.functions.items) (query_of c.in-CompareAll.query.value) c.in_ok-block.block (value_type_of c.in_ok-block.value_type) = rw c.deref-2.ensures at (c.in_ok-block.ensures (map bound_function_of c.value.new.functions.items)) in
+    rw (tree, bound_quantified c.in-CompareAll.op c.in-CompareAll.quantifier c.in_ok-left.left.value c.in_ok-block.block)
+    (binds_test c.args.clause.now.database.now c.args.clause.now.scopes.now (place_of c.args.clause.now.place) (progress_of c.args.blocks.now.items c.args.functions.now.items) (progress_of c.value.new.blocks.items c.value.new.functions.items) (progress_of c.column_of_query.new.blocks.items c.value.new.functions.items) (spec.CompareAll (op_of c.in-CompareAll.op) (quantifier_of c.in-CompareAll.quantifier) (expr_of c.in-CompareAll.left.value) (query_of c.in-CompareAll.query.value)) (expr_of c.in-CompareAll.left.value) (query_of c.in-CompareAll.query.value) (b.Quantified (op_of c.in-CompareAll.op) (quantifier_of c.in-CompareAll.quantifier)) (value_of c.in_ok-left.left.value) (value_type_of c.in_ok-left.left.value_type) (value_type_of c.in_ok-block.value_type) c.in_ok-block.block (compare_all (op_of c.in-CompareAll.op) (quantifier_of c.in-CompareAll.quantifier)) first second c.in_ok-judge_kinds.ensures.alike)
+
+pub condition::null_test-returns-in_err-typed :
+    goal.condition::null_test-returns-in_err-typed
+condition::null_test-returns-in_err-typed t c =
+    let f = c.in_err-typed.field-0.0 in
+    let inner : IfSome (bind_refusal f) (RefusesValue c.args.clause.now.database.now c.args.clause.now.scopes.now (place_of c.args.clause.now.place) (progress_of c.args.blocks.now.items c.args.functions.now.items) (expr_of c.args.operand.now)) = c.in_err-typed.ensures in
+    condition_err c.args.clause.now (progress_of c.args.blocks.now.items c.args.functions.now.items) _ _ _ f (search rules) ((if_some (bind_refusal f) _ _ (is_null_operand c.args.clause.now.database.now c.args.clause.now.scopes.now (place_of c.args.clause.now.place) (progress_of c.args.blocks.now.items c.args.functions.now.items) c.args.negated (expr_of c.args.operand.now)) inner))
+
+pub condition::null_test-returns :
+    goal.condition::null_test-returns
+condition::null_test-returns t c =
+    let first : BindsValue c.args.clause.now.database.now c.args.clause.now.scopes.now (place_of c.args.clause.now.place) (progress_of c.args.blocks.now.items c.args.functions.now.items) (progress_of c.value.new.blocks.items c.value.new.functions.items) (expr_of c.args.operand.now) (value_of c.in_ok-typed.typed.value) (value_type_of c.in_ok-typed.typed.value_type) = c.in_ok-typed.ensures in
+    rw (bound_is_null c.args.negated c.in_ok-typed.typed.value) (binds_is_null c.args.clause.now.database.now c.args.clause.now.scopes.now (place_of c.args.clause.now.place) (progress_of c.args.blocks.now.items c.args.functions.now.items) (progress_of c.value.new.blocks.items c.value.new.functions.items) c.args.negated (expr_of c.args.operand.now) (value_of c.in_ok-typed.typed.value) (value_type_of c.in_ok-typed.typed.value_type) first)
+
+pub condition::between-returns-in_err-typed :
+    goal.condition::between-returns-in_err-typed
+condition::between-returns-in_err-typed t c =
+    let tree = ap expr_of c.in-Between.is ∙ of_between c.in-Between.start c.in-Between.negated c.in-Between.operand c.in-Between.least c.in-Between.greatest in
+    let f = c.in_err-typed.field-0.0 in
+    let inner : IfSome (bind_refusal f) (RefusesValue c.args.clause.now.database.now c.args.clause.now.scopes.now (place_of c.args.clause.now.place) (progress_of c.args.blocks.now.items c.args.functions.now.items) (expr_of c.in-Between.operand.value)) = rw c.deref.ensures at c.in_err-typed.ensures in
+    condition_err c.args.clause.now (progress_of c.args.blocks.now.items c.args.functions.now.items) _ _ _ f (search rules) (rw tree (if_some (bind_refusal f) _ _ (between_operand c.args.clause.now.database.now c.args.clause.now.scopes.now (place_of c.args.clause.now.place) (progress_of c.args.blocks.now.items c.args.functions.now.items) c.in-Between.negated (expr_of c.in-Between.operand.value) (expr_of c.in-Between.least.value) (expr_of c.in-Between.greatest.value)) inner))
+
+pub condition::between-value-requires-2 :
+    goal.condition::between-value-requires-2
+condition::between-value-requires-2 t c =
+    let first : BindsValue c.args.clause.now.database.now c.args.clause.now.scopes.now (place_of c.args.clause.now.place) (progress_of c.args.blocks.now.items c.args.functions.now.items) (progress_of c.value.new.blocks.items c.value.new.functions.items) (expr_of c.in-Between.operand.value) (value_of c.in_ok-typed.typed.value) (value_type_of c.in_ok-typed.typed.value_type) = rw c.deref.ensures at c.in_ok-typed.ensures in
+    let sight = c.requires.sight in let few = few_items c.value.new.blocks.items (few_after c.args.clause.now.database.now c.args.clause.now.scopes.now (place_of c.args.clause.now.place) (progress_of c.args.blocks.now.items c.args.functions.now.items) (progress_of c.value.new.blocks.items c.value.new.functions.items) _ _ first.adds) in search (rules, the_lemmas, sight, few)
+
+pub condition::between-returns-in_err-low :
+    goal.condition::between-returns-in_err-low
+condition::between-returns-in_err-low t c =
+    let tree = ap expr_of c.in-Between.is ∙ of_between c.in-Between.start c.in-Between.negated c.in-Between.operand c.in-Between.least c.in-Between.greatest in
+    let first : BindsValue c.args.clause.now.database.now c.args.clause.now.scopes.now (place_of c.args.clause.now.place) (progress_of c.args.blocks.now.items c.args.functions.now.items) (progress_of c.value.new.blocks.items c.value.new.functions.items) (expr_of c.in-Between.operand.value) (value_of c.in_ok-typed.typed.value) (value_type_of c.in_ok-typed.typed.value_type) = rw c.deref.ensures at c.in_ok-typed.ensures in
+    let f = c.in_err-low.field-0.0 in
+    let inner : IfSome (bind_refusal f) (RefusesValue c.args.clause.now.database.now c.args.clause.now.scopes.now (place_of c.args.clause.now.place) (progress_of c.value.new.blocks.items c.value.new.functions.items) (expr_of c.in-Between.least.value)) = rw c.deref-2.ensures at c.in_err-low.ensures in
+    condition_err c.args.clause.now (progress_of c.args.blocks.now.items c.args.functions.now.items) _ _ _ f (search rules) (rw tree (if_some (bind_refusal f) _ _ (λ r x. between_low c.args.clause.now.database.now c.args.clause.now.scopes.now (place_of c.args.clause.now.place) (progress_of c.args.blocks.now.items c.args.functions.now.items) (progress_of c.value.new.blocks.items c.value.new.functions.items) c.in-Between.negated (expr_of c.in-Between.operand.value) (expr_of c.in-Between.least.value) (expr_of c.in-Between.greatest.value) (value_of c.in_ok-typed.typed.value) (value_type_of c.in_ok-typed.typed.value_type) r first x) inner))
+
+pub condition::between-value-requires-3 :
+    goal.condition::between-value-requires-3
+condition::between-value-requires-3 t c =
+    let second : BindsValue c.args.clause.now.database.now c.args.clause.now.scopes.now (place_of c.args.clause.now.place) (progress_of c.value.new.blocks.items c.value.new.functions.items) (progress_of c.value-2.new.blocks.items c.value-2.new.functions.items) (expr_of c.in-Between.least.value) (value_of c.in_ok-low.low.value) (value_type_of c.in_ok-low.low.value_type) = rw c.deref-2.ensures at c.in_ok-low.ensures in
+    let sight = c.requires.sight in let few = few_items c.value-2.new.blocks.items (few_after c.args.clause.now.database.now c.args.clause.now.scopes.now (place_of c.args.clause.now.place) (progress_of c.value.new.blocks.items c.value.new.functions.items) (progress_of c.value-2.new.blocks.items c.value-2.new.functions.items) _ _ second.adds) in search (rules, the_lemmas, sight, few)
+
+pub condition::between-returns-in_err-high :
+    goal.condition::between-returns-in_err-high
+condition::between-returns-in_err-high t c =
+    let tree = ap expr_of c.in-Between.is ∙ of_between c.in-Between.start c.in-Between.negated c.in-Between.operand c.in-Between.least c.in-Between.greatest in
+    let first : BindsValue c.args.clause.now.database.now c.args.clause.now.scopes.now (place_of c.args.clause.now.place) (progress_of c.args.blocks.now.items c.args.functions.now.items) (progress_of c.value.new.blocks.items c.value.new.functions.items) (expr_of c.in-Between.operand.value) (value_of c.in_ok-typed.typed.value) (value_type_of c.in_ok-typed.typed.value_type) = rw c.deref.ensures at c.in_ok-typed.ensures in
+    let second : BindsValue c.args.clause.now.database.now c.args.clause.now.scopes.now (place_of c.args.clause.now.place) (progress_of c.value.new.blocks.items c.value.new.functions.items) (progress_of c.value-2.new.blocks.items c.value-2.new.functions.items) (expr_of c.in-Between.least.value) (value_of c.in_ok-low.low.value) (value_type_of c.in_ok-low.low.value_type) = rw c.deref-2.ensures at c.in_ok-low.ensures in
+    let f = c.in_err-high.field-0.0 in
+    let inner : IfSome (bind_refusal f) (RefusesValue c.args.clause.now.database.now c.args.clause.now.scopes.now (place_of c.args.clause.now.place) (progress_of c.value-2.new.blocks.items c.value-2.new.functions.items) (expr_of c.in-Between.greatest.value)) = rw c.deref-3.ensures at c.in_err-high.ensures in
+    condition_err c.args.clause.now (progress_of c.args.blocks.now.items c.args.functions.now.items) _ _ _ f (search rules) (rw tree (if_some (bind_refusal f) _ _ (λ r x. between_high c.args.clause.now.database.now c.args.clause.now.scopes.now (place_of c.args.clause.now.place) (progress_of c.args.blocks.now.items c.args.functions.now.items) (progress_of c.value.new.blocks.items c.value.new.functions.items) (progress_of c.value-2.new.blocks.items c.value-2.new.functions.items) c.in-Between.negated (expr_of c.in-Between.operand.value) (expr_of c.in-Between.least.value) (expr_of c.in-Between.greatest.value) (value_of c.in_ok-typed.typed.value) (value_of c.in_ok-low.low.value) (value_type_of c.in_ok-typed.typed.value_type) (value_type_of c.in_ok-low.low.value_type) r first second x) inner))
+
+pub condition::between-returns-in_err-judge_kinds :
+    goal.condition::between-returns-in_err-judge_kinds
+condition::between-returns-in_err-judge_kinds t c =
+    let tree = ap expr_of c.in-Between.is ∙ of_between c.in-Between.start c.in-Between.negated c.in-Between.operand c.in-Between.least c.in-Between.greatest in
+    let first : BindsValue c.args.clause.now.database.now c.args.clause.now.scopes.now (place_of c.args.clause.now.place) (progress_of c.args.blocks.now.items c.args.functions.now.items) (progress_of c.value.new.blocks.items c.value.new.functions.items) (expr_of c.in-Between.operand.value) (value_of c.in_ok-typed.typed.value) (value_type_of c.in_ok-typed.typed.value_type) = rw c.deref.ensures at c.in_ok-typed.ensures in
+    let second : BindsValue c.args.clause.now.database.now c.args.clause.now.scopes.now (place_of c.args.clause.now.place) (progress_of c.value.new.blocks.items c.value.new.functions.items) (progress_of c.value-2.new.blocks.items c.value-2.new.functions.items) (expr_of c.in-Between.least.value) (value_of c.in_ok-low.low.value) (value_type_of c.in_ok-low.low.value_type) = rw c.deref-2.ensures at c.in_ok-low.ensures in
+    let q = c.in_err-judge_kinds.field-0.0 in
+    condition_refused c.args.clause.now (progress_of c.args.blocks.now.items c.args.functions.now.items) _ _ _ q MixedKinds (is_refused _ q c.from_residual-in_err-judge_kinds.ensures) c.in_err-judge_kinds.ensures.refused
+    (rw tree (between_low_mixed c.args.clause.now.database.now c.args.clause.now.scopes.now (place_of c.args.clause.now.place) (progress_of c.args.blocks.now.items c.args.functions.now.items) (progress_of c.value.new.blocks.items c.value.new.functions.items) (progress_of c.value-2.new.blocks.items c.value-2.new.functions.items) c.in-Between.negated (expr_of c.in-Between.operand.value) (expr_of c.in-Between.least.value) (expr_of c.in-Between.greatest.value) (value_of c.in_ok-typed.typed.value) (value_of c.in_ok-low.low.value) (value_type_of c.in_ok-typed.typed.value_type) (value_type_of c.in_ok-low.low.value_type) first second c.in_err-judge_kinds.ensures.apart))
+
+pub condition::between-returns-in_err-judge_kinds-2 :
+    goal.condition::between-returns-in_err-judge_kinds-2
+condition::between-returns-in_err-judge_kinds-2 t c =
+    let tree = ap expr_of c.in-Between.is ∙ of_between c.in-Between.start c.in-Between.negated c.in-Between.operand c.in-Between.least c.in-Between.greatest in
+    let first : BindsValue c.args.clause.now.database.now c.args.clause.now.scopes.now (place_of c.args.clause.now.place) (progress_of c.args.blocks.now.items c.args.functions.now.items) (progress_of c.value.new.blocks.items c.value.new.functions.items) (expr_of c.in-Between.operand.value) (value_of c.in_ok-typed.typed.value) (value_type_of c.in_ok-typed.typed.value_type) = rw c.deref.ensures at c.in_ok-typed.ensures in
+    let third : BindsValue c.args.clause.now.database.now c.args.clause.now.scopes.now (place_of c.args.clause.now.place) (progress_of c.value-2.new.blocks.items c.value-2.new.functions.items) (progress_of c.value-3.new.blocks.items c.value-3.new.functions.items) (expr_of c.in-Between.greatest.value) (value_of c.in_ok-high.high.value) (value_type_of c.in_ok-high.high.value_type) = rw c.deref-3.ensures at c.in_ok-high.ensures in
+    let q = c.in_err-judge_kinds-2.field-0.0 in
+    condition_refused c.args.clause.now (progress_of c.args.blocks.now.items c.args.functions.now.items) _ _ _ q MixedKinds (is_refused _ q c.from_residual-in_err-judge_kinds-2.ensures) c.in_err-judge_kinds-2.ensures.refused
+    (rw tree (between_high_mixed c.args.clause.now.database.now c.args.clause.now.scopes.now (place_of c.args.clause.now.place) (progress_of c.args.blocks.now.items c.args.functions.now.items) (progress_of c.value.new.blocks.items c.value.new.functions.items) (progress_of c.value-2.new.blocks.items c.value-2.new.functions.items) (progress_of c.value-3.new.blocks.items c.value-3.new.functions.items) c.in-Between.negated (expr_of c.in-Between.operand.value) (expr_of c.in-Between.least.value) (expr_of c.in-Between.greatest.value) (value_of c.in_ok-typed.typed.value) (value_of c.in_ok-high.high.value) (value_type_of c.in_ok-typed.typed.value_type) (value_type_of c.in_ok-high.high.value_type) first third c.in_err-judge_kinds-2.ensures.apart))
+
+pub condition::between-returns :
+    goal.condition::between-returns
+condition::between-returns t c =
+    let tree = ap expr_of c.in-Between.is ∙ of_between c.in-Between.start c.in-Between.negated c.in-Between.operand c.in-Between.least c.in-Between.greatest in
+    let first : BindsValue c.args.clause.now.database.now c.args.clause.now.scopes.now (place_of c.args.clause.now.place) (progress_of c.args.blocks.now.items c.args.functions.now.items) (progress_of c.value.new.blocks.items c.value.new.functions.items) (expr_of c.in-Between.operand.value) (value_of c.in_ok-typed.typed.value) (value_type_of c.in_ok-typed.typed.value_type) = rw c.deref.ensures at c.in_ok-typed.ensures in
+    let second : BindsValue c.args.clause.now.database.now c.args.clause.now.scopes.now (place_of c.args.clause.now.place) (progress_of c.value.new.blocks.items c.value.new.functions.items) (progress_of c.value-2.new.blocks.items c.value-2.new.functions.items) (expr_of c.in-Between.least.value) (value_of c.in_ok-low.low.value) (value_type_of c.in_ok-low.low.value_type) = rw c.deref-2.ensures at c.in_ok-low.ensures in
+    let third : BindsValue c.args.clause.now.database.now c.args.clause.now.scopes.now (place_of c.args.clause.now.place) (progress_of c.value-2.new.blocks.items c.value-2.new.functions.items) (progress_of c.value-3.new.blocks.items c.value-3.new.functions.items) (expr_of c.in-Between.greatest.value) (value_of c.in_ok-high.high.value) (value_type_of c.in_ok-high.high.value_type) = rw c.deref-3.ensures at c.in_ok-high.ensures in
+    rw (tree, bound_between c.in-Between.negated c.in_ok-typed.typed.value c.in_ok-low.low.value c.in_ok-high.high.value)
+    (binds_between c.args.clause.now.database.now c.args.clause.now.scopes.now (place_of c.args.clause.now.place) (progress_of c.args.blocks.now.items c.args.functions.now.items) (progress_of c.value.new.blocks.items c.value.new.functions.items) (progress_of c.value-2.new.blocks.items c.value-2.new.functions.items) (progress_of c.value-3.new.blocks.items c.value-3.new.functions.items) c.in-Between.negated (expr_of c.in-Between.operand.value) (expr_of c.in-Between.least.value) (expr_of c.in-Between.greatest.value) (value_of c.in_ok-typed.typed.value) (value_of c.in_ok-low.low.value) (value_of c.in_ok-high.high.value) (value_type_of c.in_ok-typed.typed.value_type) (value_type_of c.in_ok-low.low.value_type) (value_type_of c.in_ok-high.high.value_type) first second third c.in_ok-judge_kinds.ensures.alike c.in_ok-judge_kinds-2.ensures.alike)
+
+pub condition::like-returns-in_err-typed :
+    goal.condition::like-returns-in_err-typed
+condition::like-returns-in_err-typed t c =
+    let f = c.in_err-typed.field-0.0 in
+    let inner : IfSome (bind_refusal f) (RefusesValue c.args.clause.now.database.now c.args.clause.now.scopes.now (place_of c.args.clause.now.place) (progress_of c.args.blocks.now.items c.args.functions.now.items) (expr_of c.args.operand.now)) = c.in_err-typed.ensures in
+    condition_err c.args.clause.now (progress_of c.args.blocks.now.items c.args.functions.now.items) _ _ _ f (search rules) ((if_some (bind_refusal f) _ _ (like_operand c.args.clause.now.database.now c.args.clause.now.scopes.now (place_of c.args.clause.now.place) (progress_of c.args.blocks.now.items c.args.functions.now.items) c.args.negated (expr_of c.args.operand.now) (text_of c.args.pattern.now)) inner))
+
+pub condition::like-returns-in-Number : goal.condition::like-returns-in-Number
+condition::like-returns-in-Number t c =
+    let first : BindsValue c.args.clause.now.database.now c.args.clause.now.scopes.now (place_of c.args.clause.now.place) (progress_of c.args.blocks.now.items c.args.functions.now.items) (progress_of c.value.new.blocks.items c.value.new.functions.items) (expr_of c.args.operand.now) (value_of c.in_ok-typed.typed.value) (NumberType c.in-Number.scale) = rw c.in-Number.is at c.in_ok-typed.ensures in
+    (like_number c.args.clause.now.database.now c.args.clause.now.scopes.now (place_of c.args.clause.now.place) (progress_of c.args.blocks.now.items c.args.functions.now.items) (progress_of c.value.new.blocks.items c.value.new.functions.items) c.args.negated (expr_of c.args.operand.now) (text_of c.args.pattern.now) (value_of c.in_ok-typed.typed.value) c.in-Number.scale first)
+
+pub condition::like-returns :
+    goal.condition::like-returns
+condition::like-returns t c =
+    let first : BindsValue c.args.clause.now.database.now c.args.clause.now.scopes.now (place_of c.args.clause.now.place) (progress_of c.args.blocks.now.items c.args.functions.now.items) (progress_of c.value.new.blocks.items c.value.new.functions.items) (expr_of c.args.operand.now) (value_of c.in_ok-typed.typed.value) (value_type_of c.in_ok-typed.typed.value_type) = c.in_ok-typed.ensures in
+    let text : BindsValue c.args.clause.now.database.now c.args.clause.now.scopes.now (place_of c.args.clause.now.place) (progress_of c.args.blocks.now.items c.args.functions.now.items) (progress_of c.value.new.blocks.items c.value.new.functions.items) (expr_of c.args.operand.now) (value_of c.in_ok-typed.typed.value) TextType = rw (is_text c.in_ok-typed.typed.value_type c.in_default.not-Number) at first in
+    rw (bound_like c.args.negated c.in_ok-typed.typed.value c.in_ok-from_str.field-0, c.in_ok-from_str.ensures.ok, c.as_str.ensures.value)
+    (binds_like c.args.clause.now.database.now c.args.clause.now.scopes.now (place_of c.args.clause.now.place) (progress_of c.args.blocks.now.items c.args.functions.now.items) (progress_of c.value.new.blocks.items c.value.new.functions.items) c.args.negated (expr_of c.args.operand.now) (text_of c.args.pattern.now) (value_of c.in_ok-typed.typed.value) text)
+
+pub condition::in_list-returns-then-len-gt-MAX_MEMBERS :
+    goal.condition::in_list-returns-then-len-gt-MAX_MEMBERS
+condition::in_list-returns-then-len-gt-MAX_MEMBERS t c =
+    let tree = ap expr_of c.in-InList.is ∙ of_in_list c.in-InList.start c.in-InList.negated c.in-InList.operand c.in-InList.members in
+    let many : 256 < member_count (members (map member_of c.in-InList.members.items)) = (let k = as_many_members c.in-InList.members.items in let l = c.len.ensures in let h = c.if-len-gt-MAX_MEMBERS.true in omega (arith, k, l, h)) in
+    rw tree (many_in_list c.args.clause.now.database.now c.args.clause.now.scopes.now (place_of c.args.clause.now.place) (progress_of c.args.blocks.now.items c.args.functions.now.items) c.in-InList.negated (expr_of c.in-InList.operand.value) (members (map member_of c.in-InList.members.items)) many)
+
+pub condition::in_list-returns-in_err-typed :
+    goal.condition::in_list-returns-in_err-typed
+condition::in_list-returns-in_err-typed t c =
+    let tree = ap expr_of c.in-InList.is ∙ of_in_list c.in-InList.start c.in-InList.negated c.in-InList.operand c.in-InList.members in
+    let f = c.in_err-typed.field-0.0 in
+    let inner : IfSome (bind_refusal f) (RefusesValue c.args.clause.now.database.now c.args.clause.now.scopes.now (place_of c.args.clause.now.place) (progress_of c.args.blocks.now.items c.args.functions.now.items) (expr_of c.in-InList.operand.value)) = rw c.deref.ensures at c.in_err-typed.ensures in
+    condition_err c.args.clause.now (progress_of c.args.blocks.now.items c.args.functions.now.items) _ _ _ f (search rules) (rw tree (if_some (bind_refusal f) _ _ (in_list_operand c.args.clause.now.database.now c.args.clause.now.scopes.now (place_of c.args.clause.now.place) (progress_of c.args.blocks.now.items c.args.functions.now.items) c.in-InList.negated (expr_of c.in-InList.operand.value) (members (map member_of c.in-InList.members.items))) inner))
+
+pub condition::in_list-bound_members-requires : goal.condition::in_list-bound_members-requires
+condition::in_list-bound_members-requires t c =
+    let first : BindsValue c.args.clause.now.database.now c.args.clause.now.scopes.now (place_of c.args.clause.now.place) (progress_of c.args.blocks.now.items c.args.functions.now.items) (progress_of c.value.new.blocks.items c.value.new.functions.items) (expr_of c.in-InList.operand.value) (value_of c.in_ok-typed.typed.value) (value_type_of c.in_ok-typed.typed.value_type) = rw c.deref.ensures at c.in_ok-typed.ensures in
+    let list : IsList c.args.list.now = (c.in-InList.start, c.in-InList.negated, c.in-InList.operand, c.in-InList.members, c.in-InList.is) in let sight = c.requires.sight in let few = few_items c.value.new.blocks.items (few_after c.args.clause.now.database.now c.args.clause.now.scopes.now (place_of c.args.clause.now.place) (progress_of c.args.blocks.now.items c.args.functions.now.items) (progress_of c.value.new.blocks.items c.value.new.functions.items) _ _ first.adds) in search (rules, the_lemmas, sight, few, list)
+
+pub condition::in_list-returns-in_err-members :
+    goal.condition::in_list-returns-in_err-members
+condition::in_list-returns-in_err-members t c =
+    let tree = ap expr_of c.in-InList.is ∙ of_in_list c.in-InList.start c.in-InList.negated c.in-InList.operand c.in-InList.members in
+    let first : BindsValue c.args.clause.now.database.now c.args.clause.now.scopes.now (place_of c.args.clause.now.place) (progress_of c.args.blocks.now.items c.args.functions.now.items) (progress_of c.value.new.blocks.items c.value.new.functions.items) (expr_of c.in-InList.operand.value) (value_of c.in_ok-typed.typed.value) (value_type_of c.in_ok-typed.typed.value_type) = rw c.deref.ensures at c.in_ok-typed.ensures in
+    let f = c.in_err-members.field-0.0 in
+    let inner : IfSome (bind_refusal f) (RefusesMembers c.args.clause.now.database.now c.args.clause.now.scopes.now (place_of c.args.clause.now.place) (progress_of c.value.new.blocks.items c.value.new.functions.items) (value_type_of c.in_ok-typed.typed.value_type) (members (map member_of c.in-InList.members.items))) = rw tree at c.in_err-members.ensures in
+    condition_err c.args.clause.now (progress_of c.args.blocks.now.items c.args.functions.now.items) _ _ _ f (search rules) (rw tree (if_some (bind_refusal f) _ _ (λ r x. in_list_members c.args.clause.now.database.now c.args.clause.now.scopes.now (place_of c.args.clause.now.place) (progress_of c.args.blocks.now.items c.args.functions.now.items) (progress_of c.value.new.blocks.items c.value.new.functions.items) c.in-InList.negated (expr_of c.in-InList.operand.value) (members (map member_of c.in-InList.members.items)) (value_of c.in_ok-typed.typed.value) (value_type_of c.in_ok-typed.typed.value_type) r first x) inner))
+
+pub condition::in_list-returns :
+    goal.condition::in_list-returns
+condition::in_list-returns t c =
+    let tree = ap expr_of c.in-InList.is ∙ of_in_list c.in-InList.start c.in-InList.negated c.in-InList.operand c.in-InList.members in
+    let first : BindsValue c.args.clause.now.database.now c.args.clause.now.scopes.now (place_of c.args.clause.now.place) (progress_of c.args.blocks.now.items c.args.functions.now.items) (progress_of c.value.new.blocks.items c.value.new.functions.items) (expr_of c.in-InList.operand.value) (value_of c.in_ok-typed.typed.value) (value_type_of c.in_ok-typed.typed.value_type) = rw c.deref.ensures at c.in_ok-typed.ensures in
+    let list : BindsMembers c.args.clause.now.database.now c.args.clause.now.scopes.now (place_of c.args.clause.now.place) (progress_of c.value.new.blocks.items c.value.new.functions.items) (progress_of c.bound_members.new.blocks.items c.bound_members.new.functions.items) (value_type_of c.in_ok-typed.typed.value_type) (members (map member_of c.in-InList.members.items)) (map bound_member_of c.in_ok-members.members.items) = rw tree at c.in_ok-members.ensures in
+    let few : HasManyMembers (spec.InList c.in-InList.negated (expr_of c.in-InList.operand.value) (members (map member_of c.in-InList.members.items))) → ⊥ = λ m. absurd (let k = as_many_members c.in-InList.members.items in let l = c.len.ensures in let h = c.if-len-gt-MAX_MEMBERS.false in omega (arith, m, k, l, h)) in
+    rw (tree, bound_in_list c.in-InList.negated c.in_ok-typed.typed.value c.in_ok-members.members)
+    (binds_in_list c.args.clause.now.database.now c.args.clause.now.scopes.now (place_of c.args.clause.now.place) (progress_of c.args.blocks.now.items c.args.functions.now.items) (progress_of c.value.new.blocks.items c.value.new.functions.items) (progress_of c.bound_members.new.blocks.items c.bound_members.new.functions.items) c.in-InList.negated (expr_of c.in-InList.operand.value) (members (map member_of c.in-InList.members.items)) (value_of c.in_ok-typed.typed.value) (value_type_of c.in_ok-typed.typed.value_type) _ first list few)
+
+pub condition::in_query-returns-in_err-typed :
+    goal.condition::in_query-returns-in_err-typed
+condition::in_query-returns-in_err-typed t c =
+    let tree = ap expr_of c.in-InQuery.is ∙ of_in_query c.in-InQuery.start c.in-InQuery.negated c.in-InQuery.operand c.in-InQuery.query in
+    let f = c.in_err-typed.field-0.0 in
+    let inner : IfSome (bind_refusal f) (RefusesValue c.args.clause.now.database.now c.args.clause.now.scopes.now (place_of c.args.clause.now.place) (progress_of c.args.blocks.now.items c.args.functions.now.items) (expr_of c.in-InQuery.operand.value)) = rw c.deref.ensures at c.in_err-typed.ensures in
+    condition_err c.args.clause.now (progress_of c.args.blocks.now.items c.args.functions.now.items) _ _ _ f (search rules) (rw tree (if_some (bind_refusal f) _ _ (λ r e. test_operand c.args.clause.now.database.now c.args.clause.now.scopes.now (place_of c.args.clause.now.place) (progress_of c.args.blocks.now.items c.args.functions.now.items) (spec.InQuery c.in-InQuery.negated (expr_of c.in-InQuery.operand.value) (query_of c.in-InQuery.query.value)) (expr_of c.in-InQuery.operand.value) (query_of c.in-InQuery.query.value) (b.InQuery c.in-InQuery.negated) r (in_query c.in-InQuery.negated) e) inner))
+
+pub condition::in_query-column_of_query-requires :
+    goal.condition::in_query-column_of_query-requires
+condition::in_query-column_of_query-requires t c =
+    let first : BindsValue c.args.clause.now.database.now c.args.clause.now.scopes.now (place_of c.args.clause.now.place) (progress_of c.args.blocks.now.items c.args.functions.now.items) (progress_of c.value.new.blocks.items c.value.new.functions.items) (expr_of c.in-InQuery.operand.value) (value_of c.in_ok-typed.typed.value) (value_type_of c.in_ok-typed.typed.value_type) = rw c.deref.ensures at c.in_ok-typed.ensures in
+    let sight = c.requires.sight in let few = few_items c.value.new.blocks.items (few_after c.args.clause.now.database.now c.args.clause.now.scopes.now (place_of c.args.clause.now.place) (progress_of c.args.blocks.now.items c.args.functions.now.items) (progress_of c.value.new.blocks.items c.value.new.functions.items) _ _ first.adds) in search (rules, the_lemmas, sight, few)
+
+pub condition::in_query-returns-in_err-block :
+    goal.condition::in_query-returns-in_err-block
+condition::in_query-returns-in_err-block t c =
+    let tree = ap expr_of c.in-InQuery.is ∙ of_in_query c.in-InQuery.start c.in-InQuery.negated c.in-InQuery.operand c.in-InQuery.query in
+    let first : BindsValue c.args.clause.now.database.now c.args.clause.now.scopes.now (place_of c.args.clause.now.place) (progress_of c.args.blocks.now.items c.args.functions.now.items) (progress_of c.value.new.blocks.items c.value.new.functions.items) (expr_of c.in-InQuery.operand.value) (value_of c.in_ok-typed.typed.value) (value_type_of c.in_ok-typed.typed.value_type) = rw c.deref.ensures at c.in_ok-typed.ensures in
+    let f = c.in_err-block.field-0.0 in
+    let inner : IfSome (bind_refusal f) (RefusesColumn c.args.clause.now.database.now c.args.clause.now.scopes.now (place_of c.args.clause.now.place) (progress_of c.value.new.blocks.items c.value.new.functions.items) (query_of c.in-InQuery.query.value)) = rw c.deref-2.ensures at (c.in_err-block.ensures (map bound_function_of c.value.new.functions.items)) in
+    condition_err c.args.clause.now (progress_of c.args.blocks.now.items c.args.functions.now.items) _ _ _ f (search rules) (rw tree (if_some (bind_refusal f) _ _ (λ r e. test_query c.args.clause.now.database.now c.args.clause.now.scopes.now (place_of c.args.clause.now.place) (progress_of c.args.blocks.now.items c.args.functions.now.items) (progress_of c.value.new.blocks.items c.value.new.functions.items) (spec.InQuery c.in-InQuery.negated (expr_of c.in-InQuery.operand.value) (query_of c.in-InQuery.query.value)) (expr_of c.in-InQuery.operand.value) (query_of c.in-InQuery.query.value) (b.InQuery c.in-InQuery.negated) (value_of c.in_ok-typed.typed.value) (value_type_of c.in_ok-typed.typed.value_type) r (in_query c.in-InQuery.negated) first e) inner))
+
+pub condition::in_query-returns-in_err-judge_kinds :
+    goal.condition::in_query-returns-in_err-judge_kinds
+condition::in_query-returns-in_err-judge_kinds t c =
+    let tree = ap expr_of c.in-InQuery.is ∙ of_in_query c.in-InQuery.start c.in-InQuery.negated c.in-InQuery.operand c.in-InQuery.query in
+    let first : BindsValue c.args.clause.now.database.now c.args.clause.now.scopes.now (place_of c.args.clause.now.place) (progress_of c.args.blocks.now.items c.args.functions.now.items) (progress_of c.value.new.blocks.items c.value.new.functions.items) (expr_of c.in-InQuery.operand.value) (value_of c.in_ok-typed.typed.value) (value_type_of c.in_ok-typed.typed.value_type) = rw c.deref.ensures at c.in_ok-typed.ensures in
+    let second : BindsColumn c.args.clause.now.database.now c.args.clause.now.scopes.now (place_of c.args.clause.now.place) (progress_of c.value.new.blocks.items c.value.new.functions.items) (progress_of c.column_of_query.new.blocks.items c.value.new.functions.items) (query_of c.in-InQuery.query.value) c.in_ok-block.block (value_type_of c.in_ok-block.value_type) = rw c.deref-2.ensures at (c.in_ok-block.ensures (map bound_function_of c.value.new.functions.items)) in
+    let q = c.in_err-judge_kinds.field-0.0 in
+    condition_refused c.args.clause.now (progress_of c.args.blocks.now.items c.args.functions.now.items) _ _ _ q MixedKinds (is_refused _ q c.from_residual-in_err-judge_kinds.ensures) c.in_err-judge_kinds.ensures.refused
+    (rw tree (test_mixed c.args.clause.now.database.now c.args.clause.now.scopes.now (place_of c.args.clause.now.place) (progress_of c.args.blocks.now.items c.args.functions.now.items) (progress_of c.value.new.blocks.items c.value.new.functions.items) (progress_of c.column_of_query.new.blocks.items c.value.new.functions.items) (spec.InQuery c.in-InQuery.negated (expr_of c.in-InQuery.operand.value) (query_of c.in-InQuery.query.value)) (expr_of c.in-InQuery.operand.value) (query_of c.in-InQuery.query.value) (b.InQuery c.in-InQuery.negated) (value_of c.in_ok-typed.typed.value) (value_type_of c.in_ok-typed.typed.value_type) (value_type_of c.in_ok-block.value_type) c.in_ok-block.block (in_query c.in-InQuery.negated) first second c.in_err-judge_kinds.ensures.apart))
+
+pub condition::in_query-returns :
+    goal.condition::in_query-returns
+condition::in_query-returns t c =
+    let tree = ap expr_of c.in-InQuery.is ∙ of_in_query c.in-InQuery.start c.in-InQuery.negated c.in-InQuery.operand c.in-InQuery.query in
+    let first : BindsValue c.args.clause.now.database.now c.args.clause.now.scopes.now (place_of c.args.clause.now.place) (progress_of c.args.blocks.now.items c.args.functions.now.items) (progress_of c.value.new.blocks.items c.value.new.functions.items) (expr_of c.in-InQuery.operand.value) (value_of c.in_ok-typed.typed.value) (value_type_of c.in_ok-typed.typed.value_type) = rw c.deref.ensures at c.in_ok-typed.ensures in
+    let second : BindsColumn c.args.clause.now.database.now c.args.clause.now.scopes.now (place_of c.args.clause.now.place) (progress_of c.value.new.blocks.items c.value.new.functions.items) (progress_of c.column_of_query.new.blocks.items c.value.new.functions.items) (query_of c.in-InQuery.query.value) c.in_ok-block.block (value_type_of c.in_ok-block.value_type) = rw c.deref-2.ensures at (c.in_ok-block.ensures (map bound_function_of c.value.new.functions.items)) in
+    rw (tree, bound_in_query c.in-InQuery.negated c.in_ok-typed.typed.value c.in_ok-block.block)
+    (binds_test c.args.clause.now.database.now c.args.clause.now.scopes.now (place_of c.args.clause.now.place) (progress_of c.args.blocks.now.items c.args.functions.now.items) (progress_of c.value.new.blocks.items c.value.new.functions.items) (progress_of c.column_of_query.new.blocks.items c.value.new.functions.items) (spec.InQuery c.in-InQuery.negated (expr_of c.in-InQuery.operand.value) (query_of c.in-InQuery.query.value)) (expr_of c.in-InQuery.operand.value) (query_of c.in-InQuery.query.value) (b.InQuery c.in-InQuery.negated) (value_of c.in_ok-typed.typed.value) (value_type_of c.in_ok-typed.typed.value_type) (value_type_of c.in_ok-block.value_type) c.in_ok-block.block (in_query c.in-InQuery.negated) first second c.in_ok-judge_kinds.ensures.alike)
+
+pub condition::exists-returns-in_err-block :
+    goal.condition::exists-returns-in_err-block
+condition::exists-returns-in_err-block t c =
+    let f = c.in_err-block.field-0.0 in
+    let inner : IfSome (bind_refusal f) (RefusesQuery c.args.clause.now.database.now c.args.clause.now.scopes.now (place_of c.args.clause.now.place) (progress_of c.args.blocks.now.items c.args.functions.now.items) (query_of c.args.query.now)) = (c.in_err-block.ensures (map bound_function_of c.args.functions.now.items)) in
+    condition_err c.args.clause.now (progress_of c.args.blocks.now.items c.args.functions.now.items) _ _ _ f (search rules) ((if_some (bind_refusal f) _ _ (exists_query c.args.clause.now.database.now c.args.clause.now.scopes.now (place_of c.args.clause.now.place) (progress_of c.args.blocks.now.items c.args.functions.now.items) (query_of c.args.query.now)) inner))
+
+pub condition::exists-returns :
+    goal.condition::exists-returns
+condition::exists-returns t c =
+    let query : BindsQuery c.args.clause.now.database.now c.args.clause.now.scopes.now (place_of c.args.clause.now.place) (progress_of c.args.blocks.now.items c.args.functions.now.items) (progress_of c.inner_block.new.blocks.items c.args.functions.now.items) (query_of c.args.query.now) c.in_ok-block.block (option_map value_type_of c.in_ok-block.field-0-1) = (c.in_ok-block.ensures (map bound_function_of c.args.functions.now.items)) in
+    rw (bound_exists c.in_ok-block.block) (binds_exists c.args.clause.now.database.now c.args.clause.now.scopes.now (place_of c.args.clause.now.place) (progress_of c.args.blocks.now.items c.args.functions.now.items) (progress_of c.inner_block.new.blocks.items c.args.functions.now.items) (query_of c.args.query.now) c.in_ok-block.block _ query)

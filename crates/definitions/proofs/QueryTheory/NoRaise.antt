@@ -8,10 +8,10 @@ use mathlib.Core.Bool.{true≢false}
 use Rattle.std.proofs.lemmas.Bool.Decides.{nat_tests}
 use Rattle.std.proofs.lemmas.Int.{ints}
 use Rattle.std.proofs.lemmas.Nat.{mul-lt}
-use Rattle.definitions.specs.Value.{Value, Null, Number, Text, SqlType, Smallint, Integer, Numeric, Char, IsType, HasType}
+use Rattle.definitions.specs.Value.{Value, Null, Number, Text, SqlType, Smallint, Integer, Numeric, Char, IsType, HasType, is_null}
 use Rattle.definitions.specs.Arithmetic.{Meaning, Is, is_in_bounds, judged, at_scale, negative, plus, minus, times, raised, OutOfRange}
 use Rattle.definitions.specs.Statement.{Equals, GreaterOrEquals, LessOrEquals}
-use Rattle.definitions.specs.Truth.{Truth, and, opposite, all_true, any_true, compared, compared_with_any, unless, known, is_null}
+use Rattle.definitions.specs.Truth.{Truth, and, opposite, all_true, any_true, compared, compared_with_any, unless, known}
 use Rattle.definitions.specs.Pattern.{like}
 use Rattle.definitions.specs.Queries.BoundBlock as b
 use Rattle.definitions.specs.Queries.BoundBlock.{ValueExpr, Condition, Conditions, Operands, NoOperand, Operand, Operator}

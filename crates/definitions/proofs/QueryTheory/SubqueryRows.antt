@@ -3,11 +3,11 @@ use Rattle.std.proofs.Common.{◌≡◌, refl, ap, ap₂, ◌∙◌, subst, ℕ,
 use Rattle.std.specs.Prelude.{Option, map, get_or, IsPermutation}
 use Rattle.std.proofs.lemmas.List.Elements.{All-contains_itself, All-cons, All-nil}
 use Rattle.std.proofs.lemmas.List.Sorted.{All-permutation, length_permutation, IsPermutation-map}
-use Rattle.definitions.specs.Value.{Value, Null}
+use Rattle.definitions.specs.Value.{Value, Null, is_null}
 use Rattle.definitions.specs.Table.{Row}
 use Rattle.definitions.specs.Statement.{ComparisonOperator, Equals, GreaterOrEquals, LessOrEquals}
 use Rattle.definitions.specs.Arithmetic.{Cardinality, Meaning, Is, Raises}
-use Rattle.definitions.specs.Truth.{and, opposite, all_true, any_true, compared, compared_with_any, unless, known, is_null, has_row}
+use Rattle.definitions.specs.Truth.{and, opposite, all_true, any_true, compared, compared_with_any, unless, known, has_row}
 use Rattle.definitions.specs.Pattern.{like}
 use Rattle.definitions.specs.Statement as s
 use Rattle.definitions.specs.Queries.BoundBlock as b

@@ -2,7 +2,7 @@
 use Rattle.std.specs.Prelude.{ℕ, zero, suc, ◌^◌, ◌<◌, ◌≤◌, ◌≡◌, ⊤, List, [], ◌∷◌, Option, Some, None, length, slice_get, is_some, IsTrue, Contains}
 use Rattle.std.specs.List.{AllByRecursion}
 use Rattle.definitions.specs.Characters.{is_printable}
-use Rattle.definitions.specs.Limits.{most_from_tables, most_conjuncts, most_blocks, most_digits, most_string_characters}
+use Rattle.definitions.specs.Limits.{most_from_tables, most_conjuncts, most_blocks, most_digits, most_string_characters, greatest_scale}
 use Rattle.definitions.specs.Value.{SqlType}
 use Rattle.definitions.specs.ValueType.{ValueType, NumberType}
 use Rattle.definitions.specs.Table as table
@@ -49,14 +49,18 @@ column_type [] k = None
 column_type (b ∷ bs) zero = only_type b.items
 column_type (b ∷ bs) (suc k) = column_type bs k
 
+-- the characters of a string are printable (ISO/IEC 9075:1992, 5.3)
+abbrev pub IsWrittenString : List ℕ → Type 0
+IsWrittenString codes = (length codes ≤ most_string_characters) × AllByRecursion (λ c. IsTrue (is_printable c)) codes
+
 -- a value of the block b of number n, with the blocks around it, the nearest first
 module _ (db : Database) (blocks around : Blocks) (n : ℕ) (b : Block) where
   abbrev mutual
     pub IsFormedValue : ValueExpr → Type 0
     IsFormedValue (Column c type) = HasColumn db b c type
     IsFormedValue (Parameter between c type) = (outer : Block) × (slice_get around between ≡ Some outer) × HasColumn db outer c type
-    IsFormedValue (Numeral units digits scale) = (units < 10 ^ digits) × (digits ≤ 38) × (scale ≤ 18)
-    IsFormedValue (String codes) = (length codes ≤ 254) × AllByRecursion (λ c. IsTrue (is_printable c)) codes
+    IsFormedValue (Numeral units digits scale) = (units < 10 ^ digits) × (digits ≤ most_digits) × (scale ≤ greatest_scale)
+    IsFormedValue (String codes) = IsWrittenString codes
     IsFormedValue (Signed minus operand) = IsFormedValue operand
     IsFormedValue (Chain first others) = IsFormedValue first × AreFormedOperands others
     IsFormedValue (AggregateValue number type) = (f : Aggregate) × (slice_get b.functions number ≡ Some f) × (set_function_type f ≡ Some type)
@@ -70,8 +74,12 @@ module _ (db : Database) (blocks around : Blocks) (n : ℕ) (b : Block) where
   abbrev pub IsTypedValue : ValueExpr → Type 0
   IsTypedValue e = IsFormedValue e × IsTrue (is_some (value_type e))
 
+  -- a number of a block inside: behind the block's own, and there
+  abbrev pub IsInside : ℕ → Type 0
+  IsInside k = (n < k) × (k < length blocks)
+
   abbrev pub IsFormedCondition : Condition → Type 0
-  IsFormedCondition c = AllByRecursion IsTypedValue (values_of c) × IsTrue (is_sound (column_type blocks) c) × AllByRecursion (λ k. n < k) (blocks_of c)
+  IsFormedCondition c = AllByRecursion IsTypedValue (values_of c) × IsTrue (is_sound (column_type blocks) c) × AllByRecursion IsInside (blocks_of c)
 
   abbrev pub IfCondition : Option Condition → Type 0
   IfCondition None = ⊤
@@ -104,12 +112,9 @@ pub data AreFormed (db : Database) (blocks : Blocks) : Blocks → ℕ → Type 0
 
 -- ---- queries as they can be written
 
--- literals (ISO/IEC 9075:1992, 5.3): a numeral's units have no more digits than it says, and the characters of a string are printable
+-- a numeral's units have no more digits than it says (ISO/IEC 9075:1992, 5.3)
 abbrev pub IsWrittenNumeral : (units digits : ℕ) → Type 0
 IsWrittenNumeral units digits = (units < 10 ^ digits) × (digits ≤ most_digits)
-
-abbrev pub IsWrittenString : List ℕ → Type 0
-IsWrittenString codes = (length codes ≤ most_string_characters) × AllByRecursion (λ c. IsTrue (is_printable c)) codes
 
 abbrev pub IsWritten : Expr → Type 0
 IsWritten (t.Numeral units digits scale) = IsWrittenNumeral units digits

@@ -11,9 +11,12 @@ use Rattle.definitions.specs.Estimates.BlockSpace.{space_of}
 use Rattle.definitions.specs.Certificates.CertifiedBlock.{CertifiedBlock}
 use Rattle.definitions.specs.Certificates.Spelling.{Spells}
 
--- the columns of each index of a table of the database
+-- the columns of each index of a table, and of a table of the database
+abbrev pub index_columns : Table → List (List ℕ)
+index_columns t = map (λ (i : Index). i.columns) t.indexes
+
 abbrev pub indexes_at : Database → ℕ → List (List ℕ)
-indexes_at db table = unwrap_or (option_map (λ (t : Table). map (λ (i : Index). i.columns) t.indexes) (slice_get db table)) []
+indexes_at db table = unwrap_or (option_map index_columns (slice_get db table)) []
 
 -- a block of a query, as a certificate refers to it
 abbrev pub certified : Database → ℕ → Block → Version → CertifiedBlock

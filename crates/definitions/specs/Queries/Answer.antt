@@ -8,7 +8,8 @@ use Rattle.definitions.specs.Queries.BoundBlock.{Condition, Item, Block, Blocks}
 use Rattle.definitions.specs.Queries.Conjuncts.{is_empty}
 use Rattle.definitions.specs.Queries.Evaluation.{Combination, Environment, on_one, value, truth}
 use Rattle.definitions.specs.Queries.Combinations.{Context, at, at_group, is_surely_true, raises_of, raises_of_where, kept}
-use Rattle.definitions.specs.Queries.Grouping.{same_values, without_repeats, groups_of, function_value, results, unless_raised, all_results}
+use Rattle.definitions.specs.Lists.{without_repeats}
+use Rattle.definitions.specs.Queries.Grouping.{same_values, groups_of, function_value, results, unless_raised, all_results}
 
 -- a block is grouped where it has GROUP BY, HAVING or a set function (ISO/IEC 9075:1992, 7.8, 7.9)
 abbrev pub is_grouped : Block → Bool

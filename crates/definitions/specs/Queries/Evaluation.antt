@@ -1,10 +1,10 @@
 -- What the expressions of a bound block mean.
 use Rattle.std.specs.Prelude.{ℕ, pos, Bool, true, false, List, [], ◌∷◌, Option, Some, None, get_or, map}
-use Rattle.definitions.specs.Value.{Value, Null, Number, Text}
+use Rattle.definitions.specs.Value.{Value, Null, Number, Text, is_null}
 use Rattle.definitions.specs.Table.{Row}
 use Rattle.definitions.specs.Statement.{ComparisonOperator, Equals, GreaterOrEquals, LessOrEquals}
 use Rattle.definitions.specs.Arithmetic.{Meaning, Is, Raises, raised, Cardinality, negative, plus, minus, times, over}
-use Rattle.definitions.specs.Truth.{Truth, and, known, unless, opposite, all_true, any_true, compared, compared_with_all, compared_with_any, has_row, is_null}
+use Rattle.definitions.specs.Truth.{Truth, and, known, unless, opposite, all_true, any_true, compared, compared_with_all, compared_with_any, has_row}
 use Rattle.definitions.specs.Pattern.{like}
 use Rattle.definitions.specs.Plans.Order.{BlockColumn}
 use Rattle.definitions.specs.Queries.BoundBlock.{Operator, Plus, Minus, Times, Over, ValueExpr, Column, Parameter, Numeral, String, Signed, Chain, AggregateValue, Subquery, Operands, NoOperand, Operand, Condition, Conditions, NoPart, Part, Compare, Quantified, IsNull, Between, Like, InList, InQuery, Exists, Not, And, Or}

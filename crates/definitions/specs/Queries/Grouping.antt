@@ -2,9 +2,9 @@
 use Rattle.std.specs.Prelude.{pos, ◌+ℤ◌, max, Bool, true, false, ◌&&◌, not, List, [], ◌∷◌, if◌then◌else◌, length, map, filter, flat_map}
 use Rattle.std.specs.List.{list_any}
 use Rattle.std.specs.Ordering.{is_eq, is_lt}
-use Rattle.definitions.specs.Value.{Value, Null, Number, rank}
+use Rattle.definitions.specs.Lists.{without_repeats}
+use Rattle.definitions.specs.Value.{Value, Null, Number, rank, is_null}
 use Rattle.definitions.specs.Arithmetic.{Raise, Meaning, Is, Raises, judged, over, at_scale}
-use Rattle.definitions.specs.Truth.{is_null}
 use Rattle.definitions.specs.Plans.Order.{BlockColumn}
 use Rattle.definitions.specs.Queries.BoundBlock.{Aggregate, CountRows, OfValues}
 use Rattle.definitions.specs.Statement.{SetFunction, Count, Sum, Avg, Min, Max}
@@ -19,11 +19,6 @@ abbrev pub same_values : List Value → List Value → Bool
 same_values [] [] = true
 same_values (a ∷ as') (b ∷ bs) = same_value a b && same_values as' bs
 same_values _ _ = false
-
--- a list without the elements that are the same as an earlier one
-abbrev pub without_repeats : {X : Type 0} → (X → X → Bool) → List X → List X
-without_repeats same [] = []
-without_repeats same (x ∷ xs) = x ∷ filter (λ y. not (same x y)) (without_repeats same xs)
 
 -- ---- groups
 

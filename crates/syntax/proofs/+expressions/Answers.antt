@@ -97,7 +97,7 @@ pub expr::operand-returns-in-Sum-clause-reads : goal.expr::operand-returns-in-Su
 expr::operand-returns-in-Sum-clause-reads i c = rw c.in-Sum.is c.line-in-Sum.ensures.reads
 
 pub expr::operand-returns-in-Product-clause-reads : goal.expr::operand-returns-in-Product-clause-reads
-expr::operand-returns-in-Product-clause-reads i c = rw c.in-Product.is c.signed.ensures.reads
+expr::operand-returns-in-Product-clause-reads i c = rw c.in-Product.is c.signed_operand.ensures.reads
 
 pub expr::negation-returns-then-not-eat_word-clause-reads : goal.expr::negation-returns-then-not-eat_word-clause-reads
 unfolding g.NegationOf
@@ -137,10 +137,10 @@ expr::test-returns-clause-placed i c = ok_behind _ _ _ c.tail.ensures.placed c.i
 
 pub expr::tail-returns-in-Some-clause-reads : goal.expr::tail-returns-in-Some-clause-reads
 unfolding g.TailOf
-expr::tail-returns-in-Some-clause-reads i c = reads_on c.in-Some.ensures c.compared.ensures.reads
+expr::tail-returns-in-Some-clause-reads i c = reads_on c.in-Some.ensures c.comparison.ensures.reads
 
 pub expr::tail-returns-in-Some-clause-placed : goal.expr::tail-returns-in-Some-clause-placed
-expr::tail-returns-in-Some-clause-placed i c = ok_goes_on _ _ _ c.compared.ensures.placed (λ from d. says_leaf leaves.op_says d c.start-start.ensures c.in-Some.ensures)
+expr::tail-returns-in-Some-clause-placed i c = ok_goes_on _ _ _ c.comparison.ensures.placed (λ from d. says_leaf leaves.op_says d c.start-start.ensures c.in-Some.ensures)
 
 pub expr::tail-returns-then-eat_word_as-clause-reads : goal.expr::tail-returns-then-eat_word_as-clause-reads
 unfolding g.TailOf
@@ -163,41 +163,41 @@ expr::tail-returns-else-eat_word_as-2-clause-reads i c = reads_not_on c.in_defau
 pub expr::tail-returns-else-eat_word_as-2-clause-placed : goal.expr::tail-returns-else-eat_word_as-2-clause-placed
 expr::tail-returns-else-eat_word_as-2-clause-placed i c = ok_goes_on _ _ _ c.predicate-else-eat_word_as-2.ensures.placed (λ from d. stays (stays (stays d c.in_default.ensures.1) c.if-eat_word_as.ensures.1) c.if-eat_word_as-2.ensures.1)
 
-pub expr::compared-returns-in_err-left-clause-reads : goal.expr::compared-returns-in_err-left-clause-reads
-expr::compared-returns-in_err-left-clause-reads i c = answers _ _ (search rules) (no_memory refl)
+pub expr::comparison-returns-in_err-left-clause-reads : goal.expr::comparison-returns-in_err-left-clause-reads
+expr::comparison-returns-in_err-left-clause-reads i c = answers _ _ (search rules) (no_memory refl)
 
-pub expr::compared-returns-in_err-right-clause-reads : goal.expr::compared-returns-in_err-right-clause-reads
+pub expr::comparison-returns-in_err-right-clause-reads : goal.expr::comparison-returns-in_err-right-clause-reads
 unfolding g.ComparedOf
-expr::compared-returns-in_err-right-clause-reads i c = answers _ _ (search rules) (reads_not_on c.in_default.ensures (then_fails c.in_err-right.ensures.reads))
+expr::comparison-returns-in_err-right-clause-reads i c = answers _ _ (search rules) (reads_not_on c.in_default.ensures (then_fails c.in_err-right.ensures.reads))
 
-pub expr::compared-returns-in_err-right-2-clause-reads : goal.expr::compared-returns-in_err-right-2-clause-reads
-expr::compared-returns-in_err-right-2-clause-reads i c = answers _ _ (search rules) (no_memory refl)
+pub expr::comparison-returns-in_err-right-2-clause-reads : goal.expr::comparison-returns-in_err-right-2-clause-reads
+expr::comparison-returns-in_err-right-2-clause-reads i c = answers _ _ (search rules) (no_memory refl)
 
-pub expr::compared-returns-in_default-clause-reads : goal.expr::compared-returns-in_default-clause-reads
+pub expr::comparison-returns-in_default-clause-reads : goal.expr::comparison-returns-in_default-clause-reads
 unfolding g.ComparedOf
-expr::compared-returns-in_default-clause-reads i c = reads_not_on c.in_default.ensures (then_on (λ m. sum_alike (within_alike c.args.levels m)) c.in_ok-right.ensures.reads (gives_as (of_compare _ _ _ _ ∙ ap₂ (λ x y. tree.Compare (op_of c.args.op) (expr_of x) (expr_of y)) c.in_ok-left.ensures.ok c.in_ok-right-2.ensures.ok)))
+expr::comparison-returns-in_default-clause-reads i c = reads_not_on c.in_default.ensures (then_on (λ m. sum_alike (within_alike c.args.levels m)) c.in_ok-right.ensures.reads (gives_as (of_compare _ _ _ _ ∙ ap₂ (λ x y. tree.Compare (op_of c.args.op) (expr_of x) (expr_of y)) c.in_ok-left.ensures.ok c.in_ok-right-2.ensures.ok)))
 
-pub expr::compared-returns-in_default-clause-placed : goal.expr::compared-returns-in_default-clause-placed
-expr::compared-returns-in_default-clause-placed i c = λ from d. seen_as (leaves.of_compare _ _ _ _ ∙ ap₂ (λ x y. (expr_leaves x ++ one (op_leaf (op_of c.args.op)) c.args.start) ++ expr_leaves y) c.in_ok-left.ensures.ok c.in_ok-right-2.ensures.ok) (on (stays d c.in_default.ensures.1) c.in_ok-right.ensures.placed)
+pub expr::comparison-returns-in_default-clause-placed : goal.expr::comparison-returns-in_default-clause-placed
+expr::comparison-returns-in_default-clause-placed i c = λ from d. seen_as (leaves.of_compare _ _ _ _ ∙ ap₂ (λ x y. (expr_leaves x ++ one (op_leaf (op_of c.args.op)) c.args.start) ++ expr_leaves y) c.in_ok-left.ensures.ok c.in_ok-right-2.ensures.ok) (on (stays d c.in_default.ensures.1) c.in_ok-right.ensures.placed)
 
-pub expr::compared-returns-in_err-expect_symbol-clause-reads : goal.expr::compared-returns-in_err-expect_symbol-clause-reads
+pub expr::comparison-returns-in_err-expect_symbol-clause-reads : goal.expr::comparison-returns-in_err-expect_symbol-clause-reads
 unfolding g.ComparedOf
-expr::compared-returns-in_err-expect_symbol-clause-reads i c = answers _ _ (search rules) (reads_on c.in-Some.ensures (past_fails c.in_err-expect_symbol.ensures))
+expr::comparison-returns-in_err-expect_symbol-clause-reads i c = answers _ _ (search rules) (reads_on c.in-Some.ensures (past_fails c.in_err-expect_symbol.ensures))
 
-pub expr::compared-returns-in_err-below-clause-reads : goal.expr::compared-returns-in_err-below-clause-reads
+pub expr::comparison-returns-in_err-below-clause-reads : goal.expr::comparison-returns-in_err-below-clause-reads
 unfolding g.ComparedOf
-expr::compared-returns-in_err-below-clause-reads i c = answers _ _ (search rules) (reads_on c.in-Some.ensures (deep_past (λ us at. nowhere_first us at (nowhere_never us at)) refl c.in_ok-expect_symbol.ensures c.in_err-below.ensures.deep))
+expr::comparison-returns-in_err-below-clause-reads i c = answers _ _ (search rules) (reads_on c.in-Some.ensures (deep_past (λ us at. nowhere_first us at (nowhere_never us at)) refl c.in_ok-expect_symbol.ensures c.in_err-below.ensures.deep))
 
-pub expr::compared-returns-in_err-query-clause-reads : goal.expr::compared-returns-in_err-query-clause-reads
+pub expr::comparison-returns-in_err-query-clause-reads : goal.expr::comparison-returns-in_err-query-clause-reads
 unfolding g.ComparedOf
-expr::compared-returns-in_err-query-clause-reads i c = answers _ _ (search rules) (reads_on c.in-Some.ensures (opens_past c.in_ok-below.ensures.ok refl c.in_ok-expect_symbol.ensures (then_fails (inside (λ us at. nowhere_never us at) c.in_err-query.ensures.reads))))
+expr::comparison-returns-in_err-query-clause-reads i c = answers _ _ (search rules) (reads_on c.in-Some.ensures (opens_past c.in_ok-below.ensures.ok refl c.in_ok-expect_symbol.ensures (then_fails (inside (λ us at. nowhere_never us at) c.in_err-query.ensures.reads))))
 
-pub expr::compared-returns-clause-reads : goal.expr::compared-returns-clause-reads
+pub expr::comparison-returns-clause-reads : goal.expr::comparison-returns-clause-reads
 unfolding g.ComparedOf
-expr::compared-returns-clause-reads i c = reads_on c.in-Some.ensures (opens_past c.in_ok-below.ensures.ok refl c.in_ok-expect_symbol.ensures (then_on (λ m. (within_alike (suc c.in_ok-below.below) m).subquery) (inside (λ us at. nowhere_never us at) c.in_ok-query.ensures.reads) (gives_as (of_compare_all _ _ _ _ _ ∙ ap (λ x. tree.CompareAll (op_of c.args.op) (quantifier_of c.in-Some.quantifier) (expr_of x) (block_of c.in_ok-query.query.value)) c.in_ok-left.ensures.ok))))
+expr::comparison-returns-clause-reads i c = reads_on c.in-Some.ensures (opens_past c.in_ok-below.ensures.ok refl c.in_ok-expect_symbol.ensures (then_on (λ m. (within_alike (suc c.in_ok-below.below) m).subquery) (inside (λ us at. nowhere_never us at) c.in_ok-query.ensures.reads) (gives_as (of_compare_all _ _ _ _ _ ∙ ap (λ x. tree.CompareAll (op_of c.args.op) (quantifier_of c.in-Some.quantifier) (expr_of x) (block_of c.in_ok-query.query.value)) c.in_ok-left.ensures.ok))))
 
-pub expr::compared-returns-clause-placed : goal.expr::compared-returns-clause-placed
-expr::compared-returns-clause-placed i c = λ from d. seen_as (leaves.of_compare_all _ _ _ _ _ ∙ ap (λ x. (expr_leaves x ++ one (op_leaf (op_of c.args.op)) c.args.start) ++ block_leaves c.in_ok-query.query.value) c.in_ok-left.ensures.ok) (on (past refl (says_passed leaves.quantifier_passed d c.in-Some.ensures) c.in_ok-expect_symbol.ensures) c.in_ok-query.ensures.placed)
+pub expr::comparison-returns-clause-placed : goal.expr::comparison-returns-clause-placed
+expr::comparison-returns-clause-placed i c = λ from d. seen_as (leaves.of_compare_all _ _ _ _ _ ∙ ap (λ x. (expr_leaves x ++ one (op_leaf (op_of c.args.op)) c.args.start) ++ block_leaves c.in_ok-query.query.value) c.in_ok-left.ensures.ok) (on (past refl (says_passed leaves.quantifier_passed d c.in-Some.ensures) c.in_ok-expect_symbol.ensures) c.in_ok-query.ensures.placed)
 
 pub expr::predicate-returns-then-eat_predicate-clause-reads : goal.expr::predicate-returns-then-eat_predicate-clause-reads
 unfolding g.PredicateOf
@@ -380,30 +380,30 @@ query::items-returns-clause-reads i c = list_ends (λ m. g.ItemOf (within m)) c.
 pub query::items-returns-clause-placed : goal.query::items-returns-clause-placed
 query::items-returns-clause-placed i c = stays c.items.invariant.placed c.if-not-eat_symbol.ensures.1
 
-pub expr::signed-returns-in_default-clause-reads : goal.expr::signed-returns-in_default-clause-reads
+pub expr::signed_operand-returns-in_default-clause-reads : goal.expr::signed_operand-returns-in_default-clause-reads
 unfolding g.SignOf
-expr::signed-returns-in_default-clause-reads i c = reads_not_on c.in_default.ensures c.primary.ensures.reads
+expr::signed_operand-returns-in_default-clause-reads i c = reads_not_on c.in_default.ensures c.primary.ensures.reads
 
-pub expr::signed-returns-in_default-clause-placed : goal.expr::signed-returns-in_default-clause-placed
-expr::signed-returns-in_default-clause-placed i c = ok_then _ c.primary.ensures.placed (λ e d. on (stays here c.in_default.ensures.1) d)
+pub expr::signed_operand-returns-in_default-clause-placed : goal.expr::signed_operand-returns-in_default-clause-placed
+expr::signed_operand-returns-in_default-clause-placed i c = ok_then _ c.primary.ensures.placed (λ e d. on (stays here c.in_default.ensures.1) d)
 
-pub expr::signed-returns-in_err-below-clause-reads : goal.expr::signed-returns-in_err-below-clause-reads
+pub expr::signed_operand-returns-in_err-below-clause-reads : goal.expr::signed_operand-returns-in_err-below-clause-reads
 unfolding g.SignOf
-expr::signed-returns-in_err-below-clause-reads i c = let o = sign_opens _ _ c.in-Some.ensures.0 in answers _ _ (search rules) (deep_reads o.0 o.1 (λ us at. nowhere_first us at (nowhere_never us at)) o.2 c.in-Some.ensures c.in_err-below.ensures.deep)
+expr::signed_operand-returns-in_err-below-clause-reads i c = let o = sign_opens _ _ c.in-Some.ensures.0 in answers _ _ (search rules) (deep_reads o.0 o.1 (λ us at. nowhere_first us at (nowhere_never us at)) o.2 c.in-Some.ensures c.in_err-below.ensures.deep)
 
-pub expr::signed-returns-in_err-operand-clause-reads : goal.expr::signed-returns-in_err-operand-clause-reads
+pub expr::signed_operand-returns-in_err-operand-clause-reads : goal.expr::signed_operand-returns-in_err-operand-clause-reads
 unfolding g.SignOf
-expr::signed-returns-in_err-operand-clause-reads i c = let o = sign_opens _ _ c.in-Some.ensures.0 in answers _ _ (search rules) (opens_reads o.0 o.1 c.in_ok-below.ensures.ok o.2 c.in-Some.ensures (then_fails (inside (λ us at. nowhere_never us at) c.in_err-operand.ensures.reads)))
+expr::signed_operand-returns-in_err-operand-clause-reads i c = let o = sign_opens _ _ c.in-Some.ensures.0 in answers _ _ (search rules) (opens_reads o.0 o.1 c.in_ok-below.ensures.ok o.2 c.in-Some.ensures (then_fails (inside (λ us at. nowhere_never us at) c.in_err-operand.ensures.reads)))
 
-pub expr::signed-returns-in_err-operand-2-clause-reads : goal.expr::signed-returns-in_err-operand-2-clause-reads
-expr::signed-returns-in_err-operand-2-clause-reads i c = answers _ _ (search rules) (no_memory refl)
+pub expr::signed_operand-returns-in_err-operand-2-clause-reads : goal.expr::signed_operand-returns-in_err-operand-2-clause-reads
+expr::signed_operand-returns-in_err-operand-2-clause-reads i c = answers _ _ (search rules) (no_memory refl)
 
-pub expr::signed-returns-clause-reads : goal.expr::signed-returns-clause-reads
+pub expr::signed_operand-returns-clause-reads : goal.expr::signed_operand-returns-clause-reads
 unfolding g.SignOf
-expr::signed-returns-clause-reads i c = let o = sign_opens _ _ c.in-Some.ensures.0 in opens_reads o.0 o.1 c.in_ok-below.ensures.ok o.2 c.in-Some.ensures (then_on (λ m. (within_alike (suc c.in_ok-below.below) m).sign) (inside (λ us at. nowhere_never us at) c.in_ok-operand.ensures.reads) (gives_as (of_signed _ _ _ ∙ ap (λ z. tree.Signed c.in-Some.minus (expr_of z)) c.in_ok-operand-2.ensures.ok)))
+expr::signed_operand-returns-clause-reads i c = let o = sign_opens _ _ c.in-Some.ensures.0 in opens_reads o.0 o.1 c.in_ok-below.ensures.ok o.2 c.in-Some.ensures (then_on (λ m. (within_alike (suc c.in_ok-below.below) m).sign) (inside (λ us at. nowhere_never us at) c.in_ok-operand.ensures.reads) (gives_as (of_signed _ _ _ ∙ ap (λ z. tree.Signed c.in-Some.minus (expr_of z)) c.in_ok-operand-2.ensures.ok)))
 
-pub expr::signed-returns-clause-placed : goal.expr::signed-returns-clause-placed
-expr::signed-returns-clause-placed i c = seen_as (leaves.of_signed _ _ _ ∙ ap (λ z. one (sign_leaf c.in-Some.minus) c.start-start.result ++ expr_leaves z) c.in_ok-operand-2.ensures.ok) (on (says_leaf leaves.sign_says here c.start-start.ensures c.in-Some.ensures) c.in_ok-operand.ensures.placed)
+pub expr::signed_operand-returns-clause-placed : goal.expr::signed_operand-returns-clause-placed
+expr::signed_operand-returns-clause-placed i c = seen_as (leaves.of_signed _ _ _ ∙ ap (λ z. one (sign_leaf c.in-Some.minus) c.start-start.result ++ expr_leaves z) c.in_ok-operand-2.ensures.ok) (on (says_leaf leaves.sign_says here c.start-start.ensures c.in-Some.ensures) c.in_ok-operand.ensures.placed)
 
 pub expr::primary-returns-in-Some-clause-reads : goal.expr::primary-returns-in-Some-clause-reads
 unfolding g.PrimaryOf

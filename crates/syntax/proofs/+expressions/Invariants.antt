@@ -24,8 +24,8 @@ decreases-expr::test l = 32 * l.levels + 15
 abbrev pub decreases-expr::tail : goal.decreases-expr::tail
 decreases-expr::tail l = 32 * l.levels + 14
 
-abbrev pub decreases-expr::compared : goal.decreases-expr::compared
-decreases-expr::compared l = 32 * l.levels + 13
+abbrev pub decreases-expr::comparison : goal.decreases-expr::comparison
+decreases-expr::comparison l = 32 * l.levels + 13
 
 abbrev pub decreases-expr::predicate : goal.decreases-expr::predicate
 decreases-expr::predicate l = 32 * l.levels + 13
@@ -33,8 +33,8 @@ decreases-expr::predicate l = 32 * l.levels + 13
 abbrev pub decreases-expr::between : goal.decreases-expr::between
 decreases-expr::between l = 32 * l.levels + 12
 
-abbrev pub decreases-expr::signed : goal.decreases-expr::signed
-decreases-expr::signed l = 32 * l.levels + 4
+abbrev pub decreases-expr::signed_operand : goal.decreases-expr::signed_operand
+decreases-expr::signed_operand l = 32 * l.levels + 4
 
 abbrev pub decreases-expr::primary : goal.decreases-expr::primary
 decreases-expr::primary l = 32 * l.levels + 3

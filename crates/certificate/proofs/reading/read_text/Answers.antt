@@ -8,11 +8,11 @@ use Rattle.certificate.proofs.reading.read_text.Goals as goal
 pub returns-in-Ok-clause-ok : goal.returns-in-Ok-clause-ok
 returns-in-Ok-clause-ok c = λ of is.
     let said = said_of c.in-Ok.said in
-    IfOk-weaker c.meant.result (IsMeant (block_in c.args.block.now) said) (IsRead of c.args.bytes.now)
-    (is_read of c.args.block.now is c.args.bytes.now said c.in-Ok.ensures.said) c.meant.ensures.ok
+    IfOk-weaker c.read_meaning.result (IsMeant (block_in c.args.block.now) said) (IsRead of c.args.bytes.now)
+    (is_read of c.args.block.now is c.args.bytes.now said c.in-Ok.ensures.said) c.read_meaning.ensures.ok
 
 pub returns-in-Ok-clause-err : goal.returns-in-Ok-clause-err
 returns-in-Ok-clause-err c = λ of is.
     let said = said_of c.in-Ok.said in
-    IfErr-weaker c.meant.result (IsLacking (block_in c.args.block.now) said) (HasTextFault of c.args.bytes.now)
-    (is_faulty of c.args.block.now is c.args.bytes.now said c.in-Ok.ensures.said) c.meant.ensures.err
+    IfErr-weaker c.read_meaning.result (IsLacking (block_in c.args.block.now) said) (HasTextFault of c.args.bytes.now)
+    (is_faulty of c.args.block.now is c.args.bytes.now said c.in-Ok.ensures.said) c.read_meaning.ensures.err

@@ -31,5 +31,5 @@ pub returns : goal.returns
 returns t c =
     let is : c.args.words ≡ c.in-Some.left + 1 = omega (arith, c.in-Some.ensures) in
     let other : get_or c.args.text.now 0 0 ≢ 65 = λ e. c.if-first_byte-eq65.false (c.first_byte.ensures ∙ e) in
-    last _ _ _ _ (plan_tells (version_of c.args.version) c.args.words c.in-Some.left c.args.text.now is other) (λ (p : WrittenPlan). (plan_said c.in_ok-below.below, plan_said p)) c.in_ok-around.around c.in_ok-around.text.now c.in_ok-around.ensures c.wrapped.result
-    (then_reads _ (λ (p : Plan). WrappedIn (version_of c.args.version) c.in_ok-around.around p) plan_said (plan_said c.in_ok-below.below) c.in_ok-below.text.now c.in_ok-below.ensures c.wrapped.result c.wrapped.ensures)
+    last _ _ _ _ (plan_tells (version_of c.args.version) c.args.words c.in-Some.left c.args.text.now is other) (λ (p : WrittenPlan). (plan_said c.in_ok-below.below, plan_said p)) c.in_ok-around.around c.in_ok-around.text.now c.in_ok-around.ensures c.read_behind.result
+    (then_reads _ (λ (p : Plan). WrappedIn (version_of c.args.version) c.in_ok-around.around p) plan_said (plan_said c.in_ok-below.below) c.in_ok-below.text.now c.in_ok-below.ensures c.read_behind.result c.read_behind.ensures)

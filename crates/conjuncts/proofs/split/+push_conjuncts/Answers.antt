@@ -42,11 +42,11 @@ returns-after-loop-part t c =
 pub returns-in_ok-push-in_default : goal.returns-in_ok-push-in_default
 returns-in_ok-push-in_default t c =
     let old = c.args.conjuncts.now.items in
-    let new = c.judged.result in
+    let new = c.classify.result in
     let items : c.push.new.self.items ≡ old ++ new ∷ [] = c.in_ok-push-in_default.ensures.items in
-    let own = ap (λ z. map condition_in old ++ z ∷ []) c.judged.ensures.itself ∙ ap (λ ys. map condition_in old ++ ys) (sym (alone c.args.condition.now c.in_default.not-And)) in
+    let own = ap (λ z. map condition_in old ++ z ∷ []) c.classify.ensures.itself ∙ ap (λ ys. map condition_in old ++ ys) (sym (alone c.args.condition.now c.in_default.not-And)) in
     record {
       whole = ap (map condition_in) items ∙ with_last old new ∙ own;
-      late = rw items (all_last IsJudged old new c.requires.late c.judged.ensures.late);
-      tables = rw items (all_last HasItsTables old new c.requires.tables c.judged.ensures.tables);
+      late = rw items (all_last IsJudged old new c.requires.late c.classify.ensures.late);
+      tables = rw items (all_last HasItsTables old new c.requires.tables c.classify.ensures.tables);
     }

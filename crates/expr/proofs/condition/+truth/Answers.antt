@@ -29,7 +29,7 @@ pub returns-in-None : goal.returns-in-None
 returns-in-None g t c =
     let env = g.S.Environment.environment c.args.env.now in
     let tree = ap condition_of c.in-Compare.is ∙ of_compare c.in-Compare.op c.in-Compare.left c.in-Compare.right in
-    rw tree (c.compared.ensures (value env (tree_of c.in-Compare.left)) (value env (tree_of c.in-Compare.right)) c.value.ensures c.value-in-None.ensures)
+    rw tree (c.comparison.ensures (value env (tree_of c.in-Compare.left)) (value env (tree_of c.in-Compare.right)) c.value.ensures c.value-in-None.ensures)
 
 pub returns-in-IsNull : goal.returns-in-IsNull
 returns-in-IsNull g t c =
@@ -72,7 +72,7 @@ returns-in-InQuery g t c =
     let tree = ap condition_of b.is ∙ of_in_query b.negated b.operand b.block in
     let m = value env (tree_of b.operand) in
     let n = on_one column_values (env.inner b.block) in
-    rw tree (c.unless-in-InQuery.ensures (on_two (compared_with_any Equals) m n) (c.quantified-in-InQuery.ensures m n c.value-in-InQuery.ensures c.first_values-in-InQuery.ensures))
+    rw tree (c.unless-in-InQuery.ensures (on_two (compared_with_any Equals) m n) (c.quantified_comparison-in-InQuery.ensures m n c.value-in-InQuery.ensures c.first_values-in-InQuery.ensures))
 
 -- ---- AND
 

@@ -4,4 +4,4 @@ use Rattle.definitions.specs.Queries.Evaluation.{on_two}
 use Rattle.expr.proofs.condition.between.Goals as goal
 
 pub returns : goal.returns
-returns c m l h p q r = c.both.ensures (on_two (compared GreaterOrEquals) m l) (on_two (compared LessOrEquals) m h) (c.compared.ensures m l p q) (c.compared-2.ensures m h p r)
+returns c m l h p q r = c.both.ensures (on_two (compared GreaterOrEquals) m l) (on_two (compared LessOrEquals) m h) (c.comparison.ensures m l p q) (c.comparison-2.ensures m h p r)

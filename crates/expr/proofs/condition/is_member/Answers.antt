@@ -25,4 +25,4 @@ loop-member-preserved g c m h =
     let all = map member_of c.args.members.now in
     let s : Sought env m all (member_of x ∷ rest) (truth_answer_of c.loop-member.any) = rw (member_next member_of c.args.members.now c.loop-member.member-index x c.loop-member-test.true c.member-item.is) at (c.loop-member.invariant m h) in
     sought_next env m all rest (member_of x) (truth_answer_of c.loop-member.any) (truth_answer_of c.either-any.result) s
-    (c.either-any.ensures s.found (on_two (compared Equals) m (member env (member_of x))) s.tells (c.compared.ensures m (member env (member_of x)) h c.member_value.ensures))
+    (c.either-any.ensures s.found (on_two (compared Equals) m (member env (member_of x))) s.tells (c.comparison.ensures m (member env (member_of x)) h c.member_value.ensures))

@@ -43,8 +43,8 @@ value-requires-in-loop-operand g t c κs within =
     let typed : (type : ValueType) × (value_type (tree_of x.value) ≡ Some type) = (n.typed.type, n.typed.is) in
     search (rules, the_lemmas, fits, typed)
 
-pub operated-left-requires : goal.operated-left-requires
-operated-left-requires g t c =
+pub apply_operator-left-requires : goal.apply_operator-left-requires
+apply_operator-left-requires g t c =
     let env = g.S.Environment.environment c.args.env.now in
     let x = c.operand-item.result in
     let rest = operands (map operand_of (drop (c.loop-operand.operand-index + 1) c.deref-operand-items.result.now)) in
@@ -59,4 +59,4 @@ loop-operand-preserved g t c =
     let rest = operands (map operand_of (drop (c.loop-operand.operand-index + 1) c.deref-operand-items.result.now)) in
     let r : Reached env (value env (tree_of c.args.expr.now)) (spec.Operand (operator_of x.operator) (tree_of x.value) rest) (answer_of c.loop-operand.left) = rw (item_next c.deref-operand-items.result.now c.loop-operand.operand-index x c.loop-operand-test.true c.operand-item.is) at c.loop-operand.invariant in
     let n = next env (value env (tree_of c.args.expr.now)) (operator_of x.operator) (tree_of x.value) rest (answer_of c.loop-operand.left) r in
-    n.reached (answer_of c.operated-left.result) (c.operated-left.ensures n.left (value env (tree_of x.value)) n.tells c.value-in-loop-operand.ensures)
+    n.reached (answer_of c.apply_operator-left.result) (c.apply_operator-left.ensures n.left (value env (tree_of x.value)) n.tells c.value-in-loop-operand.ensures)

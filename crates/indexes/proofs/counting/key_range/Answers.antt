@@ -11,6 +11,6 @@ use Rattle.indexes.proofs.counting.key_range.Goals.{in-Num, in_default}
 
 pub loop-row-preserved : goal.loop-row-preserved
 loop-row-preserved c = elim c.match-cell.branch [
-  | in-Num w ↦ ap (option_map key_range_of) w.range-is ∙ with_number c.args.column.now.values c.loop-row.row _ w.in-Num.number.units w.in-Num.number.scale (option_map key_range_of c.loop-row.range) (key_range_of w.widened.result) (omega (arith, c.loop-row-test.true, c.requires)) c.cell.ensures (ap value_of w.in-Num.is) c.loop-row.invariant (w.widened.ensures ∙ ap (widened_by (option_map key_range_of c.loop-row.range)) (to_z-of_z w128 w.in-Num.number.units (fits_signed_from_abs w128 w.in-Num.number.units (omega (arith, w.in-Num.number.bounded)))))
+  | in-Num w ↦ ap (option_map key_range_of) w.range-is ∙ with_number c.args.column.now.values c.loop-row.row _ w.in-Num.number.units w.in-Num.number.scale (option_map key_range_of c.loop-row.range) (key_range_of w.widen_range.result) (omega (arith, c.loop-row-test.true, c.requires)) c.cell.ensures (ap value_of w.in-Num.is) c.loop-row.invariant (w.widen_range.ensures ∙ ap (widened_by (option_map key_range_of c.loop-row.range)) (to_z-of_z w128 w.in-Num.number.units (fits_signed_from_abs w128 w.in-Num.number.units (omega (arith, w.in-Num.number.bounded)))))
   | in_default w ↦ ap (option_map key_range_of) w.range-is ∙ without_number c.args.column.now.values c.loop-row.row _ (option_map key_range_of c.loop-row.range) (omega (arith, c.loop-row-test.true, c.requires)) c.cell.ensures (no_number c.cell.result w.in_default.not-Num) c.loop-row.invariant
 ]

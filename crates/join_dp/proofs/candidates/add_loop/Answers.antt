@@ -20,17 +20,17 @@ returns-in_default-clause-low c = none_dearer (space_in c.args.space.now) (state
 
 pub add_join-requires-clause-added : goal.add_join-requires-clause-added
 add_join-requires-clause-added c =
-    loop_added (space_in c.args.space.now) (states_in c.args.states.now) (set_of c.args.tables) c.args.table (item_of c.in-Some.item) _ _ _ c.requires.follows (c.in-Some.ensures.0, c.in-Some.ensures.1) c.from-cardinality.ensures c.cardinality.ensures.exact _ c.from.ensures c.saturated-cost.ensures.exact
+    loop_added (space_in c.args.space.now) (states_in c.args.states.now) (set_of c.args.tables) c.args.table (item_of c.in-Some.item) _ _ _ c.requires.follows (c.in-Some.ensures.0, c.in-Some.ensures.1) c.from-cardinality.ensures c.cardinality.ensures.exact _ c.from.ensures c.saturate-cost.ensures.exact
 
 pub returns-clause-least : goal.returns-clause-least
 returns-clause-least c =
-    let added = loop_added (space_in c.args.space.now) (states_in c.args.states.now) (set_of c.args.tables) c.args.table (item_of c.in-Some.item) _ _ _ c.requires.follows (c.in-Some.ensures.0, c.in-Some.ensures.1) c.from-cardinality.ensures c.cardinality.ensures.exact _ c.from.ensures c.saturated-cost.ensures.exact in
-    loop_least (space_in c.args.space.now) (states_in c.args.states.now) (set_of c.args.tables) c.args.table (item_of c.in-Some.item) c.saturated-cost.result (c.in-Some.ensures.0, c.in-Some.ensures.1) added.cost c.in-Some.ensures.2
+    let added = loop_added (space_in c.args.space.now) (states_in c.args.states.now) (set_of c.args.tables) c.args.table (item_of c.in-Some.item) _ _ _ c.requires.follows (c.in-Some.ensures.0, c.in-Some.ensures.1) c.from-cardinality.ensures c.cardinality.ensures.exact _ c.from.ensures c.saturate-cost.ensures.exact in
+    loop_least (space_in c.args.space.now) (states_in c.args.states.now) (set_of c.args.tables) c.args.table (item_of c.in-Some.item) c.saturate-cost.result (c.in-Some.ensures.0, c.in-Some.ensures.1) added.cost c.in-Some.ensures.2
 
 pub returns-clause-low : goal.returns-clause-low
 returns-clause-low c =
-    let added = loop_added (space_in c.args.space.now) (states_in c.args.states.now) (set_of c.args.tables) c.args.table (item_of c.in-Some.item) _ _ _ c.requires.follows (c.in-Some.ensures.0, c.in-Some.ensures.1) c.from-cardinality.ensures c.cardinality.ensures.exact _ c.from.ensures c.saturated-cost.ensures.exact in
-    low_by_dearer (space_in c.args.space.now) (states_in c.args.states.now) (set_of c.args.tables) c.args.table (path_of c.in-Some.item.path.now) c.saturated-cost.result c.add_join.new.row.found added.cost c.add_join.ensures.low
+    let added = loop_added (space_in c.args.space.now) (states_in c.args.states.now) (set_of c.args.tables) c.args.table (item_of c.in-Some.item) _ _ _ c.requires.follows (c.in-Some.ensures.0, c.in-Some.ensures.1) c.from-cardinality.ensures c.cardinality.ensures.exact _ c.from.ensures c.saturate-cost.ensures.exact in
+    low_by_dearer (space_in c.args.space.now) (states_in c.args.states.now) (set_of c.args.tables) c.args.table (path_of c.in-Some.item.path.now) c.saturate-cost.result c.add_join.new.row.found added.cost c.add_join.ensures.low
 
 pub returns-clause-steps : goal.returns-clause-steps
 returns-clause-steps c =

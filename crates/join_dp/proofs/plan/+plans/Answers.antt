@@ -24,12 +24,12 @@ plan_at-returns-in_ok-new-in-Some t c = λ space complete made.
     let boxed = subst (λ p. IsPlanAt space (states_in c.args.states.now) c.args.place (Sort (plan_of p) c.in-Some.order)) (sym c.in_ok-new-in-Some.ensures.ok) plan in
     subst (IsPlanAt space (states_in c.args.states.now) c.args.place) (sym (of_sort c.in_ok-new-in-Some.field-0 c.in-Some.order)) boxed
 
-pub step_plan-returns-in_ok-copied-in-Access : goal.step_plan-returns-in_ok-copied-in-Access
-step_plan-returns-in_ok-copied-in-Access t c = λ space complete made.
+pub step_plan-returns-in_ok-copy_path-in-Access : goal.step_plan-returns-in_ok-copy_path-in-Access
+step_plan-returns-in_ok-copy_path-in-Access t c = λ space complete made.
     let is = sym (ap (λ (s : Solved). s.found.step) c.at.ensures) ∙ ap step_of c.in-Access.is in
     let plan = step_as space complete (states_in c.args.states.now) c.args.place _ (Access (path_of c.in-Access.path.now)) is (access_step space complete (states_in c.args.states.now) c.args.place _ (path_of c.in-Access.path.now)) in
-    let copy = subst (λ p. IsStepPlanAt space (states_in c.args.states.now) c.args.place (Access p)) (sym c.in_ok-copied-in-Access.ensures) plan in
-    subst (IsStepPlanAt space (states_in c.args.states.now) c.args.place) (sym (of_access c.in_ok-copied-in-Access.field-0)) copy
+    let copy = subst (λ p. IsStepPlanAt space (states_in c.args.states.now) c.args.place (Access p)) (sym c.in_ok-copy_path-in-Access.ensures) plan in
+    subst (IsStepPlanAt space (states_in c.args.states.now) c.args.place) (sym (of_access c.in_ok-copy_path-in-Access.field-0)) copy
 
 pub step_plan-returns-in_ok-outer-in-Join : goal.step_plan-returns-in_ok-outer-in-Join
 step_plan-returns-in_ok-outer-in-Join t c = λ space complete made.

@@ -32,9 +32,9 @@ returns c = λ plan is.
     let path = path_of c.args.path.now in
     let item = item_of c.in_ok-item.item in
     let follows : MayFollow space tables (table_of path) = subst (MayFollow space tables) c.table.ensures (c.if-not-follows.ensures.exact.0 refl) in
-    let scans : c.saturated-scans.result ≡ saturated (space.cardinality tables * item.cost) =
-    c.saturated-scans.ensures.exact ∙ ap₂ (λ a b. saturated (a * b)) (c.from-rows.ensures ∙ c.cardinality.ensures.exact) c.from.ensures in
-    let cost : c.saturated.result ≡ saturated (c.args.outer.cost + saturated (space.cardinality tables * item.cost)) =
-    c.saturated.ensures.exact ∙ ap₂ (λ a b. saturated (a + b)) c.from-2.ensures (c.from-3.ensures ∙ scans) in
+    let scans : c.saturate-scans.result ≡ saturated (space.cardinality tables * item.cost) =
+    c.saturate-scans.ensures.exact ∙ ap₂ (λ a b. saturated (a * b)) (c.from-rows.ensures ∙ c.cardinality.ensures.exact) c.from.ensures in
+    let cost : c.saturate.result ≡ saturated (c.args.outer.cost + saturated (space.cardinality tables * item.cost)) =
+    c.saturate.ensures.exact ∙ ap₂ (λ a b. saturated (a + b)) c.from-2.ensures (c.from-3.ensures ∙ scans) in
     a_loop space plan c.args.outer is path item _ follows c.in_ok-item.ensures.exact (c.with.ensures ∙ ap (with_table tables) c.table-2.ensures) refl cost
     (or_lt space.table_count tables (only (table_of path)) c.requires (pow_below (table_of path) space.table_count follows.0))

@@ -40,6 +40,6 @@ returns c = λ plan is.
     let follows : MayFollow space tables (table_of inner.path) = subst (MayFollow space tables) c.table-table.ensures (c.if-not-follows.ensures.exact.0 refl) in
     let goes : GoesBy space tables c.args.outer.order c.args.conjunct (table_of inner.path) =
     subst (λ (t : ℕ). GoesBy space tables c.args.outer.order c.args.conjunct t) c.table-table.ensures (c.if-not-goes_by.ensures.0 refl) in
-    let cost : c.saturated.result ≡ saturated (c.args.outer.cost + item.cost) = c.saturated.ensures.exact ∙ ap₂ (λ a b. saturated (a + b)) c.from.ensures c.from-2.ensures in
+    let cost : c.saturate.result ≡ saturated (c.args.outer.cost + item.cost) = c.saturate.ensures.exact ∙ ap₂ (λ a b. saturated (a + b)) c.from.ensures c.from-2.ensures in
     a_merge space plan c.args.outer is c.args.conjunct inner item _ follows goes c.in_ok-item.ensures (c.with.ensures ∙ ap (with_table tables) c.table-table.ensures) refl cost
     (or_lt space.table_count tables (only (table_of inner.path)) c.requires (pow_below (table_of inner.path) space.table_count follows.0))

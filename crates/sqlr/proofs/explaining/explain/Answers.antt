@@ -12,7 +12,7 @@ use Rattle.sqlr.proofs.explaining.explain.Goals as goal
 
 pub returns-in-Err-Refused-clause-explains : goal.returns-in-Err-Refused-clause-explains
 returns-in-Err-Refused-clause-explains c =
-    fault_told _ _ _ _ (rw c.refusal.ensures (rw c.in-Err-Refused.field-0-is at c.in-Err-Refused.ensures.refused)) c.refused.ensures.text c.refused.ensures.ended
+    fault_told _ _ _ _ (rw c.refusal.ensures (rw c.in-Err-Refused.field-0-is at c.in-Err-Refused.ensures.refused)) c.refusal_line.ensures.text c.refusal_line.ensures.ended
 
 pub explain_text-requires-clause-formed : goal.explain_text-requires-clause-formed
 explain_text-requires-clause-formed c =

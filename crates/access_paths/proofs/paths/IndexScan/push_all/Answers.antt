@@ -17,7 +17,7 @@ chains-init c = λ i size.
     pushed path_told c.args.paths.now.items c.push.new.self.items c.whole.result (whole_found e.database b s.table s.number i c.args.backward)
     (map (matching_found e.database b s.table s.number i c.args.backward) (map chain_told c.args.chains.now)) c.in_ok-push.ensures.items (c.whole.ensures.exact e.database b i size)
 
-pub matching-requires : goal.matching-requires
-matching-requires c =
+pub matching_path-requires : goal.matching_path-requires
+matching_path-requires c =
     let b = block_of c.args.estimate.now.block in
     record { there = chain_at (λ (k : IndexMatch). AllByRecursion (λ n. n < length (conjuncts b)) k.conjuncts) c.args.chains.now c.chains.chain-index c.chain-item.result c.requires.there c.chains-test.true c.chain-item.is }

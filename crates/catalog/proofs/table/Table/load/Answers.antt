@@ -17,34 +17,34 @@ overflow_add-self c =
     c.deref_mut.ensures.value c.deref.ensures.value (c.in-Ok.ensures).ok refl).1 in
     omega (arith, now.few)
 
-pub counted-self-inside-requires-clause-few : goal.counted-self-inside-requires-clause-few
-counted-self-inside-requires-clause-few c =
+pub table_statistics-self-inside-requires-clause-few : goal.table_statistics-self-inside-requires-clause-few
+table_statistics-self-inside-requires-clause-few c =
     let now = (loading_own (string_bytes c.self.inside.name) c.args.bytes.now c.self.inside.columns.items c.deref_mut.result.now c.grow.new.columns c.grow.new.columns c.self.inside.indexes.items c.deref.result.now c.self.inside.len (table_statistics_of c.self.inside.statistics) c.args.self.now c.in-Ok.field-0 c.self.view_is c.self.invariant.filled c.self.invariant.ordered
     c.deref_mut.ensures.value c.deref.ensures.value (c.in-Ok.ensures).ok refl).1 in
     now.few
 
-pub counted-self-inside-requires-clause-types : goal.counted-self-inside-requires-clause-types
-counted-self-inside-requires-clause-types c =
+pub table_statistics-self-inside-requires-clause-types : goal.table_statistics-self-inside-requires-clause-types
+table_statistics-self-inside-requires-clause-types c =
     let now = (loading_own (string_bytes c.self.inside.name) c.args.bytes.now c.self.inside.columns.items c.deref_mut.result.now c.grow.new.columns c.deref-in-Ok.result.now c.self.inside.indexes.items c.deref.result.now c.self.inside.len (table_statistics_of c.self.inside.statistics) c.args.self.now c.in-Ok.field-0 c.self.view_is c.self.invariant.filled c.self.invariant.ordered
     c.deref_mut.ensures.value c.deref.ensures.value (c.in-Ok.ensures).ok (c.deref-in-Ok.ensures.value ∙ with_items_is c.self.inside.columns c.grow.new.columns (c.grow.auto.columns ∙ c.deref_mut.ensures.len))).1 in
     let valid : IsTable c.args.self.now = rw c.self.view_is at c.self.invariant.valid in
     (types_now _ _ _ _ _ valid now).0
 
-pub counted-self-inside-requires-clause-narrow : goal.counted-self-inside-requires-clause-narrow
-counted-self-inside-requires-clause-narrow c =
+pub table_statistics-self-inside-requires-clause-narrow : goal.table_statistics-self-inside-requires-clause-narrow
+table_statistics-self-inside-requires-clause-narrow c =
     let now = (loading_own (string_bytes c.self.inside.name) c.args.bytes.now c.self.inside.columns.items c.deref_mut.result.now c.grow.new.columns c.deref-in-Ok.result.now c.self.inside.indexes.items c.deref.result.now c.self.inside.len (table_statistics_of c.self.inside.statistics) c.args.self.now c.in-Ok.field-0 c.self.view_is c.self.invariant.filled c.self.invariant.ordered
     c.deref_mut.ensures.value c.deref.ensures.value (c.in-Ok.ensures).ok (c.deref-in-Ok.ensures.value ∙ with_items_is c.self.inside.columns c.grow.new.columns (c.grow.auto.columns ∙ c.deref_mut.ensures.len))).1 in
     let valid : IsTable c.args.self.now = rw c.self.view_is at c.self.invariant.valid in
     (types_now _ _ _ _ _ valid now).1
 
 loaded : (c : goal.After-self-in-Ok-2-1) → LoadedTable (string_bytes c.self.inside.name) c.args.bytes.now (with_items c.self.inside.columns c.grow.new.columns).items c.in-Ok.field-0.indexes.items (c.self.inside.len + c.in-Ok.field-0.rows) c.in-Ok.field-0.rows
-    (table_statistics_of c.counted-self-inside.result) c.args.self.now
+    (table_statistics_of c.table_statistics-self-inside.result) c.args.self.now
 loaded c =
     let valid : IsTable c.args.self.now = rw c.self.view_is at c.self.invariant.valid in
     loaded_own (string_bytes c.self.inside.name) c.args.bytes.now c.self.inside.columns.items c.deref_mut.result.now c.grow.new.columns (with_items c.self.inside.columns c.grow.new.columns).items c.self.inside.indexes.items c.deref.result.now c.self.inside.len
-    (table_statistics_of c.self.inside.statistics) (table_statistics_of c.counted-self-inside.result) c.args.self.now c.in-Ok.field-0 c.self.view_is c.self.invariant.filled c.self.invariant.ordered valid
+    (table_statistics_of c.self.inside.statistics) (table_statistics_of c.table_statistics-self-inside.result) c.args.self.now c.in-Ok.field-0 c.self.view_is c.self.invariant.filled c.self.invariant.ordered valid
     c.deref_mut.ensures.value c.deref.ensures.value (c.in-Ok.ensures).ok (with_items_is c.self.inside.columns c.grow.new.columns (c.grow.auto.columns ∙ c.deref_mut.ensures.len))
-    (rw c.deref-in-Ok.ensures.value at c.counted-self-inside.ensures)
+    (rw c.deref-in-Ok.ensures.value at c.table_statistics-self-inside.ensures)
 
 pub invariant_of-self : goal.invariant_of-self
 invariant_of-self c = let t = loaded c in record { filled = t.filled; few = t.few; ordered = t.ordered; valid = t.valid }

@@ -1,9 +1,8 @@
 use Rattle.std.proofs.Common.{◌≡◌, ◌∙◌, sym, ap, true, false, rules, refl, FitsSigned}
 use Rattle.std.specs.Int.{w128}
 use Rattle.std.specs.Prelude.{not, ◌&&◌}
-use Rattle.definitions.specs.Key.{is_null}
 use Rattle.definitions.specs.IndexRun.{is_from, Inclusive, Exclusive}
-use Rattle.definitions.specs.Value.{Number, scale_of}
+use Rattle.definitions.specs.Value.{Number, scale_of, is_null}
 use Rattle.std.proofs.lemmas.Int.{to_z-of_z}
 use Rattle.columns.specs.Starts.{starts, limit_of}
 use Rattle.columns.specs.declared.lower_bound.LowerBound.TheVariants as at

@@ -32,8 +32,8 @@ returns-in-Err-extended-clause-refused c =
     let refused = no_order c.args.rows c.args.columns.now c.self.inside.columns.items _ _ c.in-Err-extended.fault (search rules) c.requires.filled on (c.in-Err-extended.ensures).refused in
     subst (λ (i : StoredIndex). RefusesIndexOn (rows_of c.args.rows c.args.columns.now) i.index.columns i.index.unique c.in-Err-extended.fault) c.self.view_is refused
 
-pub counted-statistics-requires-clause-run : goal.counted-statistics-requires-clause-run
-counted-statistics-requires-clause-run c =
+pub index_statistics-statistics-requires-clause-run : goal.index_statistics-statistics-requires-clause-run
+index_statistics-statistics-requires-clause-run c =
     let on = subst (λ (i : StoredIndex). AreIndexColumns (length c.args.columns.now) i.index.columns) (sym c.self.view_is) c.requires.on in
     let cells = ap columns_of c.as_slice-3.ensures.value ∙ c.in-Ok.ensures ∙ ap (key_cells c.args.columns.now) c.as_slice.ensures.value in
     let run = run_had c.args.rows c.args.columns.now c.self.inside.columns.items _ (is_unique c.self.inside.order) c.in-Ok-extended.order cells c.requires.filled on (c.in-Ok-extended.ensures).ok in
@@ -47,6 +47,6 @@ returns-clause-ok c =
     let on = subst (λ (i : StoredIndex). AreIndexColumns (length c.args.columns.now) i.index.columns) (sym c.self.view_is) c.requires.on in
     let cells = ap columns_of c.as_slice-3.ensures.value ∙ c.in-Ok.ensures ∙ ap (key_cells c.args.columns.now) c.as_slice.ensures.value in
     let kept = (c.in-Ok-from_slice.ensures).items ∙ c.as_slice-2.ensures.value in
-    let statistics = c.counted-statistics.ensures ∙ ap (index_statistics columns rows) (c.as_slice-4.ensures.value ∙ kept) in
+    let statistics = c.index_statistics-statistics.ensures ∙ ap (index_statistics columns rows) (c.as_slice-4.ensures.value ∙ kept) in
     let had = index_had c.args.rows c.args.columns.now c.self.inside.columns.items _ _ (is_unique c.self.inside.order) c.in-Ok-extended.order _ cells c.requires.filled on (c.in-Ok-extended.ensures).ok kept statistics in
     on_same columns rows _ _ _ c.self.view_is had

@@ -18,8 +18,8 @@ build-requires-clause-few c = not_high c.args.rows c.args.columns.now c.args.num
 pub returns-in-Err-build-clause-refused : goal.returns-in-Err-build-clause-refused
 returns-in-Err-build-clause-refused c = no_order c.args.rows c.args.columns.now c.args.numbers.items _ c.args.unique c.in-Err-build.fault (search rules) c.requires.filled c.requires.on (c.in-Err-build.ensures).refused
 
-pub counted-statistics-requires-clause-run : goal.counted-statistics-requires-clause-run
-counted-statistics-requires-clause-run c =
+pub index_statistics-statistics-requires-clause-run : goal.index_statistics-statistics-requires-clause-run
+index_statistics-statistics-requires-clause-run c =
     let cells = ap columns_of c.as_slice-2.ensures.value ∙ c.in-Ok.ensures ∙ ap (key_cells c.args.columns.now) c.as_slice.ensures.value in
     let run = run_had c.args.rows c.args.columns.now c.args.numbers.items _ c.args.unique c.in-Ok-build.order cells c.requires.filled c.requires.on (c.in-Ok-build.ensures).ok in
     subst (λ numbers. IsRun (map (key_of numbers) (rows_of c.args.rows c.args.columns.now)) (run_of c.in-Ok-build.order).entries) (sym c.as_slice-3.ensures.value) run
@@ -27,5 +27,5 @@ counted-statistics-requires-clause-run c =
 pub returns-clause-ok : goal.returns-clause-ok
 returns-clause-ok c =
     let cells = ap columns_of c.as_slice-2.ensures.value ∙ c.in-Ok.ensures ∙ ap (key_cells c.args.columns.now) c.as_slice.ensures.value in
-    let statistics = c.counted-statistics.ensures ∙ ap (index_statistics (headers c.args.columns.now) (rows_of c.args.rows c.args.columns.now)) c.as_slice-3.ensures.value in
+    let statistics = c.index_statistics-statistics.ensures ∙ ap (index_statistics (headers c.args.columns.now) (rows_of c.args.rows c.args.columns.now)) c.as_slice-3.ensures.value in
     index_had c.args.rows c.args.columns.now c.args.numbers.items c.args.numbers.items _ c.args.unique c.in-Ok-build.order _ cells c.requires.filled c.requires.on (c.in-Ok-build.ensures).ok refl statistics

@@ -10,8 +10,8 @@ first_from-from-requires-clause-ordered c =
 
 pub returns-in_default-start-clause-exact : goal.returns-in_default-start-clause-exact
 returns-in_default-start-clause-exact c =
-    let a : AreApart (cells_of c.self.inside.values).type (limit_of c.turned.result) = c.in_default-start.ensures.none (search rules) in
-    λ place h l. nothing_high c.args.self.now _ c.self.view_is c.self.invariant.held (limit_of c.args.low) (limit_of c.args.high) (limit_of c.turned.result) c.turned.ensures a place c.args.within.from
+    let a : AreApart (cells_of c.self.inside.values).type (limit_of c.opposite_limit.result) = c.in_default-start.ensures.none (search rules) in
+    λ place h l. nothing_high c.args.self.now _ c.self.view_is c.self.invariant.held (limit_of c.args.low) (limit_of c.args.high) (limit_of c.opposite_limit.result) c.opposite_limit.ensures a place c.args.within.from
 
 pub first_near-requires : goal.first_near-requires
 first_near-requires c = record {
@@ -23,6 +23,6 @@ first_near-requires c = record {
 pub returns-in_default-high : goal.returns-in_default-high
 returns-in_default-high c = record {
   inside = record { from = c.first_from-from.ensures.from; forward = c.first_near.ensures.from; to = c.first_near.ensures.to };
-  exact = range_closed c.args.self.now _ c.self.view_is c.self.invariant.held (limit_of c.args.low) (limit_of c.args.high) (limit_of c.turned.result) c.in-Some.start c.in-Some-start.end c.turned.ensures c.in-Some.ensures.some c.in-Some-start.ensures.some c.in-Some-start.ensures.meets
+  exact = range_closed c.args.self.now _ c.self.view_is c.self.invariant.held (limit_of c.args.low) (limit_of c.args.high) (limit_of c.opposite_limit.result) c.in-Some.start c.in-Some-start.end c.opposite_limit.ensures c.in-Some.ensures.some c.in-Some-start.ensures.some c.in-Some-start.ensures.meets
       c.args.within.from c.args.within.to c.first_from-from.result c.first_near.result c.first_from-from.ensures c.first_near.ensures (not_unlimited c.args.high c.in_default-high.not-Unbounded);
 }

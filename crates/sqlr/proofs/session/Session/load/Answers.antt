@@ -15,7 +15,7 @@ load_bytes-requires g c = some_named c.self.inside.database (name_of c.args.tabl
 pub returns-then-is_none-clause-takes : goal.returns-then-is_none-clause-takes
 returns-then-is_none-clause-takes g c =
     let none : table_named c.self.inside.database (name_of c.args.table.now) ≡ None = none_named c.self.inside.database (name_of c.args.table.now) c.table.result (rw c.as_str.ensures.value at c.table.ensures.named) c.if-is_none.ensures in
-    rw (sym c.self.view_is) (refusal_told _ (record { library = c.self.inside.library; database = c.self.inside.database; work = c.self.inside.work }) _ _ _ _ (faults.no_table _ _ none) refl c.refused.ensures.text c.refused.ensures.ended)
+    rw (sym c.self.view_is) (refusal_told _ (record { library = c.self.inside.library; database = c.self.inside.database; work = c.self.inside.work }) _ _ _ _ (faults.no_table _ _ none) refl c.refusal_line.ensures.text c.refusal_line.ensures.ended)
 
 pub returns-in-Ok-Bytes-clause-takes : goal.returns-in-Ok-Bytes-clause-takes
 returns-in-Ok-Bytes-clause-takes g c =
@@ -25,13 +25,13 @@ returns-in-Ok-Bytes-clause-takes g c =
 pub returns-in-Ok-Absent-clause-takes : goal.returns-in-Ok-Absent-clause-takes
 returns-in-Ok-Absent-clause-takes g c =
     let some : table_named c.self.inside.database (name_of c.args.table.now) ≢ None = some_named c.self.inside.database (name_of c.args.table.now) c.table.result (rw c.as_str.ensures.value at c.table.ensures.named) c.if-is_none.ensures in
-    rw (sym c.self.view_is) (no_file_told _ (record { library = c.self.inside.library; database = c.self.inside.database; work = c.self.inside.work }) _ _ _ _ _ some (rw (c.in-Ok-Absent.field-0-is, c.as_str-2.ensures.value) at c.in-Ok-Absent.ensures.answer) refl c.refused-in-Ok-Absent.ensures.text c.refused-in-Ok-Absent.ensures.ended)
+    rw (sym c.self.view_is) (no_file_told _ (record { library = c.self.inside.library; database = c.self.inside.database; work = c.self.inside.work }) _ _ _ _ _ some (rw (c.in-Ok-Absent.field-0-is, c.as_str-2.ensures.value) at c.in-Ok-Absent.ensures.answer) refl c.refusal_line-in-Ok-Absent.ensures.text c.refusal_line-in-Ok-Absent.ensures.ended)
 
 pub returns-then-is_none-clause-breaks : goal.returns-then-is_none-clause-breaks
-returns-then-is_none-clause-breaks g c = rw (sym c.self.view_is) (nothing_changed _ _ (record { library = c.self.inside.library; database = c.self.inside.database; work = c.self.inside.work }) _ c.refused.result c.refused.ensures.memory)
+returns-then-is_none-clause-breaks g c = rw (sym c.self.view_is) (nothing_changed _ _ (record { library = c.self.inside.library; database = c.self.inside.database; work = c.self.inside.work }) _ c.refusal_line.result c.refusal_line.ensures.memory)
 
 pub returns-then-is_none-clause-blamed : goal.returns-then-is_none-clause-blamed
-returns-then-is_none-clause-blamed g c = none_blamed _ _ c.refused.result refl c.refused.ensures.memory
+returns-then-is_none-clause-blamed g c = none_blamed _ _ c.refusal_line.result refl c.refusal_line.ensures.memory
 
 pub returns-in-Ok-Bytes-clause-breaks : goal.returns-in-Ok-Bytes-clause-breaks
 returns-in-Ok-Bytes-clause-breaks g c =
@@ -46,10 +46,10 @@ pub returns-in-Ok-Absent-clause-breaks : goal.returns-in-Ok-Absent-clause-breaks
 returns-in-Ok-Absent-clause-breaks g c =
     let some : table_named c.self.inside.database (name_of c.args.table.now) ≢ None = some_named c.self.inside.database (name_of c.args.table.now) c.table.result (rw c.as_str.ensures.value at c.table.ensures.named) c.if-is_none.ensures in
     let state : State g.row.L.Denot = record { library = c.self.inside.library; database = c.self.inside.database; work = c.self.inside.work } in
-    rw (sym c.self.view_is) (answered_at _ _ state _ _ _ some _ None c.refused-in-Ok-Absent.result (rw (c.in-Ok-Absent.field-0-is, c.as_str-2.ensures.value) at c.in-Ok-Absent.ensures.answer) c.refused-in-Ok-Absent.ensures.memory (as_it_was _ c.refused-in-Ok-Absent.result))
+    rw (sym c.self.view_is) (answered_at _ _ state _ _ _ some _ None c.refusal_line-in-Ok-Absent.result (rw (c.in-Ok-Absent.field-0-is, c.as_str-2.ensures.value) at c.in-Ok-Absent.ensures.answer) c.refusal_line-in-Ok-Absent.ensures.memory (as_it_was _ c.refusal_line-in-Ok-Absent.result))
 
 pub returns-in-Ok-Absent-clause-blamed : goal.returns-in-Ok-Absent-clause-blamed
-returns-in-Ok-Absent-clause-blamed g c = rw (sym c.self.view_is) (none_blamed _ _ c.refused-in-Ok-Absent.result c.in-Ok-Absent.ensures.blamed c.refused-in-Ok-Absent.ensures.memory)
+returns-in-Ok-Absent-clause-blamed g c = rw (sym c.self.view_is) (none_blamed _ _ c.refusal_line-in-Ok-Absent.result c.in-Ok-Absent.ensures.blamed c.refusal_line-in-Ok-Absent.ensures.memory)
 
 pub returns-in-Err-Device-clause-breaks : goal.returns-in-Err-Device-clause-breaks
 returns-in-Err-Device-clause-breaks g c =

@@ -16,4 +16,4 @@ returns-in-Err-Repeated-clause-takes g c =
 
 pub returns-in-Err-ManyRows-clause-takes : goal.returns-in-Err-ManyRows-clause-takes
 returns-in-Err-ManyRows-clause-takes g c =
-    rw (sym c.self.view_is) (limit_told c.self.inside.database _ _ _ _ (rw (c.in-Err-ManyRows.field-0-is, c.as_str.ensures.value, c.deref.ensures.value) at c.in-Err-ManyRows.ensures.refused) c.in-Err-ManyRows.ensures.err c.refused.ensures.text c.refused.ensures.ended)
+    rw (sym c.self.view_is) (limit_told c.self.inside.database _ _ _ _ (rw (c.in-Err-ManyRows.field-0-is, c.as_str.ensures.value, c.deref.ensures.value) at c.in-Err-ManyRows.ensures.refused) c.in-Err-ManyRows.ensures.err c.refusal_line.ensures.text c.refusal_line.ensures.ended)

@@ -11,7 +11,7 @@ returns-in_err-name-clause-reads c l k = answers _ _ (search rules) (then_fails 
 
 pub returns-clause-reads : goal.returns-clause-reads
 unfolding g.KeyAt
-returns-clause-reads c l k = flat_on key_name_alike c.in_ok-name.ensures.reads (flat_on direction_alike c.descending-descending.ensures.reads gives)
+returns-clause-reads c l k = flat_on key_name_alike c.in_ok-name.ensures.reads (flat_on direction_alike c.is_descending-descending.ensures.reads gives)
 
 pub returns-clause-placed : goal.returns-clause-placed
-returns-clause-placed c = no_more c.in_ok-name.ensures.placed c.descending-descending.ensures.placed
+returns-clause-placed c = no_more c.in_ok-name.ensures.placed c.is_descending-descending.ensures.placed

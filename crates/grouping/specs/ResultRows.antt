@@ -1,0 +1,48 @@
+-- What is kept of the rows of an answer, and what is printed of them at their end.
+use Rattle.std.specs.Prelude.{ℕ, ◌≡◌, ◌++◌, Bool, true, false, is_some, List, IsPermutation, IsSorted, IfSome, flat_map, length, map}
+use Rattle.std.specs.List.{AllByRecursion}
+use Rattle.definitions.specs.Table.{Row}
+use Rattle.definitions.specs.Printing.{fields_line, row_line}
+use Rattle.definitions.specs.Queries.Answer.{distinct_rows}
+use Rattle.definitions.specs.Queries.BoundBlock.{Key}
+use Rattle.definitions.specs.Lists.{without_repeats}
+use Rattle.definitions.specs.Queries.Grouping.{same_values}
+use Rattle.definitions.specs.Queries.Outcomes.{row_order}
+use Rattle.definitions_answers.specs.Lines.{IsInBounds}
+use Rattle.definitions_answers.specs.Shapes.{Shape, HasShapes}
+use Rattle.grouping.specs.Lines.{lines_of}
+use Rattle.grouping.specs.Rows.{rows_of}
+use Rattle.grouping.specs.declared.lines.DistinctLines.{DistinctLines}
+use Rattle.grouping.specs.declared.printed_rows.PrintedRows.{PrintedRows}
+use Rattle.grouping.specs.declared.distinct_rows.DistinctRows.{DistinctRows}
+use Rattle.grouping.specs.declared.ordered_rows.OrderedRows.{OrderedRows}
+
+-- numbers of all rows have at most 38 digits
+abbrev pub AreBounded : List Row → Type 0
+AreBounded rows = AllByRecursion (AllByRecursion IsInBounds) rows
+
+-- printed as they come
+pub record HasPrinted (names : List (List ℕ)) (rows : List Row) (p : PrintedRows) : Type 0 where
+  pub text : p.text.items ≡ fields_line names ++ flat_map row_line rows
+  pub count : p.count ≡ length rows
+
+-- lines are those of rows, each once, where the rows have shapes
+abbrev pub AreLinesOf : DistinctLines → List Row → Type 0
+AreLinesOf lines rows = (shapes : List Shape) → AllByRecursion (HasShapes shapes) rows → lines_of lines ≡ map row_line (without_repeats same_values rows)
+
+pub record HasDistinct (names : List (List ℕ)) (rows : List Row) (d : DistinctRows) : Type 0 where
+  pub header : d.header.items ≡ fields_line names
+  pub lines : AreLinesOf d.lines rows
+  pub bounded : AreBounded rows
+
+-- kept to be ordered, under DISTINCT each once
+pub record HasOrdered (names : List (List ℕ)) (rows : List Row) (o : OrderedRows) : Type 0 where
+  pub header : o.header.items ≡ fields_line names
+  pub kept : (shapes : List Shape) → AllByRecursion (HasShapes shapes) rows → rows_of o.rows.items ≡ distinct_rows (is_some o.seen) rows
+  pub seen : IfSome o.seen (λ lines. AreLinesOf lines rows)
+  pub bounded : AreBounded rows
+
+-- rows are arranged by the keys
+pub record AreArranged (distinct : Bool) (keys : List Key) (rows printed : List Row) : Type 0 where
+  pub same : IsPermutation (distinct_rows distinct rows) printed
+  pub sorted : IsSorted (row_order keys) printed

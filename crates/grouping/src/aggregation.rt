@@ -1,0 +1,90 @@
+//! Set functions of the values of a group, each taken once under DISTINCT.
+
+ghost use Rattle.std.specs.Prelude.{◌≡◌, ◌++◌, [], ◌∷◌, List, false, is_some, IfOk, OnOk};
+ghost use Rattle.std.specs.List.{AllByRecursion};
+ghost use Rattle.definitions.specs.Value as spec;
+ghost use Rattle.definitions.specs.Queries.Grouping.{aggregate, taken};
+ghost use Rattle.sqlvalue.specs.Meaning.{value_of};
+ghost use Rattle.parse_tree.specs.Trees.{function_of};
+ghost use Rattle.definitions_answers.specs.Shapes.{HasShape, IsThere, Shape, Sums};
+ghost use Rattle.grouping.specs.Accumulating.{MayEnd};
+ghost use Rattle.grouping.specs.Aggregating.{chosen, Aggregates, IsNoted};
+
+use crate::accumulator::{Accumulator, is_null};
+use crate::lines::DistinctLines;
+use parse_tree::SetFunction;
+use sqlvalue::{Raise, Value, write_value};
+use std::alloc::{AllocError, Global};
+
+/// A set function of the values so far (ISO/IEC 9075:1992, 6.5). Under DISTINCT it has the printed values that came before: values of one
+/// column are equal where they are printed alike.
+#[derive(Drop)]
+pub struct Aggregation {
+    running: Accumulator,
+    seen: Option<DistinctLines>,
+    line: Vec<u8>,
+}
+
+impl Aggregation {
+    /// Of no values.
+    pub fn new(alloc: Global, function: SetFunction, distinct: bool) -> Aggregation
+        ensures function { result.running.function ≡ function }
+        ensures distinct { is_some result.seen ≡ distinct }
+        ensures nothing { (shape : Shape) → Aggregates shape [] result }
+    {
+        let seen = if distinct {
+            Some(DistinctLines::new(alloc))
+        } else {
+            None
+        };
+        Aggregation {
+            running: Accumulator::new(function),
+            seen,
+            line: Vec::new(alloc),
+        }
+    }
+
+    /// Takes a value in, unless it is null.
+    pub fn take(&mut self, alloc: Global, value: &Value) -> Result<(), AllocError>
+        ensures function { self.new.running.function ≡ self.old.running.function }
+        ensures distinct { is_some self.new.seen ≡ is_some self.old.seen }
+        ensures taken { OnOk result ((shape : Shape) (vs : List spec.Value) →
+            Sums (function_of self.old.running.function) shape → HasShape shape (value_of value.now) →
+            AllByRecursion (IsThere shape) vs → Aggregates shape vs self.old →
+            Aggregates shape (vs ++ taken false (value_of value.now ∷ [])) self.new) }
+    {
+        if is_null(value) {
+            return Ok(());
+        }
+        if self.is_new(alloc, value)? {
+            self.running.take(alloc, value)?;
+        }
+        Ok(())
+    }
+
+    /// Notes a value that is not null, and tells whether it did not come before; without DISTINCT each counts as new.
+    fn is_new(&mut self, alloc: Global, value: &Value) -> Result<bool, AllocError>
+        ensures running { self.new.running ≡ self.old.running }
+        ensures noted { IfOk result (λ new. IsNoted self.old.seen self.new.seen new (value_of value.now)) }
+        ensures distinct { is_some self.new.seen ≡ is_some self.old.seen }
+    {
+        match &mut self.seen {
+            None => Ok(true),
+            Some(seen) => {
+                self.line.clear();
+                write_value(&mut self.line, value)?;
+                self.line.push(b'\n')?;
+                seen.add(alloc, &self.line)
+            }
+        }
+    }
+
+    /// The function's value, or what it raises.
+    pub fn end(&self) -> Result<Value<'_>, Raise>
+        ensures { (shape : Shape) (vs : List spec.Value) → Sums (function_of self.now.running.function) shape →
+            AllByRecursion (IsThere shape) vs → Aggregates shape vs self.now →
+            MayEnd (aggregate (function_of self.now.running.function) (chosen (is_some self.now.seen) vs)) result }
+    {
+        self.running.end()
+    }
+}

@@ -1,0 +1,53 @@
+//! What HAVING and the result columns of a group are evaluated in, and which rows are in one group.
+
+ghost use Rattle.std.specs.Prelude.{◌≡◌, map};
+ghost use Rattle.definitions_answers.specs.Groups.{in_one_group};
+ghost use Rattle.query_tree.specs.Bound.{column_of};
+ghost use Rattle.grouping.specs.Functions.{with_functions};
+ghost use Rattle.grouping.specs.Keeping.{kept_value};
+
+use crate::kept::Kept;
+use crate::result_row::value_at;
+use expr::Environment;
+use query_tree::BlockColumn;
+use sqlvalue::{Raise, Value, rank};
+use std::cmp::Ordering;
+
+/// One of the rows of a group, and the values of the set functions over it.
+#[derive(Drop)]
+pub struct GroupContext<'a, S: Environment> {
+    pub row: &'a S,
+    pub values: &'a [Kept],
+}
+
+impl<'a, S: Environment> Environment for GroupContext<'a, S> {
+    ghost environment = { λ g. with_functions (S.environment g.row.now) (map kept_value g.values.now) };
+
+    fn cell(&self, column: BlockColumn) -> Value<'_> {
+        self.row.cell(column)
+    }
+
+    fn parameter(&self, between: usize, column: BlockColumn) -> Value<'_> {
+        self.row.parameter(between, column)
+    }
+
+    fn aggregate_value(&self, number: usize) -> Result<Value<'_>, Raise> {
+        Ok(value_at(self.values, number))
+    }
+
+    fn first_values(&self, block: usize) -> Result<&[Value<'_>], Raise> {
+        self.row.first_values(block)
+    }
+}
+
+/// Whether two rows have the same values in the columns of GROUP BY; nulls are one (ISO/IEC 9075:1992, 7.7).
+pub fn are_in_one_group<S: Environment>(columns: &[BlockColumn], a: &S, b: &S) -> bool
+    ensures { result ≡ in_one_group (map column_of columns.now) (S.environment a.now).combination (S.environment b.now).combination }
+{
+    'columns: for column in columns {
+        if rank(&a.cell(*column), &b.cell(*column)) != Ordering::Equal {
+            return false;
+        }
+    }
+    true
+}
