@@ -1,6 +1,6 @@
 //! What is answered to the question of a row.
 
-use crate::wanted::wanted;
+use crate::wanted::spell_wanted;
 use binder::{BindFault, bind};
 use catalog::Database;
 use lexer::lex;
@@ -121,7 +121,7 @@ fn push_wanted(alloc: Global, text: &mut String, script: &str) -> Result<(), All
         return text.push_str("none");
     };
     write!(text, "{} {} {}", fault.offset, fault.length, fault.behind)?;
-    text.push_str(wanted(alloc, &fault.wanted)?.as_str())
+    text.push_str(spell_wanted(alloc, &fault.wanted)?.as_str())
 }
 
 /// Adds the kind of the token at the fault.

@@ -21,7 +21,7 @@ fn name(class: &TokenClass) -> &'static str {
 }
 
 /// The classes in their order, with a blank before each.
-pub(crate) fn wanted(alloc: Global, wanted: &Wanted) -> Result<String, AllocError> {
+pub(crate) fn spell_wanted(alloc: Global, wanted: &Wanted) -> Result<String, AllocError> {
     let mut text = String::new(alloc);
     for class in wanted.classes() {
         text.push(' ')?;

@@ -54,12 +54,12 @@ fn run_in(
 {
     let source = BlockSource::new(alloc, database, block)?;
     match run(alloc, &source, space, plan)? {
-        Some(outcome) => spelled(alloc, &outcome, space.table_count()),
+        Some(outcome) => spell_outcome(alloc, &outcome, space.table_count()),
         None => format!(in alloc; "no plan"),
     }
 }
 
-fn spelled(alloc: Global, outcome: &Outcome, tables: usize) -> Result<String, AllocError> {
+fn spell_outcome(alloc: Global, outcome: &Outcome, tables: usize) -> Result<String, AllocError> {
     let mut text = String::new(alloc);
     if tables > 14 {
         return Ok(text);

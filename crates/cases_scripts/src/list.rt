@@ -34,7 +34,7 @@ fn entries<R: Runtime + AllocGlobal>(rt: &R, folder: &str) -> io::Result<Vec<Str
 }
 
 /// The names that begin with one of the words, or all where there are none.
-pub fn chosen(names: Vec<String>, words: &[String]) -> Vec<String> {
+pub fn choose_names(names: Vec<String>, words: &[String]) -> Vec<String> {
     let mut names = names;
     names.retain(|name| {
         words.is_empty()

@@ -12,14 +12,14 @@ mod section;
 
 use case::Case;
 use difference::differences;
-use list::{chosen, names};
+use list::{choose_names, names};
 use std::process::ExitCode;
 use std::rt::Runtime;
 use std::{env, fs, io};
 
 fn main(rt: HostRuntime) -> io::Result<ExitCode> {
     let words: Vec<String> = env::args(&rt)?.skip(1).collect(rt.alloc())?;
-    let names = chosen(names(&rt)?, &words);
+    let names = choose_names(names(&rt)?, &words);
     let mut failed: usize = 0;
     for name in &names {
         if !passes(&rt, name)? {

@@ -69,8 +69,8 @@ impl<'a> Section<'a> {
             return Err(CaseFault::heading(alloc, title));
         };
         let bytes = match body {
-            Some(body) if is_encoded => decoded(alloc, body)?,
-            Some(body) => ended(alloc, body)?,
+            Some(body) if is_encoded => decode_body(alloc, body)?,
+            Some(body) => end_body(alloc, body)?,
             None => Vec::new(alloc),
         };
         Ok(Section {
@@ -82,13 +82,13 @@ impl<'a> Section<'a> {
 }
 
 /// Lines and the end of the last.
-fn ended(alloc: Global, body: &str) -> Result<Vec<u8>, AllocError> {
+fn end_body(alloc: Global, body: &str) -> Result<Vec<u8>, AllocError> {
     let mut bytes = Vec::from_slice(alloc, body.as_bytes())?;
     bytes.push(b'\n')?;
     Ok(bytes)
 }
 
-fn decoded(alloc: Global, body: &str) -> Result<Vec<u8>, AllocError> {
+fn decode_body(alloc: Global, body: &str) -> Result<Vec<u8>, AllocError> {
     let mut bytes = Vec::new(alloc);
     for line in body.split('\n') {
         percent_decode(line.as_bytes()).append_to(&mut bytes)?;

@@ -1,6 +1,6 @@
 -- What CREATE TABLE makes and refuses.
-use Rattle.std.proofs.Common.{◌≡◌, ◌∙◌, refl, sym, ap, ap₂, inl, inr, ℕ, zero, suc, ◌+◌, ◌<◌, ◌≤◌, List, [], ◌∷◌, ◌++◌, Some, None, Bool, true, false, cond, Result, Ok, Err, is_ok, length, map, take, drop, get_or, arith}
-use Rattle.std.specs.Prelude.{IfSome, OnOk, count_by}
+use Rattle.std.proofs.Common.{◌≡◌, ◌∙◌, refl, sym, ap, ap₂, inl, inr, ℕ, zero, suc, ◌+◌, ◌<◌, ◌≤◌, List, [], ◌∷◌, ◌++◌, Some, None, Bool, true, false, cond, length, map, take, drop, get_or, arith}
+use Rattle.std.specs.Prelude.{IfSome, count_by}
 use Rattle.std.specs.List.{AllByRecursion}
 use Rattle.std.proofs.lemmas.List.{drop_more, drop_all, append-nil, append_assoc, map-append, take_more}
 use Rattle.std.proofs.lemmas.List.Sums.{sum_by-cons}
@@ -15,13 +15,13 @@ use Rattle.definitions.specs.Change.{Makes, column_of, new_index, key_indexes, n
 use Rattle.definitions.specs.Faults as faults
 use Rattle.definitions.specs.Faults.{Faulty, IsAccepted, count_of, definition_names}
 use Rattle.definitions.specs.Lists.{AnyOf}
-use Rattle.definitions.specs.Invariant.{IsDatabase}
 use Rattle.definitions.proofs.Changes.{made_database}
 use Rattle.loading.specs.Stored.{StoredColumn, AreFilled, headers}
 use Rattle.indexes.specs.Indexes.{StoredIndex, IsIndexOn}
 use Rattle.parse_tree.specs.Trees.{name_of, constraint_of, definition_of, definitions_of}
 use Rattle.parse_tree.specs.declared.statement.ColumnDefinition.{ColumnDefinition}
 use Rattle.catalog.specs.Creates.{AreJudged, AreTypes, RefusesTypes, RefusesDefinitions, empty_column, without_rows}
+use Rattle.catalog.specs.Databases.{table_names, IsStoredDatabase}
 use Rattle.catalog.specs.Growth.{AreOrdered, IsOrdered}
 use Rattle.catalog.specs.Meaning.{create_refusal}
 use Rattle.catalog.specs.declared.fault.CreateFault.{CreateFault}
@@ -173,18 +173,21 @@ accepted db name ds none few j typed refusal (faults.no_type n ds' h) = typed_ap
 accepted db name ds none few j typed refusal (faults.many_keys n ds' h) = omega (arith, h, j.keys)
 accepted db name ds none few j typed refusal (faults.two_primary n ds' h) = omega (arith, h, j.primary)
 
-pub on_ok : {T E : Type 0} (result : Result T E) (P : Type 0) → P → OnOk result P
-on_ok (Ok x) P p = p
-on_ok (Err e) P p = tt
+-- a table that is added, and its name
+pub created : (db new : Database) (t : Table) (name : Name) (ds : List statement.ColumnDefinition) → new ≡ db ++ t ∷ [] → t ≡ new_table name ds → Makes db (CreateTable name ds) new
+created db new t name ds e h = made.created name ds refl (e ∙ ap (λ u. db ++ u ∷ []) h)
 
--- what a push leaves of a database
-pub database_pushed : (pushed : Bool) (db new : Database) (t : Table) (name : Name) (ds : List statement.ColumnDefinition) → new ≡ cond pushed (db ++ t ∷ []) db → t ≡ new_table name ds → IsDatabase db → IsAccepted db (CreateTable name ds) → IsDatabase new
-database_pushed true db new t name ds e h s a = made_database db new (CreateTable name ds) s a (made.created name ds refl (e ∙ ap (λ u. db ++ u ∷ []) h))
-database_pushed false db new t name ds e h s a = rw e s
+named_too : (items new : Database) (names more : List Name) (t : Table) (name : Name) (ds : List statement.ColumnDefinition) → names ≡ table_names items → more ≡ names ++ name ∷ [] → new ≡ items ++ t ∷ [] → t ≡ new_table name ds → more ≡ table_names new
+named_too items new names more t name ds n m e h =
+    m ∙ ap₂ (λ ns x. ns ++ x ∷ []) n (sym (ap (λ (u : Table). u.name) h)) ∙ sym (map-append (λ (u : Table). u.name) items (t ∷ [])) ∙ ap table_names (sym e)
 
--- what a database is once a table was pushed
-pub made_pushed : {T E : Type 0} (result : Result T E) (pushed : Bool) (db new : Database) (t : Table) (name : Name) (ds : List statement.ColumnDefinition) → is_ok result ≡ pushed → new ≡ cond pushed (db ++ t ∷ []) db → t ≡ new_table name ds
-    → OnOk result (Makes db (CreateTable name ds) new)
-made_pushed (Ok x) true db new t name ds same e h = made.created name ds refl (e ∙ ap (λ u. db ++ u ∷ []) h)
-made_pushed (Ok x) false db new t name ds same e h = absurd cc
-made_pushed (Err x) pushed db new t name ds same e h = tt
+pub stored_too : (items new : Database) (names more : List Name) (t : Table) (name : Name) (ds : List statement.ColumnDefinition) → IsStoredDatabase items names → IsAccepted items (CreateTable name ds) → more ≡ names ++ name ∷ [] → new ≡ items ++ t ∷ [] → t ≡ new_table name ds
+    → IsStoredDatabase new more
+stored_too items new names more t name ds s a m e h = record {
+  valid = made_database items new (CreateTable name ds) s.valid a (created items new t name ds e h);
+  named = named_too items new names more t name ds s.named m e h;
+}
+
+-- without room nothing is added
+pub as_stored : (items new : Database) (names more : List Name) → IsStoredDatabase items names → new ≡ items → more ≡ names → IsStoredDatabase new more
+as_stored items new names more s e m = rw (e, m) s

@@ -1,6 +1,7 @@
 mod Places
 mod Rows
 mod Lists
+mod NamesInOrder
 mod NamedTables
 mod Creating
 mod Bounds

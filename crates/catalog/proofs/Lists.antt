@@ -2,7 +2,7 @@
 use Rattle.std.proofs.Common.{◌≡◌, ◌∙◌, refl, sym, ap, ℕ, zero, suc, ◌+◌, ◌-◌, ◌<◌, List, [], ◌∷◌, ◌++◌, Option, Some, None, Bool, true, false, cond, length, map, take, drop, get_or, arith}
 use Rattle.std.specs.Prelude.{◌||◌, IsFalse, bytes_eq, option_map, option_and_then}
 use Rattle.std.specs.List.{list_any, AllByRecursion, position_from}
-use Rattle.std.proofs.lemmas.List.{drop_more, take_rest}
+use Rattle.std.proofs.lemmas.List.{drop_more, map-append, take_more, take_rest}
 use Rattle.definitions.specs.Statement.{Name}
 use Rattle.definitions.specs.Table.{Column, AreDistinct, column_number, column_numbers}
 
@@ -41,9 +41,17 @@ joined_by (Some n) ns xs x more e h = joined ns n xs x more e h
 single : (o : Option ℕ) (x : ℕ) → o ≡ Some x → option_and_then (λ n. option_map (λ ms. n ∷ ms) (Some [])) o ≡ Some (x ∷ [])
 single o x e = rw e refl
 
-pub numbers_push : (cs : List Column) (names : List Name) (name : Name) (xs : List ℕ) (x : ℕ) → column_numbers cs names ≡ Some xs → column_number cs name ≡ Some x → column_numbers cs (names ++ name ∷ []) ≡ Some (xs ++ x ∷ [])
+numbers_push : (cs : List Column) (names : List Name) (name : Name) (xs : List ℕ) (x : ℕ) → column_numbers cs names ≡ Some xs → column_number cs name ≡ Some x → column_numbers cs (names ++ name ∷ []) ≡ Some (xs ++ x ∷ [])
 numbers_push cs [] name xs x e h = let none : [] ≡ xs = cc in single (column_number cs name) x h ∙ ap (λ ys. Some (ys ++ x ∷ [])) none
 numbers_push cs (n ∷ names) name xs x e h = joined_by (column_number cs n) (column_numbers cs names) xs x (column_numbers cs (names ++ name ∷ [])) e (λ ys f. numbers_push cs names name ys x f h)
+
+-- the number of the next name behind those so far
+pub numbers_further : {X : Type 0} (named : X → Name) (cs : List Column) (xs : List X) (i : ℕ) (x : X) (name : Name) (ns more : List ℕ) (n : ℕ) → i < length xs → x ≡ get_or xs i x → name ≡ named x → column_numbers cs (map named (take i xs)) ≡ Some ns
+    → Some n ≡ position_from (λ (c : Column). bytes_eq c.name name) 0 cs → more ≡ ns ++ n ∷ [] → column_numbers cs (map named (take (i + 1) xs)) ≡ Some more
+numbers_further named cs xs i x name ns more n h e m f p add =
+    let own : column_number cs (named (get_or xs i x)) ≡ Some n = ap (column_number cs) (sym (m ∙ ap named e)) ∙ number_is_position name cs ∙ sym p in
+    ap (λ ys. column_numbers cs (map named ys)) (take_more xs i x h) ∙ ap (column_numbers cs) (map-append named (take i xs) (get_or xs i x ∷ [])) ∙ numbers_push cs (map named (take i xs)) (named (get_or xs i x)) ns n f own
+    ∙ ap Some (sym add)
 
 no_list : (o : Option ℕ) → option_and_then (λ n. option_map (λ ms. n ∷ ms) None) o ≡ None
 no_list None = refl

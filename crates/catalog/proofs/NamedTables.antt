@@ -1,11 +1,13 @@
 -- The table of a name in a database, and changes to it.
-use Rattle.std.proofs.Common.{◌≡◌, refl, sym, ap, ℕ, suc, ◌+◌, ◌-◌, ◌≤◌, [], ◌∷◌, Option, Some, None, Bool, true, false, cond, get_or, set, Bor, arith}
-use Rattle.std.specs.Prelude.{bytes_eq, is_some}
+use Rattle.std.proofs.Common.{◌≡◌, ◌∙◌, refl, sym, ap, ℕ, zero, suc, ◌+◌, ◌-◌, ◌≤◌, List, [], ◌∷◌, Option, Some, None, Bool, true, false, cond, get_or, set, Bor, arith}
+use Rattle.std.specs.Prelude.{◌||◌, bytes_eq, is_some}
 use Rattle.std.specs.Option.{option_copied}
-use Rattle.std.specs.List.{position_from}
+use Rattle.std.specs.List.{list_any, position_from}
 use Rattle.definitions.specs.Statement.{Name}
 use Rattle.definitions.specs.Table.{Table, Database, table_named}
 use Rattle.definitions.specs.Change.{changed}
+use Rattle.catalog.specs.Databases.{table_names}
+use Rattle.catalog.proofs.NamesInOrder.{same_way}
 
 -- a search that finds no place
 no_first : (t : Table) (ts : Database) (name : Name) (i : ℕ) (b : Bool) → (position_from (λ (u : Table). bytes_eq u.name name) (i + 1) ts ≡ None → table_named ts name ≡ None)
@@ -61,3 +63,24 @@ taken db name (Some t) e h = (t.now, sym e)
 pub not_taken : (db : Database) (name : Name) (o : Option (Bor Table)) → option_copied o ≡ table_named db name → is_some o ≡ false → table_named db name ≡ None
 not_taken db name None e h = sym e
 not_taken db name (Some t) e h = absurd cc
+
+-- ---- the tables' names
+
+-- a name without a table is none of them
+none_by : (b : Bool) (t : Table) (o : Option Table) (rest : Bool) → cond b (Some t) o ≡ None → (o ≡ None → rest ≡ false) → (b || rest) ≡ false
+none_by true t o rest e m = absurd cc
+none_by false t o rest e m = m e
+
+not_among : (db : Database) (name : Name) → table_named db name ≡ None → list_any (bytes_eq name) (table_names db) ≡ false
+not_among [] name h = refl
+not_among (t ∷ ts) name h =
+    ap (λ b. b || list_any (bytes_eq name) (table_names ts)) (same_way name t.name) ∙ none_by (bytes_eq t.name name) t (table_named ts name) (list_any (bytes_eq name) (table_names ts)) h (not_among ts name)
+
+pub new_name : (names : List Name) (items db : Database) (name : Name) → names ≡ table_names items → items ≡ db → table_named db name ≡ None → list_any (bytes_eq name) names ≡ false
+new_name names items db name n v h = ap (list_any (bytes_eq name)) (n ∙ ap table_names v) ∙ not_among db name h
+
+-- they stay where a table keeps its name
+pub names_stay : (db : Database) (k : ℕ) (t new : Table) → t ≡ get_or db k t → new.name ≡ t.name → table_names (set db k new) ≡ table_names db
+names_stay [] k t new e h = refl
+names_stay (x ∷ xs) zero t new e h = ap (λ n. n ∷ table_names xs) (h ∙ ap (λ (u : Table). u.name) e)
+names_stay (x ∷ xs) (suc k) t new e h = ap (λ ns. x.name ∷ ns) (names_stay xs k t new e h)

@@ -1,9 +1,10 @@
 -- A table as CREATE TABLE makes it.
-use Rattle.std.proofs.Common.{◌≡◌, ◌∙◌, ap, ap₂, List, [], ◌∷◌, map}
+use Rattle.std.proofs.Common.{◌≡◌, ◌∙◌, refl, ap, ap₂, List, [], ◌∷◌, map}
 use Rattle.std.specs.List.{AllByRecursion}
 use Rattle.definitions.specs.Value.{IsType}
 use Rattle.definitions.specs.Statement.{Name, ColumnDefinition}
-use Rattle.definitions.specs.Table.{Column, TableStatistics}
+use Rattle.definitions.specs.Table.{Column, TableStatistics, column_names}
+use Rattle.definitions.specs.Faults.{definition_names}
 use Rattle.definitions.specs.Statistics.{row_width, pages_for}
 use Rattle.definitions.specs.Change.{column_of, key_indexes, new_table}
 use Rattle.definitions.specs.Invariant.{IsTable}
@@ -17,6 +18,11 @@ use Rattle.catalog.proofs.Creating.{empty_headers}
 columns_typed : (ds : List ColumnDefinition) → AreTypes ds → AllByRecursion (λ (c : Column). IsType c.type) (map column_of ds)
 columns_typed [] h = tt
 columns_typed (d ∷ ds) h = (h.0, columns_typed ds h.1)
+
+-- the names of definitions are those of the columns that they make
+pub names_of_new : (ds : List ColumnDefinition) → definition_names ds ≡ column_names (headers (map empty_column ds))
+names_of_new [] = refl
+names_of_new (d ∷ ds) = ap (λ ns. d.name ∷ ns) (names_of_new ds)
 
 pub types_of_new : (ds : List ColumnDefinition) → AreTypes ds → AllByRecursion (λ (c : Column). IsType c.type) (headers (map empty_column ds))
 types_of_new ds h = rw (empty_headers ds) (columns_typed ds h)

@@ -19,7 +19,7 @@ use Rattle.catalog.specs.declared.fault.StatisticsFault.{StatisticsFault}
 use Rattle.catalog.specs.declared.fault.StatisticsFault.TheVariants as f
 use Rattle.catalog.specs.Growth.{AreOrdered}
 use Rattle.catalog.specs.Tables.{table_of}
-use Rattle.catalog.proofs.Rows.{of_view, indexes_many}
+use Rattle.catalog.proofs.Rows.{of_view, columns_many, indexes_many}
 use Rattle.catalog.proofs.TableIndexes.{index_found}
 
 abbrev index_of : StoredIndex → Index
@@ -131,19 +131,18 @@ same_at (i ∷ is) zero x y h e = sym e
 same_at (i ∷ is) (suc k) x y h e = same_at is k x y (omega (arith, h)) e
 
 -- the same, of what the code knows
-pub statistics_set_at : (name : Name) (cs columns : List StoredColumn) (is : List StoredIndex) (k n first : ℕ) (f : TableStatistics) (t : Table) (list ns : List ℕ) (names : List Name) (given : Given) (c : StoredColumn) (type : SqlType) (kept : IndexStatistics) (old new : StoredIndex)
-    → table_of name cs is n f ≡ t → AreOrdered cs n is → IsTable (table_of name cs is n f) → 0 < length names → length names ≤ most_index_columns → columns ≡ cs → column_numbers (headers columns) names ≡ Some list → 0 < length list
-    → AllByRecursion (λ m. m < length columns) list → ns ≡ list → Some k ≡ position_from (is_on ns) 0 t.indexes → k < length t.indexes → first ≡ get_or list 0 first → c ≡ get_or cs first c → type ≡ c.header.type → IsGiven given → StatisticsKept type given kept
+pub statistics_set_at : (name : Name) (cs : List StoredColumn) (is : List StoredIndex) (k n first : ℕ) (f : TableStatistics) (t : Table) (list ns : List ℕ) (names : List Name) (given : Given) (c : StoredColumn) (type : SqlType) (kept : IndexStatistics) (old new : StoredIndex)
+    → table_of name cs is n f ≡ t → AreOrdered cs n is → IsTable (table_of name cs is n f) → 0 < length names → length names ≤ most_index_columns → column_numbers t.columns names ≡ Some list → 0 < length list
+    → AllByRecursion (λ m. m < length t.columns) list → ns ≡ list → Some k ≡ position_from (is_on ns) 0 t.indexes → k < length t.indexes → first ≡ get_or list 0 first → c ≡ get_or cs first c → type ≡ c.header.type → IsGiven given → StatisticsKept type given kept
     → old ≡ get_or is k old → new.index ≡ record old.index { statistics = kept } → new.entries ≡ old.entries → StatisticsSet name cs (set is k new) n f t names given
-statistics_set_at name cs columns is k n first f t list ns names given c type kept old new v ordered valid some short col found many there asked place within start e typed may keeps here changed entries =
+statistics_set_at name cs is k n first f t list ns names given c type kept old new v ordered valid some short found many there asked place within start e typed may keeps here changed entries =
     let o = of_view name cs is n f t v in
-    let found' : column_numbers t.columns names ≡ Some list = ap (λ hs. column_numbers hs names) (o.columns ∙ ap headers (sym col)) ∙ found in
-    let there' : AllByRecursion (λ m. m < length cs) list = rw (← col) there in
+    let there' : AllByRecursion (λ m. m < length cs) list = rw (← columns_many cs is n t o) there in
     let place' : Some k ≡ position_from (is_on list) 0 t.indexes = place ∙ ap (λ ms. position_from (is_on ms) 0 t.indexes) asked in
     let same : get_or is k new ≡ old = same_at is k old new (omega (arith, within, indexes_many cs is n t o)) here in
-    let starts : first_type t.columns names ≡ Some type = first_type_is cs t.columns names list first c o.columns found' many there' start e ∙ ap (λ x. Some x) (sym typed) in
+    let starts : first_type t.columns names ≡ Some type = first_type_is cs t.columns names list first c o.columns found many there' start e ∙ ap (λ x. Some x) (sym typed) in
     let index_e : new.index ≡ record (get_or is k new).index { statistics = kept } = changed ∙ ap (λ (i : StoredIndex). record i.index { statistics = kept }) (sym same) in
-    statistics_set name cs is k n f t list names given type kept new v ordered valid some short found' place' starts may keeps index_e (entries ∙ ap (λ (i : StoredIndex). i.entries) (sym same))
+    statistics_set name cs is k n f t list names given type kept new v ordered valid some short found place' starts may keeps index_e (entries ∙ ap (λ (i : StoredIndex). i.entries) (sym same))
 
 -- why they are refused, for an index that is there
 pub refused_statistics : (t : Table) (names : List Name) (given : Given) (type : SqlType) (fault : StatisticsFault) → first_type t.columns names ≡ Some type → RefusesGiven type given fault → RefusesStatistics t names given fault

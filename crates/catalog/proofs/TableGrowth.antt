@@ -65,6 +65,7 @@ all_ordered columns rows cs items n m (i ∷ is) (x ∷ made) w e o h = (ordered
 
 pub record LoadedTable (name : Name) (bytes : List ℕ) (items : List StoredColumn) (made : List StoredIndex) (m count : ℕ) (f : TableStatistics) (t : Table) : Type 0 where
   pub filled : AreFilled m items
+  pub columns : headers items ≡ t.columns
   pub few : m ≤ most_rows
   pub ordered : AreOrdered items m made
   pub valid : IsTable (table_of name items made m f)
@@ -112,6 +113,7 @@ loaded_table name bytes cs new items is n before f t grown v filled ordered vali
     ∙ ap₂ (λ rs x. record t { indexes = map (λ (i : Index). record i { statistics = index_statistics t.columns (t.rows ++ g.rows) i.columns }) t.indexes; rows = rs; statistics = x }) now.all_rows statistics in
     record {
       filled = now.filled;
+      columns = now.columns;
       few = now.few;
       ordered = now.ordered;
       valid = rw whole (loaded_is_table t g.records g.rows valid g.loads g.few);

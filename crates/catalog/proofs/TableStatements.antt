@@ -20,7 +20,8 @@ use Rattle.catalog.specs.declared.fault.StatisticsFault.{StatisticsFault}
 use Rattle.catalog.specs.declared.fault.TableStatisticsFault.{TableStatisticsFault}
 use Rattle.catalog.specs.declared.fault.LoadFault.{LoadFault}
 use Rattle.catalog.specs.declared.fault.LoadFault.TheVariants as l
-use Rattle.catalog.proofs.NamedTables.{IsPlace}
+use Rattle.catalog.specs.Databases.{IsStoredDatabase}
+use Rattle.catalog.proofs.NamedTables.{IsPlace, names_stay}
 use Rattle.catalog.proofs.Accepting.{index_accepted, index_refused, table_set_accepted, table_set_refused, index_set_accepted, index_set_refused}
 
 -- the table of a name at a place
@@ -37,10 +38,21 @@ changed_at db name k t new f a e = sym (a.place.change f new t (e ∙ ap f a.own
 as_it_was : (db : Database) (name : Name) (k : ℕ) (t new : Table) → IsAt db name k t → new ≡ t → set db k new ≡ db
 as_it_was db name k t new a e = ap (set db k) (e ∙ a.own) ∙ set-get_or db k t
 
--- what a statement leaves is a database
-left : {E : Type 0} (r : Result (Unit {0}) E) (P : Type 0) (db : Database) (name : Name) (k : ℕ) (t new : Table) → IsAt db name k t → IsDatabase db → (P → IsDatabase (set db k new)) → OnOk r P → OnErr r (new ≡ t) → IsDatabase (set db k new)
+-- what a statement leaves is a database, and the table keeps its name
+pub record IsLeft (db : Database) (k : ℕ) (t new : Table) : Type 0 where
+  pub valid : IsDatabase (set db k new)
+  pub name : new.name ≡ t.name
+
+as_before : (db : Database) (name : Name) (k : ℕ) (t new : Table) → IsAt db name k t → IsDatabase db → new ≡ t → IsLeft db k t new
+as_before db name k t new a s e = record { valid = rw (as_it_was db name k t new a e) s; name = ap (λ (u : Table). u.name) e }
+
+left : {E : Type 0} (r : Result (Unit {0}) E) (P : Type 0) (db : Database) (name : Name) (k : ℕ) (t new : Table) → IsAt db name k t → IsDatabase db → (P → IsLeft db k t new) → OnOk r P → OnErr r (new ≡ t) → IsLeft db k t new
 left (Ok u) P db name k t new a s f p e = f p
-left (Err x) P db name k t new a s f p e = rw (as_it_was db name k t new a e) s
+left (Err x) P db name k t new a s f p e = as_before db name k t new a s e
+
+-- so the names stay
+pub kept : (names : List Name) (items db : Database) (k : ℕ) (t new : Table) → items ≡ db → IsStoredDatabase items names → t ≡ get_or items k t → IsLeft db k t new → IsStoredDatabase (set items k new) names
+kept names items db k t new v s e l = record { valid = rw v l.valid; named = s.named ∙ sym (names_stay items k t new e l.name) }
 
 -- ---- SET STATISTICS of a table
 
@@ -62,10 +74,13 @@ both_ok A B (Ok u) a b = (a, b)
 both_ok A B (Err x) a b = tt
 
 pub table_left : (r : Result (Unit {0}) TableStatisticsFault) (db : Database) (name : Name) (k rows pages : ℕ) (t new : Table) → IsAt db name k t → IsDatabase db → OnOk r (IsCount rows × IsPageCount pages)
-    → OnOk r (new ≡ with_table_statistics t (record { rows = rows; pages = pages })) → OnErr r (new ≡ t) → IsDatabase (set db k new)
+    → OnOk r (new ≡ with_table_statistics t (record { rows = rows; pages = pages })) → OnErr r (new ≡ t) → IsLeft db k t new
 table_left r db name k rows pages t new a s g h e =
     left r ((IsCount rows × IsPageCount pages) × (new ≡ with_table_statistics t (record { rows = rows; pages = pages }))) db name k t new a s
-    (λ p. made_database db (set db k new) (SetTableStatistics name rows pages) s (table_set_accepted db name rows pages t (named db name k t a) p.0.0 p.0.1) (table_made_one db name k rows pages t new a p.1))
+    (λ p. record {
+      valid = made_database db (set db k new) (SetTableStatistics name rows pages) s (table_set_accepted db name rows pages t (named db name k t a) p.0.0 p.0.1) (table_made_one db name k rows pages t new a p.1);
+      name = ap (λ (u : Table). u.name) p.1;
+    })
     (both_ok _ _ r g h) e
 
 -- ---- CREATE INDEX
@@ -83,10 +98,13 @@ index_made r db name k unique names t new a h = on_ok_weaker r (λ (x : AddsInde
 pub index_not_made : (r : Result (Unit {0}) IndexFault) (db : Database) (name : Name) (k : ℕ) (unique : _) (names : List Name) (t : Table) → IsAt db name k t → IfErr r (RefusesNewIndex t unique names) → IfErr r (RefusesIndex db unique name names)
 index_not_made r db name k unique names t a h = IfErr-weaker r (RefusesNewIndex t unique names) _ (λ fault x. index_refused db unique name t names fault (named db name k t a) x) h
 
-pub index_left : (r : Result (Unit {0}) IndexFault) (db : Database) (name : Name) (k : ℕ) (unique : _) (names : List Name) (t new : Table) → IsAt db name k t → IsDatabase db → OnOk r (AddsIndex t unique names new) → OnErr r (new ≡ t) → IsDatabase (set db k new)
+pub index_left : (r : Result (Unit {0}) IndexFault) (db : Database) (name : Name) (k : ℕ) (unique : _) (names : List Name) (t new : Table) → IsAt db name k t → IsDatabase db → OnOk r (AddsIndex t unique names new) → OnErr r (new ≡ t) → IsLeft db k t new
 index_left r db name k unique names t new a s h e =
     left r (AddsIndex t unique names new) db name k t new a s
-    (λ (x : AddsIndex t unique names new). made_database db (set db k new) (CreateIndex unique name names) s (index_accepted db unique name t names x.numbers (named db name k t a) x.may) (index_made_one db name k unique names t new a x)) h e
+    (λ (x : AddsIndex t unique names new). record {
+      valid = made_database db (set db k new) (CreateIndex unique name names) s (index_accepted db unique name t names x.numbers (named db name k t a) x.may) (index_made_one db name k unique names t new a x);
+      name = ap (λ (u : Table). u.name) x.is;
+    }) h e
 
 -- ---- SET STATISTICS of an index
 
@@ -103,10 +121,13 @@ statistics_made r db name k names given t new a h = on_ok_weaker r (λ (x : Sets
 pub statistics_refused : (r : Result (Unit {0}) StatisticsFault) (db : Database) (name : Name) (k : ℕ) (names : List Name) (given : Given) (t : Table) → IsAt db name k t → IfErr r (RefusesStatistics t names given) → IfErr r (λ fault. IfSome (statistics_refusal fault) (Faulty db (SetIndexStatistics name names given)))
 statistics_refused r db name k names given t a h = IfErr-weaker r (RefusesStatistics t names given) _ (λ fault x. index_set_refused db name t names given fault (named db name k t a) x) h
 
-pub statistics_left : (r : Result (Unit {0}) StatisticsFault) (db : Database) (name : Name) (k : ℕ) (names : List Name) (given : Given) (t new : Table) → IsAt db name k t → IsDatabase db → OnOk r (SetsIndex t names given new) → OnErr r (new ≡ t) → IsDatabase (set db k new)
+pub statistics_left : (r : Result (Unit {0}) StatisticsFault) (db : Database) (name : Name) (k : ℕ) (names : List Name) (given : Given) (t new : Table) → IsAt db name k t → IsDatabase db → OnOk r (SetsIndex t names given new) → OnErr r (new ≡ t) → IsLeft db k t new
 statistics_left r db name k names given t new a s h e =
     left r (SetsIndex t names given new) db name k t new a s
-    (λ (x : SetsIndex t names given new). made_database db (set db k new) (SetIndexStatistics name names given) s (index_set_accepted db name t new names given (named db name k t a) x) (statistics_made_one db name k names given t new a x)) h e
+    (λ (x : SetsIndex t names given new). record {
+      valid = made_database db (set db k new) (SetIndexStatistics name names given) s (index_set_accepted db name t new names given (named db name k t a) x) (statistics_made_one db name k names given t new a x);
+      name = ap (λ (u : Table). u.name) x.is;
+    }) h e
 
 -- ---- LOAD
 
@@ -126,12 +147,15 @@ load_refused_one db name k bytes t l.Memory a r = (t, named db name k t a, tt)
 pub load_refused : (r : Result ℕ LoadFault) (db : Database) (name : Name) (k : ℕ) (bytes : List ℕ) (t : Table) → IsAt db name k t → IfErr r (RefusesTable t bytes) → IfErr r (RefusesNamed name bytes db)
 load_refused r db name k bytes t a h = IfErr-weaker r (RefusesTable t bytes) _ (λ fault x. load_refused_one db name k bytes t fault a x) h
 
-pub load_left : (r : Result ℕ LoadFault) (db : Database) (name : Name) (k : ℕ) (bytes : List ℕ) (t new : Table) → IsAt db name k t → IsDatabase db → IfOk r (λ n. LoadsTable t bytes n (λ rows. new ≡ with_rows t rows)) → OnErr r (new ≡ t) → IsDatabase (set db k new)
+pub load_left : (r : Result ℕ LoadFault) (db : Database) (name : Name) (k : ℕ) (bytes : List ℕ) (t new : Table) → IsAt db name k t → IsDatabase db → IfOk r (λ n. LoadsTable t bytes n (λ rows. new ≡ with_rows t rows)) → OnErr r (new ≡ t) → IsLeft db k t new
 load_left (Ok n) db name k bytes t new a s h e =
     let (records, rows, read, loads, few, count, is) = h in
-    rw (changed_at db name k t new (λ u. with_rows u rows) a is)
-    (database_changed (λ u. with_rows u rows) db name t s (named db name k t a) (λ u. refl) (loaded_is_table t records rows (valid_named db name t s (named db name k t a)) loads few))
-load_left (Err x) db name k bytes t new a s h e = rw (as_it_was db name k t new a e) s
+    record {
+      valid = rw (changed_at db name k t new (λ u. with_rows u rows) a is)
+          (database_changed (λ u. with_rows u rows) db name t s (named db name k t a) (λ u. refl) (loaded_is_table t records rows (valid_named db name t s (named db name k t a)) loads few));
+      name = ap (λ (u : Table). u.name) is;
+    }
+load_left (Err x) db name k bytes t new a s h e = as_before db name k t new a s e
 
 -- the table that a search finds
 pub is_at : (db items : Database) (name : Name) (k : ℕ) (t : Table) → items ≡ db → IsPlace db name k → t ≡ get_or items k t → IsAt db name k t

@@ -9,4 +9,5 @@ pub mod Growth
 pub mod Loads
 pub mod Changes
 pub mod Tables
+pub mod Databases
 pub mod Places

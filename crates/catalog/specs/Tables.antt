@@ -1,9 +1,9 @@
 -- What a table keeps.
-use Rattle.std.specs.Prelude.{ℕ, ◌≤◌, List, map}
+use Rattle.std.specs.Prelude.{ℕ, ◌≤◌, ◌≡◌, List, map}
 use Rattle.std.specs.String.{string_bytes}
 use Rattle.definitions.specs.Limits.{most_rows}
 use Rattle.definitions.specs.Statement.{Name}
-use Rattle.definitions.specs.Table.{Table, TableStatistics}
+use Rattle.definitions.specs.Table.{Table, TableStatistics, column_names}
 use Rattle.definitions.specs.Key.{key_of}
 use Rattle.definitions.specs.IndexRun.{IsRun}
 use Rattle.definitions.specs.Invariant.{IsTable}
@@ -20,9 +20,10 @@ table_of name cs is n statistics = record { name = name; columns = headers cs; i
 abbrev pub stored_table : Inside → Table
 stored_table t = table_of (string_bytes t.name) t.columns.items t.indexes.items t.len (table_statistics_of t.statistics)
 
--- a value of each column for each row, of its type, not too many rows, and indexes of all of them
+-- a value of each column for each row, of its type, not too many rows, indexes of all of them, and the columns' names in their order
 pub record IsStoredTable (t : Inside) : Type 0 where
   pub filled : AreFilled t.len t.columns.items
+  pub named : t.names ≡ column_names (headers t.columns.items)
   pub few : t.len ≤ most_rows
   pub ordered : AreOrdered t.columns.items t.len t.indexes.items
   pub valid : IsTable (stored_table t)

@@ -17,6 +17,7 @@ use crate::creation::judge_definitions;
 use crate::fault::{
     CreateFault, IndexFault, ListFault, LoadFault, StatisticsFault, TableStatisticsFault,
 };
+use crate::naming::Names;
 use crate::table::Table;
 use parse_tree::{ColumnDefinition, Name};
 use std::alloc::Global;
@@ -33,17 +34,19 @@ pub const MAX_COLUMNS: usize = 64;
 pub struct Database {
     alloc: Global,
     tables: Vec<Table>,
+    /// The tables' names, in their order.
+    names: Names,
 }
 
 impl Model for Database {
     ghost use Rattle.definitions.specs.Table.{Database};
-    ghost use Rattle.definitions.specs.Invariant.{IsDatabase};
+    ghost use Rattle.catalog.specs.Databases.{IsStoredDatabase};
 
     ghost Value = { Database };
 
     ghost view = { λ d. d.tables.items };
 
-    ghost invariant = { λ d. IsDatabase d.tables.items };
+    ghost invariant = { λ d. IsStoredDatabase d.tables.items d.names };
 }
 
 impl Database {
@@ -54,6 +57,7 @@ impl Database {
         Database {
             alloc,
             tables: Vec::new(alloc),
+            names: Names::new(alloc),
         }
     }
 
@@ -80,7 +84,12 @@ impl Database {
             return Err(fault);
         }
         let table = Table::new(self.alloc, name, definitions)?;
-        self.tables.push(table).map_err(|_| CreateFault::Memory)
+
+        // Room for the table is made first: once its name stands, nothing can fail.
+        self.tables.reserve(1)?;
+        self.names.push(self.alloc, name)?;
+        self.tables.push_reserved(table);
+        Ok(())
     }
 
     /// CREATE INDEX (own), whose columns are told by their names. Of several faults any one may be told, and that a
@@ -185,11 +194,6 @@ impl Database {
         ensures place { result ≡ position_from (λ t. bytes_eq t.name name.now) 0 self.now }
         ensures within { IfSome result (λ place. place < length self.now) }
     {
-        for (place, table) in self.tables.iter().enumerate() {
-            if table.is_named(name) {
-                return Some(place);
-            }
-        }
-        None
+        self.names.place(name)
     }
 }

@@ -10,7 +10,7 @@ ghost use Rattle.catalog.specs.Loads.{RefusesTable};
 
 use crate::fault::{EarlierRow, LoadFault, RepeatedRecord};
 use crate::table::MAX_ROWS;
-use indexes::{ExtendFault, Index, RepeatedRow, extended};
+use indexes::{ExtendFault, Index, RepeatedRow, extend_indexes};
 use loading::{Pushed, RecordStart, StopReason, TableColumn, push_records, record_start};
 use std::alloc::Global;
 
@@ -44,7 +44,7 @@ pub(crate) fn grow(
         return Err(LoadFault::Memory);
     };
     let rows = rows as usize;
-    let made = match extended(alloc, indexes, columns, len + rows) {
+    let made = match extend_indexes(alloc, indexes, columns, len + rows) {
         Ok(made) => made,
         Err(ExtendFault::Repeated(repeated)) => return Err(repeated_record(
             alloc, len, bytes, repeated,

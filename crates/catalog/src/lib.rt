@@ -18,5 +18,4 @@ pub use fault::{
 };
 pub use indexes::{Index, IndexStatistics, KeyRange, RepeatedKey, TableStatistics};
 pub use loading::{RecordFault, RefusedRecord};
-pub use naming::MAX_INDEX_COLUMNS;
-pub use table::{MAX_INDEXES, MAX_ROWS, Table};
+pub use table::{MAX_INDEX_COLUMNS, MAX_INDEXES, MAX_ROWS, Table};

@@ -1,20 +1,77 @@
-//! Names, and the columns that they stand for.
+//! Names in order, and those that come twice.
 
-ghost use Rattle.std.specs.Prelude.{◌≡◌, ◌<◌, ◌≤◌, ◌∷◌, ℕ, List, Some, None, IfSome, IsNone, OnSome, IfOk, IfErr, OnOk, length, map, bytes_eq};
-ghost use Rattle.std.specs.List.{list_any, AllByRecursion};
-ghost use Rattle.definitions.specs.Limits.{most_index_columns};
-ghost use Rattle.definitions.specs.Table.{AreDistinct, column_number, column_numbers};
-ghost use Rattle.parse_tree.specs.Trees.{name_of};
-ghost use Rattle.loading.specs.Stored.{headers};
-ghost use Rattle.catalog.specs.Lists.{RefusesList};
+ghost use Rattle.std.specs.Prelude.{◌≡◌, ◌<◌, ◌++◌, ◌∷◌, [], ℕ, List, IsFalse, IfSome, IsNone, OnSome, IfOk, OnOk, OnErr, length, map, bytes_eq};
+ghost use Rattle.std.specs.List.{list_any, position_from};
+ghost use Rattle.definitions.specs.Table.{AreDistinct};
+ghost use Rattle.definitions.specs.Faults.{definition_names};
+ghost use Rattle.parse_tree.specs.Trees.{name_of, definitions_of};
 
-use crate::fault::ListFault;
-use loading::TableColumn;
+use indexmap::IndexSet;
 use parse_tree::{ColumnDefinition, Name};
-use std::alloc::Global;
+use std::alloc::{AllocError, Global};
+use std::marker::Model;
 
-/// How many columns an index may have (own).
-pub const MAX_INDEX_COLUMNS: usize = 4;
+/// Names in the order in which they were added. The place of one is found by its hash, so that a look-up does not walk
+/// them.
+#[derive(Drop)]
+pub(crate) struct Names {
+    set: IndexSet<String>,
+}
+
+impl Model for Names {
+    ghost use Rattle.std.specs.Prelude.{List, map};
+    ghost use Rattle.std.specs.String.{string_bytes};
+    ghost use Rattle.definitions.specs.Statement.{Name};
+
+    ghost Value = { List Name };
+
+    ghost view = { λ n. map string_bytes n.set.keys };
+}
+
+impl Names {
+    /// No names.
+    pub(crate) fn new(alloc: Global) -> Names
+        ensures { result ≡ [] }
+    {
+        Names {
+            set: IndexSet::new(alloc),
+        }
+    }
+
+    /// The names of columns, no two of which are the same.
+    pub(crate) fn of_columns(
+        alloc: Global,
+        definitions: &[ColumnDefinition],
+    ) -> Result<Names, AllocError>
+        requires { AreDistinct (definition_names (definitions_of definitions.now)) }
+        ensures { IfOk result (λ names. names ≡ definition_names (definitions_of definitions.now)) }
+    {
+        let mut names = Names::new(alloc);
+        for definition in definitions {
+            names.push(alloc, definition.name.text.as_str())?;
+        }
+        Ok(names)
+    }
+
+    /// Adds a name that is not there behind the others. An `Err` leaves them as they were.
+    pub(crate) fn push(&mut self, alloc: Global, name: &str) -> Result<(), AllocError>
+        requires { IsFalse (list_any (bytes_eq name.now) self.old) }
+        ensures ok { OnOk result (self.new ≡ self.old ++ name.now ∷ []) }
+        ensures err { OnErr result (self.new ≡ self.old) }
+    {
+        let own = String::from_str(alloc, name)?;
+        self.set.insert(own)?;
+        Ok(())
+    }
+
+    /// The place of a name, from 0.
+    pub(crate) fn place(&self, name: &str) -> Option<usize>
+        ensures first { result ≡ position_from (λ n. bytes_eq n name.now) 0 self.now }
+        ensures within { IfSome result (λ place. place < length self.now) }
+    {
+        self.set.get_index_of(name)
+    }
+}
 
 /// What has a name.
 pub(crate) trait Named {
@@ -75,47 +132,4 @@ fn has_name<T: Named>(items: &[T], name: &str) -> bool
         }
     }
     false
-}
-
-/// The numbers of one to four columns of a table, by their names (own).
-pub(crate) fn numbers(
-    alloc: Global,
-    columns: &[TableColumn],
-    names: &[Name],
-) -> Result<Vec<usize>, ListFault>
-    ensures found { IfOk result (λ numbers. column_numbers (headers columns.now) (map name_of names.now)
-        ≡ Some numbers.items) }
-    ensures there { IfOk result (λ numbers. AllByRecursion (λ n. n < length columns.now) numbers.items) }
-    ensures many { IfOk result (λ numbers. length numbers.items ≡ length names.now) }
-    ensures some { OnOk result (0 < length names.now) }
-    ensures short { OnOk result (length names.now ≤ most_index_columns) }
-    ensures refused { IfErr result (RefusesList (headers columns.now) (map name_of names.now)) }
-{
-    if names.is_empty() {
-        return Err(ListFault::Empty);
-    }
-    if names.len() > MAX_INDEX_COLUMNS {
-        return Err(ListFault::ManyColumns);
-    }
-    let mut numbers = Vec::new(alloc);
-    for (place, name) in names.iter().enumerate() {
-        match number_of(columns, name.name()) {
-            Some(number) => numbers.push(number)?,
-            None => return Err(ListFault::NoColumn { column: place }),
-        }
-    }
-    Ok(numbers)
-}
-
-/// The number of the column of a name, from 0.
-pub(crate) fn number_of(columns: &[TableColumn], name: &str) -> Option<usize>
-    ensures exact { result ≡ column_number (headers columns.now) name.now }
-    ensures within { IfSome result (λ number. number < length columns.now) }
-{
-    for (number, column) in columns.iter().enumerate() {
-        if column.is_named(name) {
-            return Some(number);
-        }
-    }
-    None
 }

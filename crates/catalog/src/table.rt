@@ -2,7 +2,7 @@
 
 ghost use Rattle.std.specs.Prelude.{Bool, ◌≡◌, ◌<◌, ◌≤◌, ◌+◌, ◌↔◌, Some, None, IsNone, IfOk, IfErr, OnOk, OnErr, IfSome, length, map, bytes_eq, option_map, slice_get};
 ghost use Rattle.std.specs.List.{AllByRecursion, position_from};
-ghost use Rattle.definitions.specs.Limits.{most_columns, most_rows};
+ghost use Rattle.definitions.specs.Limits.{most_index_columns, most_rows};
 ghost use Rattle.definitions.specs.Table as spec;
 ghost use Rattle.definitions.specs.Change as change;
 ghost use Rattle.definitions.specs.Statistics.{row_width};
@@ -14,9 +14,11 @@ ghost use Rattle.sqlvalue.specs.Meaning.{op_of, type_of, value_of};
 
 use crate::bound::{kept_statistics, page_count, row_count};
 use crate::creation::{key_indexes, new_columns};
-use crate::fault::{CreateFault, IndexFault, LoadFault, StatisticsFault, TableStatisticsFault};
+use crate::fault::{
+    CreateFault, IndexFault, ListFault, LoadFault, StatisticsFault, TableStatisticsFault,
+};
 use crate::growth::{Grown, grow};
-use crate::naming::{number_of, numbers, second_twin};
+use crate::naming::{Named, Names, second_twin};
 use indexes::{Index, TableStatistics, UniqueFault, row_width};
 use loading::{TableColumn, cut_columns};
 use parse_tree::{ColumnDefinition, Constraint, Name};
@@ -30,12 +32,17 @@ pub const MAX_ROWS: usize = 100_000_000;
 /// How many indexes a table may have (own).
 pub const MAX_INDEXES: usize = 16;
 
+/// How many columns an index may have (own).
+pub const MAX_INDEX_COLUMNS: usize = 4;
+
 /// A table: its columns in order, its indexes, its rows in the order in which they came (ISO/IEC 9075:1992, 4.9; that
 /// order is own), and its statistics.
 #[derive(Drop)]
 pub struct Table {
     name: String,
     columns: Vec<TableColumn>,
+    /// The columns' names, in their order.
+    names: Names,
     indexes: Vec<Index>,
     len: usize,
     statistics: TableStatistics,
@@ -58,6 +65,7 @@ impl Table {
     ghost use Rattle.catalog.specs.Creates.{AreJudged, AreTypes, RefusesTypes};
     ghost use Rattle.catalog.specs.Loads.{LoadsTable, RefusesTable};
     ghost use Rattle.catalog.specs.Changes.{AddsIndex, MayIndex, RefusesNewIndex, SetsIndex, RefusesStatistics, RefusesTableStatistics};
+    ghost use Rattle.catalog.specs.Lists.{RefusesList};
     ghost use Rattle.catalog.specs.Tables.{IsIndexRun};
     ghost use Rattle.indexes.specs.Indexes.{StoredIndex, AreIndexColumns};
     ghost use Rattle.indexes.specs.Meaning.{table_statistics_of};
@@ -76,22 +84,18 @@ impl Table {
         ensures err { IfErr result (RefusesTypes (definitions_of definitions.now)) }
     {
         let columns = new_columns(alloc, definitions)?;
+        let names = Names::of_columns(alloc, definitions)?;
         let indexes = key_indexes(alloc, definitions, columns.as_slice())?;
         let name = String::from_str(alloc, name)?;
         let statistics = TableStatistics::table_statistics(columns.as_slice(), 0);
         Ok(Table {
             name,
             columns,
+            names,
             indexes,
             len: 0,
             statistics,
         })
-    }
-
-    pub(crate) fn is_named(&self, name: &str) -> bool
-        ensures { result ≡ bytes_eq self.now.name name.now }
-    {
-        self.name() == name
     }
 
     /// The table's name.
@@ -141,7 +145,7 @@ impl Table {
         ensures place { IfSome result (IsColumnPlace self.now.columns name.now) }
         ensures none { IsNone result ↔ (spec.type_named self.now.columns name.now ≡ None) }
     {
-        number_of(self.columns.as_slice(), name)
+        self.names.place(name)
     }
 
     /// The type of a column.
@@ -268,7 +272,7 @@ impl Table {
         ensures refused { IfErr result (λ fault. (unique : Bool) →
             RefusesNewIndex self.now unique (map name_of names.now) fault) }
     {
-        let list = match numbers(alloc, self.columns.as_slice(), names) {
+        let list = match self.numbers(alloc, names) {
             Ok(list) => list,
             Err(fault) => return Err(IndexFault::List(fault)),
         };
@@ -282,6 +286,32 @@ impl Table {
             return Err(IndexFault::ManyIndexes);
         }
         Ok(list)
+    }
+
+    /// The numbers of one to four columns, by their names (own).
+    fn numbers(&self, alloc: Global, names: &[Name]) -> Result<Vec<usize>, ListFault>
+        ensures found { IfOk result (λ numbers. spec.column_numbers self.now.columns (map name_of names.now)
+            ≡ Some numbers.items) }
+        ensures there { IfOk result (λ numbers. AllByRecursion (λ n. n < length self.now.columns) numbers.items) }
+        ensures many { IfOk result (λ numbers. length numbers.items ≡ length names.now) }
+        ensures some { OnOk result (0 < length names.now) }
+        ensures short { OnOk result (length names.now ≤ most_index_columns) }
+        ensures refused { IfErr result (RefusesList self.now.columns (map name_of names.now)) }
+    {
+        if names.is_empty() {
+            return Err(ListFault::Empty);
+        }
+        if names.len() > MAX_INDEX_COLUMNS {
+            return Err(ListFault::ManyColumns);
+        }
+        let mut numbers = Vec::new(alloc);
+        for (place, name) in names.iter().enumerate() {
+            match self.column(name.name()) {
+                Some(number) => numbers.push(number)?,
+                None => return Err(ListFault::NoColumn { column: place }),
+            }
+        }
+        Ok(numbers)
     }
 
     /// The number of the index on a list of columns.
@@ -330,7 +360,7 @@ impl Table {
         ensures refused { IfErr result (RefusesStatistics self.old (map name_of names.now) (statistics_of given.now)) }
         ensures err { OnErr result (self.new ≡ self.old) }
     {
-        let list = match numbers(alloc, self.columns.as_slice(), names) {
+        let list = match self.numbers(alloc, names) {
             Ok(list) => list,
             Err(fault) => return Err(StatisticsFault::List(fault)),
         };

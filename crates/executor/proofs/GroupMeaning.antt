@@ -1,11 +1,10 @@
 -- What may be told of a block that is grouped, where its composites come in the order of GROUP BY.
-use Rattle.std.proofs.Common.{◌≡◌, ◌∙◌, refl, sym, ap, subst, ℕ, List, [], ◌∷◌, ◌++◌, Bool, true, false, Option, Some, None, map, true≢false}
+use Rattle.std.proofs.Common.{◌≡◌, ◌∙◌, refl, sym, ap, subst, List, [], ◌∷◌, ◌++◌, Bool, true, false, Option, map, true≢false}
 use Rattle.std.specs.Prelude.{Contains, IsPermutation, IsSorted}
 use Rattle.std.specs.List.{AllByRecursion}
 use Rattle.std.proofs.lemmas.List.Sorted.{IsPermutation-refl, IsPermutation-trans}
 use Rattle.definitions.specs.Table.{Row}
 use Rattle.definitions.specs.Arithmetic.{Raise}
-use Rattle.definitions.specs.Printing.{table_text}
 use Rattle.definitions.specs.Plans.Order.{BlockColumn}
 use Rattle.definitions.specs.Queries.Answer.{distinct_rows, is_grouped}
 use Rattle.definitions.specs.Queries.BoundBlock.{Block, Key}
@@ -29,16 +28,10 @@ use Rattle.definitions_answers.proofs.GroupedShapes.{grouped_rows_have_shapes}
 use Rattle.definitions_answers.proofs.GroupRows.{groups_tell}
 use Rattle.definitions_answers.proofs.Reordered.{reordered}
 use Rattle.definitions_answers.proofs.Taken.{all_arranged, all_joined, all_split}
-use Rattle.grouping.specs.Faults.{IfRaised}
-use Rattle.grouping.specs.declared.fault.AnswerFault.{AnswerFault}
-use Rattle.grouping.proofs.Faults.{raised_weaker}
 use Rattle.scans.specs.Sources.{BlockSource, block_in, context_in}
 use Rattle.executor.specs.Cut.{none, open_groups, some, whole, AreAllGroups, IsCutInto}
-use Rattle.executor.specs.Groups.{AreTyped, HaveGrouped, IsRaiseOfGroups, IsTextOfGroups, TellGroups}
 use Rattle.executor.specs.Ready.{AreReady, CanGroup}
-use Rattle.executor.specs.Telling.{kept, late_raises, leaves_repeats_out, names_of, puts_in_order, AreToldAs, MayTell}
-use Rattle.executor.specs.declared.group_rows.GroupRows.{GroupRows}
-use Rattle.executor.proofs.GroupTaken.{all_typed}
+use Rattle.executor.specs.Telling.{kept, late_raises, AreToldAs, MayTell}
 use Rattle.executor.proofs.GroupTelling.{regular}
 use Rattle.executor.proofs.Meaning.{kept_arranged, quiet_where, required, typed}
 
@@ -86,9 +79,6 @@ in_any_order : (keys : List Key) (printed : List Row) → is_empty keys ≡ true
 in_any_order [] printed e = λ k d low high. refl
 in_any_order (key ∷ keys) printed e = absurd (true≢false (sym e))
 
-pub quiet_of : (source : BlockSource) (outer : List Combination) (all done : List Composite) (told : GroupRows) → done ≡ all → HaveGrouped source outer done told → late_raises source outer all ≡ []
-quiet_of source outer all done told complete have = subst (λ l. late_raises source outer l ≡ []) complete have.quiet
-
 module _ (source : BlockSource) (outer : List Combination) (all : List Composite) (ready : AreReady source outer all) (grouped : is_grouped (block_in source) ≡ true) (quiet : late_raises source outer all ≡ []) where
   abbrev context : Context
   context = context_in source outer
@@ -126,22 +116,3 @@ module _ (source : BlockSource) (outer : List Combination) (all : List Composite
     group_rows_told true printed silent empty h = arranged_told printed silent h.same h.sorted
     group_rows_told false printed silent empty h =
         arranged_told printed silent (subst (IsPermutation (distinct_rows b.distinct (group_rows context b groups))) (sym h) (IsPermutation-refl (distinct_rows b.distinct (group_rows context b groups)))) (in_any_order b.order printed (empty refl))
-
-  -- of the composites that were taken
-  module _ (told : GroupRows) (done : List Composite) (complete : done ≡ all) (have : HaveGrouped source outer done told) where
-    tells : TellGroups source outer cs told
-    tells = subst (λ l. TellGroups source outer (map (combination_of source.database b) (kept source outer l)) told) complete have.told
-
-    all_are_typed : AreTyped source outer cs
-    all_are_typed = all_typed source outer ready.valid (kept source outer all)
-
-    pub groups_raise_told : (fault : AnswerFault) → IfRaised fault (IsRaiseOfGroups source outer told) → IfRaised fault (λ raise. MayTell source outer (Exception raise))
-    groups_raise_told fault h = raised_weaker fault _ _ (λ raise k. let (groups, are, raises) = k cs all_are_typed tells in group_raise_told groups are raise raises) h
-
-    pub groups_text_told : (text : List ℕ) (in_order : Bool) → puts_in_order told.groups.rows ≡ in_order → leaves_repeats_out told.groups.rows ≡ b.distinct → (in_order ≡ false → is_empty b.order ≡ true)
-        → IsTextOfGroups source outer told b.order text → (rows : List Row) × MayTell source outer (Rows rows) × (text ≡ table_text (names_of source) rows)
-    groups_text_told text in_order order distinct empty h =
-        let (groups, are, silent, prints) = h cs all_are_typed tells in
-        let (shapes, has) = shaped groups are in
-        let (printed, arranged, is) = prints shapes has in
-        (printed, group_rows_told groups are in_order printed silent empty (rw (order, distinct) at arranged), is)

@@ -2,9 +2,6 @@ pub mod Lists
 pub mod AnswerArranged
 pub mod Formed
 pub mod Testing
-pub mod Taking
-pub mod Meaning
-pub mod Ending
 mod Planned
 mod Totals
 mod Arranged
@@ -18,5 +15,8 @@ mod GroupFacts
 mod GroupTelling
 mod GroupTaking
 mod GroupEnding
-mod GroupTaken
+mod BlockTaking
+mod Taking
+mod Meaning
 mod GroupMeaning
+mod Ending

@@ -1,5 +1,5 @@
 -- What may be told of a block, and of one that is not grouped, by an arrangement of the combinations that pass.
-use Rattle.std.proofs.Common.{◌≡◌, ◌∙◌, refl, sym, ap, subst, List, [], ◌∷◌, ◌++◌, Bool, true, false, map, arith}
+use Rattle.std.proofs.Common.{◌≡◌, refl, sym, subst, List, [], ◌∷◌, Bool, true, false, map, arith}
 use Rattle.std.specs.Prelude.{flat_map, is_some, Contains, IsPermutation, IsSorted}
 use Rattle.std.specs.List.{AllByRecursion, list_all}
 use Rattle.std.proofs.lemmas.List.Folds.{flat_map-map}
@@ -30,9 +30,9 @@ use Rattle.definitions_answers.proofs.TypedKept.{kept_are_typed}
 use Rattle.definitions_answers.proofs.ValueShapes.{plain_rows_have_shapes}
 use Rattle.scans.specs.Sources.{BlockSource, block_in, context_in}
 use Rattle.executor.specs.Ready.{AreReady}
-use Rattle.executor.specs.Telling.{column_raises, kept, late_raises, rows_of, AreToldAs, MayTell}
+use Rattle.executor.specs.Telling.{kept, late_raises, AreToldAs, MayTell}
 use Rattle.executor.proofs.AnswerArranged.{filter_arranged, flat_map_arranged, nothing_arranged}
-use Rattle.executor.proofs.Lists.{filter-map, map-map}
+use Rattle.executor.proofs.Lists.{filter-map}
 
 where_told : (rs : List Raise) (context : Context) (b : Block) (keys : List b'.Key) (r : Raise) → Contains rs r → Allowed (answer_after_where rs context b) keys (Exception r)
 where_told [] context b keys r h = absurd (omega (arith, h.1))
@@ -68,12 +68,6 @@ module _ (source : BlockSource) (outer : List Combination) (all : List Composite
   pub kept_arranged : IsPermutation (c.kept context b) cs
   kept_arranged = subst (IsPermutation (c.kept context b)) (filter-map seen (c.all_hold context (late_conjuncts b)) all) (filter_arranged (c.all_hold context (late_conjuncts b)) (passing context b) (map seen all) ready.arranged)
 
-  columns_are : column_raises source outer all ≡ plain_raises context b cs
-  columns_are = sym (flat_map-map (λ combination. flat_map raises_of (values_at context b combination)) seen (kept source outer all))
-
-  rows_are : rows_of source outer all ≡ map (plain_row context b) cs
-  rows_are = sym (map-map (plain_row context b) seen (kept source outer all))
-
   pub typed : AllByRecursion (IsTypedCombination context.database b) (c.kept context b)
   typed = kept_are_typed context b ready.valid
 
@@ -89,31 +83,25 @@ module _ (source : BlockSource) (outer : List Combination) (all : List Composite
       subst (AreRequired b) (filter-map seen (c.all_hold context (late_conjuncts b)) all) (left_are_required b (c.all_hold context (late_conjuncts b)) (map seen all) ready.ordered)
 
   -- the rows have the shapes of their columns
-  pub rows_have_shapes : column_raises source outer all ≡ [] → (shapes : List Shape) × AllByRecursion (HasShapes shapes) (rows_of source outer all)
+  pub rows_have_shapes : plain_raises context b cs ≡ [] → (shapes : List Shape) × AllByRecursion (HasShapes shapes) (map (plain_row context b) cs)
   rows_have_shapes none =
       let (shapes, has) = shaped in
       let here : AllByRecursion (IsTypedCombination context.database b) cs = all_arranged (IsTypedCombination context.database b) (c.kept context b) cs (reordered (c.kept context b) cs kept_arranged) typed in
-      (shapes, subst (AllByRecursion (HasShapes shapes)) (sym rows_are) (rows_shaped context b shapes has cs here (sym columns_are ∙ none)))
+      (shapes, rows_shaped context b shapes has cs here none)
 
   module _ (quiet : late_raises source outer all ≡ []) where
     pub quiet_where : raises_of_where context b ≡ []
     quiet_where = nothing_arranged (late_raises source outer all) (raises_of_where context b) (IsPermutation-sym (raises_of_where context b) (late_raises source outer all) late_arranged) quiet
 
-    pub column_raise_told : is_grouped b ≡ false → (r : Raise) → Contains (column_raises source outer all) r → MayTell source outer (Exception r)
-    column_raise_told ungrouped r h =
-        let (shapes, has) = shaped in
-        (combinations_tell context b cs b.order shapes ungrouped quiet_where typed has kept_arranged).0 r (subst (λ rs. Contains rs r) columns_are h)
+    pub column_raise_told : is_grouped b ≡ false → (r : Raise) → Contains (plain_raises context b cs) r → MayTell source outer (Exception r)
+    column_raise_told ungrouped r h = let (shapes, has) = shaped in (combinations_tell context b cs b.order shapes ungrouped quiet_where typed has kept_arranged).0 r h
 
-    arranged_told : is_grouped b ≡ false → (printed : List Row) → column_raises source outer all ≡ [] → IsPermutation (distinct_rows b.distinct (map (plain_row context b) cs)) printed → IsSorted (row_order b.order) printed → MayTell source outer (Rows printed)
-    arranged_told ungrouped printed none same sorted =
-        let (shapes, has) = shaped in
-        (combinations_tell context b cs b.order shapes ungrouped quiet_where typed has kept_arranged).1 printed (sym columns_are ∙ none) same sorted
+    arranged_told : is_grouped b ≡ false → (printed : List Row) → plain_raises context b cs ≡ [] → IsPermutation (distinct_rows b.distinct (map (plain_row context b) cs)) printed → IsSorted (row_order b.order) printed → MayTell source outer (Rows printed)
+    arranged_told ungrouped printed none same sorted = let (shapes, has) = shaped in (combinations_tell context b cs b.order shapes ungrouped quiet_where typed has kept_arranged).1 printed none same sorted
 
-    pub rows_told : is_grouped b ≡ false → (in_order : Bool) (printed : List Row) → column_raises source outer all ≡ [] → (in_order ≡ false → list_all (λ key. is_some (sort_key b.items key)) b.order ≡ true)
-        → AreToldAs in_order b.distinct b.order (rows_of source outer all) printed → MayTell source outer (Rows printed)
-    rows_told ungrouped true printed none columns h =
-        arranged_told ungrouped printed none (subst (λ rs. IsPermutation (distinct_rows b.distinct rs) printed) rows_are h.same) h.sorted
+    pub rows_told : is_grouped b ≡ false → (in_order : Bool) (printed : List Row) → plain_raises context b cs ≡ [] → (in_order ≡ false → list_all (λ key. is_some (sort_key b.items key)) b.order ≡ true)
+        → AreToldAs in_order b.distinct b.order (map (plain_row context b) cs) printed → MayTell source outer (Rows printed)
+    rows_told ungrouped true printed none columns h = arranged_told ungrouped printed none h.same h.sorted
     rows_told ungrouped false printed none columns h =
-        let is : printed ≡ distinct_rows b.distinct (map (plain_row context b) cs) = h ∙ ap (distinct_rows b.distinct) rows_are in
-        arranged_told ungrouped printed none (subst (IsPermutation (distinct_rows b.distinct (map (plain_row context b) cs))) (sym is) (IsPermutation-refl (distinct_rows b.distinct (map (plain_row context b) cs))))
-        (subst (IsSorted (row_order b.order)) (sym is) (required_order_is_row_order context b cs ungrouped (columns refl) (sym columns_are ∙ none) required))
+        arranged_told ungrouped printed none (subst (IsPermutation (distinct_rows b.distinct (map (plain_row context b) cs))) (sym h) (IsPermutation-refl (distinct_rows b.distinct (map (plain_row context b) cs))))
+        (subst (IsSorted (row_order b.order)) (sym h) (required_order_is_row_order context b cs ungrouped (columns refl) none required))

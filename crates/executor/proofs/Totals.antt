@@ -8,7 +8,6 @@ use Rattle.definitions.specs.Plans.Cost.{limit, saturated}
 use Rattle.definitions.specs.Plans.Least.{IsLeast}
 use Rattle.definitions.specs.Plans.Plan.{Plan, Access, Loop, Merge, Sort}
 use Rattle.definitions.specs.Plans.Space.{Space}
-use Rattle.definitions.specs.Queries.BoundBlock.{Block}
 use Rattle.definitions.specs.Queries.Combinations.{passing}
 use Rattle.definitions_execution.specs.Running.{work}
 use Rattle.definitions_execution.specs.Stored.{Stored}

@@ -1,19 +1,14 @@
 -- What is kept of the groups of a block while its rows come.
-use Rattle.std.specs.Prelude.{ℕ, ◌≡◌, ⊤, Bool, false, List, [], ◌∷◌, ◌++◌, Option, Some, None, Contains, flat_map, get_or, length, map}
+use Rattle.std.specs.Prelude.{◌≡◌, ⊤, Bool, false, List, [], ◌∷◌, ◌++◌, Option, Some, None, Contains, flat_map, length, map}
 use Rattle.std.specs.List.{AllByRecursion}
-use Rattle.definitions.specs.Table.{Row}
 use Rattle.definitions.specs.Arithmetic as arithmetic
-use Rattle.definitions.specs.Printing.{table_text}
 use Rattle.definitions.specs.Plans.Order.{BlockColumn}
-use Rattle.definitions.specs.Queries.BoundBlock as b
 use Rattle.definitions.specs.Queries.Combinations.{at}
 use Rattle.definitions.specs.Queries.Evaluation.{Combination, Environment}
 use Rattle.definitions_execution.specs.OfBlock.{combination_of}
-use Rattle.definitions_execution.specs.Stored.{Composite}
 use Rattle.definitions_execution.specs.TypedCombinations.{IsTypedCombination}
 use Rattle.definitions_answers.specs.Groups.{in_one_group}
 use Rattle.definitions_answers.specs.GroupRows.{group_raises, group_rows}
-use Rattle.definitions_answers.specs.Shapes.{Shape, HasShapes}
 use Rattle.sqlvalue.specs.Raises.{raise_of}
 use Rattle.sqlvalue.specs.declared.arithmetic.Raise.{Raise}
 use Rattle.scans.specs.Composites.{numbers_in}
@@ -21,8 +16,8 @@ use Rattle.scans.specs.declared.composite.Composite as code
 use Rattle.scans.specs.Sources.{BlockSource, block_in, context_in}
 use Rattle.grouping.specs.Functions.{argument_raises}
 use Rattle.grouping.specs.Groups.{functions_of, AreOf}
-use Rattle.executor.specs.Cut.{open_groups, AreAllGroups, IsCutInto}
-use Rattle.executor.specs.Telling.{kept, late_raises, leaves_repeats_out, names_of, puts_in_order, AreToldAs, Holds}
+use Rattle.executor.specs.Cut.{AreAllGroups, IsCutInto}
+use Rattle.executor.specs.Telling.{names_of, Holds}
 use Rattle.executor.specs.declared.group_rows.GroupRows.{GroupRows}
 use Rattle.executor.specs.declared.group_rows.Groups.{Groups}
 use Rattle.executor.specs.declared.group_rows.OpenGroup.{OpenGroup}
@@ -130,24 +125,13 @@ module _ (source : BlockSource) (outer : List Combination) where
   abbrev pub AreWell : GroupRows → Type 0
   AreWell told = IsWellBy told.raised told.groups.current
 
-  -- what is told at the end: the rows of all groups, where none raises, or what one raises
-  abbrev pub IsTextOfGroups : GroupRows → List b.Key → List ℕ → Type 0
-  IsTextOfGroups told keys text =
+  -- at the end: the rows of all groups, where none raises, or what one raises
+  abbrev pub AreRowsOfGroups : GroupRows → RowStore → Type 0
+  AreRowsOfGroups told rows =
       (cs : List Combination) → AreTyped cs → TellGroups cs told
-      → (groups : List (List Combination)) × AreAllGroups (block_in source).groups cs groups × (group_raises (context_in source outer) (block_in source) groups ≡ [])
-      × ((shapes : List Shape) → AllByRecursion (HasShapes shapes) (group_rows (context_in source outer) (block_in source) groups)
-      → (printed : List Row) × AreToldAs (puts_in_order told.groups.rows) (leaves_repeats_out told.groups.rows) keys (group_rows (context_in source outer) (block_in source) groups) printed
-      × (text ≡ table_text (names_of source) printed))
+      → (groups : List (List Combination)) × AreAllGroups (block_in source).groups cs groups × AreRowsOf groups rows
 
   abbrev pub IsRaiseOfGroups : GroupRows → arithmetic.Raise → Type 0
   IsRaiseOfGroups told raise =
       (cs : List Combination) → AreTyped cs → TellGroups cs told
       → (groups : List (List Combination)) × AreAllGroups (block_in source).groups cs groups × Contains (group_raises (context_in source outer) (block_in source) groups) raise
-
--- they tell of composites on which no late conjunct raises
-pub record HaveGrouped (source : BlockSource) (outer : List Combination) (composites : List Composite) (groups : GroupRows) : Type 0 where
-  pub quiet : late_raises source outer composites ≡ []
-  pub told : TellGroups source outer (map (combination_of source.database (block_in source)) (kept source outer composites)) groups
-
-abbrev pub HaveGroupedOneMore : BlockSource → List Combination → Composite → GroupRows → GroupRows → Type 0
-HaveGroupedOneMore source outer composite told told' = (composites : List Composite) → HaveGrouped source outer composites told → HaveGrouped source outer (composites ++ composite ∷ []) told'

@@ -8,3 +8,4 @@ pub mod Ready
 pub mod Having
 pub mod Cut
 pub mod Groups
+pub mod BlockRows

@@ -23,3 +23,9 @@ pub record CanGroup (source : BlockSource) (outer : List Combination) : Type 0 w
   pub answerable : IsAnswerable (block_in source)
   pub valid : IsDatabase source.database
   pub surrounded : IsSurrounded source outer
+
+-- of any block
+pub record CanAnswer (source : BlockSource) (outer : List Combination) : Type 0 where
+  pub answerable : IsAnswerable (block_in source)
+  pub valid : IsDatabase source.database
+  pub surrounded : IsSurrounded source outer

@@ -1,16 +1,13 @@
 -- What is told of composites.
-use Rattle.std.specs.Prelude.{ℕ, ◌≡◌, Bool, true, false, is_some, List, [], ◌∷◌, ◌++◌, Option, Some, None, Contains, IsPermutation, length, map, filter, flat_map}
-use Rattle.std.specs.List.{AllByRecursion}
+use Rattle.std.specs.Prelude.{ℕ, ◌≡◌, Bool, true, false, is_some, List, [], ◌∷◌, ◌++◌, Option, Some, None, Contains, IsPermutation, map, filter, flat_map}
 use Rattle.definitions.specs.Table.{Row}
 use Rattle.definitions.specs.Arithmetic as arithmetic
-use Rattle.definitions.specs.Printing.{table_text}
 use Rattle.definitions.specs.Queries.BoundBlock.{Item, Key}
 use Rattle.definitions.specs.Queries.Conjuncts.{late_conjuncts}
 use Rattle.definitions.specs.Queries.Evaluation.{Combination, Environment}
 use Rattle.definitions.specs.Queries.Combinations.{passing}
 use Rattle.definitions.specs.Queries.Answer.{block_answer, distinct_rows}
 use Rattle.definitions.specs.Queries.Outcomes.{Allowed, Told}
-use Rattle.definitions_answers.specs.Shapes.{Shape, HasShapes}
 use Rattle.sqlvalue.specs.Raises.{raise_of}
 use Rattle.sqlvalue.specs.declared.arithmetic.Raise.{Raise}
 use Rattle.definitions_execution.specs.Stored.{Composite}
@@ -44,15 +41,9 @@ module _ (source : BlockSource) (outer : List Combination) where
   abbrev pub late_raises : List Composite → List arithmetic.Raise
   late_raises composites = flat_map late_raises_on composites
 
-  -- those on which late conjuncts are true, the rows of them, and what result columns raise on them
+  -- those on which late conjuncts are true
   abbrev pub kept : List Composite → List Composite
   kept composites = filter (λ composite. are_true_in (environment_at source outer composite) (late_conjuncts (block_in source))) composites
-
-  abbrev pub rows_of : List Composite → List Row
-  rows_of composites = map (λ composite. row_in (environment_at source outer composite) (block_in source).items) (kept composites)
-
-  abbrev pub column_raises : List Composite → List arithmetic.Raise
-  column_raises composites = flat_map (λ composite. row_raises_in (environment_at source outer composite) (block_in source).items) (kept composites)
 
 -- ---- the rows that are kept
 
@@ -88,20 +79,6 @@ abbrev pub TellsOneMore : Environment → List Item → ResultRows → ResultRow
 TellsOneMore env items told told' =
     (names : List (List ℕ)) (rows : List Row) (raises : List arithmetic.Raise) → Tells names rows raises told → Tells names (rows ++ row_in env items ∷ []) (raises ++ row_raises_in env items) told'
 
--- what is told of rows at their end: all that they print, where no result column raises, or one of the exceptions
-abbrev pub IsTextOf : ResultRows → List Key → List ℕ → Type 0
-IsTextOf told keys text =
-    (names : List (List ℕ)) (rows : List Row) (raises : List arithmetic.Raise) → Tells names rows raises told
-    → (raises ≡ []) × ((shapes : List Shape) → AllByRecursion (HasShapes shapes) rows
-    → (printed : List Row) × AreToldAs (puts_in_order told.store) (leaves_repeats_out told.store) keys rows printed × (text ≡ table_text names printed))
-
+-- what is told of rows where a result column raises
 abbrev pub IsRaiseOf : ResultRows → arithmetic.Raise → Type 0
 IsRaiseOf told raise = (names : List (List ℕ)) (rows : List Row) (raises : List arithmetic.Raise) → Tells names rows raises told → Contains raises raise
-
--- they tell of composites on which no late conjunct raises
-pub record HaveTaken (source : BlockSource) (outer : List Combination) (composites : List Composite) (rows : ResultRows) : Type 0 where
-  pub quiet : late_raises source outer composites ≡ []
-  pub told : Tells (names_of source) (rows_of source outer composites) (column_raises source outer composites) rows
-
-abbrev pub HaveTakenOneMore : BlockSource → List Combination → Composite → ResultRows → ResultRows → Type 0
-HaveTakenOneMore source outer composite lines lines' = (composites : List Composite) → HaveTaken source outer composites lines → HaveTaken source outer (composites ++ composite ∷ []) lines'

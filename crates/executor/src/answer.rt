@@ -1,6 +1,6 @@
 //! The answer of a block.
 
-ghost use Rattle.std.specs.Prelude.{◌≡◌, ◌∷◌, [], List, IfErr, IfOk, OnOk, length, map};
+ghost use Rattle.std.specs.Prelude.{◌≡◌, ◌∷◌, [], Contains, List, IfErr, IfOk, OnOk, length, map};
 ghost use Rattle.definitions.specs.Printing.{table_text};
 ghost use Rattle.definitions.specs.Binding.Formed.{IsFormedBlock};
 ghost use Rattle.definitions.specs.Estimates.BlockSpace.{space_of};
@@ -18,16 +18,18 @@ ghost use Rattle.definitions_execution.specs.Total.{IsTotal};
 ghost use Rattle.definitions_answers.specs.Ordered.{AreRequired};
 ghost use Rattle.scans.specs.Sources.{block_in, stored_in, IsSurrounded};
 ghost use Rattle.grouping.specs.Faults.{IfRaised};
+ghost use Rattle.executor.specs.BlockRows.{store_in, HaveTaken, IsWellFor};
+ghost use Rattle.executor.specs.Ready.{CanAnswer};
 ghost use Rattle.executor.specs.Telling as told;
 ghost use Rattle.executor.specs.Telling.{ArrangePassing, MayTell};
 
-use crate::answer_groups::answer_groups;
-use crate::answer_rows::answer_rows;
+use crate::block_rows::BlockRows;
+use crate::group_rows::row_at;
+use crate::late::{late_conditions, try_all};
 use crate::planning::least_plan;
 use crate::running::run_plan;
 use catalog::Database;
 use grouping::AnswerFault;
-use interesting_orders::is_grouped;
 use plan_tree::{Plan, SortKey};
 use query_tree::Block;
 use scans::{BlockSource, NoOuterRows, OuterRows, TupleSource};
@@ -81,11 +83,12 @@ pub fn answer_by_plan<'s>(
 {
     let mut line = run_plan(alloc, source, orders, plan, &NoOuterRows)?;
     let text = answer_block(alloc, source, block, &NoOuterRows, &mut line)?;
-    Ok((text, line.opened()))
+    Ok((text, line.opened_rows()))
 }
 
-/// What a block prints of the composites that pass its early conjuncts, in the rows of the blocks around it. Each
-/// composite is taken once.
+/// What a block prints of the composites that pass its early conjuncts, in the rows of the blocks around it: its header,
+/// its rows and how many there are; or an exception that it raises. Each composite is taken once. Late conjuncts are all
+/// evaluated on each composite, and what they raise is told before what groups and result columns raise (own).
 fn answer_block<P: TupleSource, A: OuterRows>(
     alloc: Global,
     source: &BlockSource<'_>,
@@ -114,9 +117,44 @@ fn answer_block<P: TupleSource, A: OuterRows>(
 {
     // A look at the first table tells what holds of the database.
     let _table = source.table(0);
-    if is_grouped(block) {
-        answer_groups(alloc, source, block, around, pull)
-    } else {
-        answer_rows(alloc, source, block, around, pull)
+    let mut rows = BlockRows::new(alloc, block)?;
+    take_all(alloc, &mut rows, source, block, around, pull)?;
+    let store = rows.finish(alloc, source, block, around)?;
+    Ok(store.end(&block.order)?)
+}
+
+/// Takes all composites into rows that have taken none yet.
+fn take_all<'s, P: TupleSource, A: OuterRows>(
+    alloc: Global,
+    rows: &mut BlockRows<'s>,
+    source: &BlockSource<'_>,
+    block: &'s Block,
+    around: &A,
+    pull: &mut P,
+) -> Result<(), AnswerFault>
+    requires block { block.now ≡ source.now.block }
+    requires can { CanAnswer source.now (A.combinations around.now) }
+    requires nothing { HaveTaken source.now (A.combinations around.now) [] rows.old }
+    requires good { IsWellFor source.now (A.combinations around.now) rows.old }
+    requires well { P.IsWell pull.old (A.combinations around.now) }
+    requires width { P.width pull.old ≡ length (block_in source.now).tables }
+    ensures all { OnOk result (HaveTaken source.now (A.combinations around.now)
+        (P.left pull.old (A.combinations around.now)) rows.new) }
+    ensures raised { IfErr result (λ fault. IfRaised fault (Contains (told.late_raises source.now
+        (A.combinations around.now) (P.left pull.old (A.combinations around.now))))) }
+    ensures good { OnOk result (IsWellFor source.now (A.combinations around.now) rows.new) }
+    ensures order { told.puts_in_order (store_in rows.new) ≡ told.puts_in_order (store_in rows.old) }
+    ensures distinct { told.leaves_repeats_out (store_in rows.new) ≡ told.leaves_repeats_out (store_in rows.old) }
+    ensures taken { OnOk result (P.left pull.new (A.combinations around.now) ≡ []) }
+    ensures well { OnOk result (P.IsWell pull.new (A.combinations around.now)) }
+    ensures work { P.work pull.new (A.combinations around.now) ≡ P.work pull.old (A.combinations around.now) }
+    ensures opened { OnOk result (P.opened pull.new ≡ P.work pull.new (A.combinations around.now)) }
+{
+    let late = late_conditions(alloc, source)?;
+    'composites: while let Some(composite) = pull.next(around) {
+        if try_all(&late, &row_at(source, &composite, around))? {
+            rows.add(alloc, source, block, &composite, around)?;
+        }
     }
+    Ok(())
 }

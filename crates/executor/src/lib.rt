@@ -2,8 +2,7 @@
 #![tactic(auto)]
 
 mod answer;
-mod answer_groups;
-mod answer_rows;
+mod block_rows;
 mod explaining;
 mod group_rows;
 mod having;

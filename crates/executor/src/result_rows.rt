@@ -3,13 +3,14 @@
 ghost use Rattle.std.specs.Prelude.{◌≡◌, ◌++◌, ◌∷◌, [], Contains, List, ℕ, IfErr, IfOk, OnOk, map};
 ghost use Rattle.std.specs.List.{AllByRecursion};
 ghost use Rattle.definitions.specs.Table.{Row};
+ghost use Rattle.definitions.specs.Arithmetic as arithmetic;
 ghost use Rattle.definitions.specs.Printing.{table_text};
 ghost use Rattle.definitions.specs.Queries.BoundBlock as b;
 ghost use Rattle.definitions_answers.specs.Shapes.{HasShapes, Shape};
 ghost use Rattle.query_tree.specs.Bound.{key_of};
 ghost use Rattle.grouping.specs.Faults.{IfRaised};
 ghost use Rattle.grouping.specs.RowAt.{items_of, row_in, row_raises_in, CanGive};
-ghost use Rattle.executor.specs.Telling.{leaves_repeats_out, puts_in_order, AreToldAs, Holds, IsRaiseOf, IsTextOf, Tells, TellsOneMore};
+ghost use Rattle.executor.specs.Telling.{leaves_repeats_out, puts_in_order, AreToldAs, Holds, IsRaiseOf, Tells, TellsOneMore};
 
 use expr::Environment;
 use grouping::{AnswerFault, DistinctRows, OrderedRows, PrintedRows};
@@ -94,22 +95,15 @@ pub(crate) struct ResultRows {
 }
 
 impl ResultRows {
-    /// No rows. They are to be told in the order in which they come, or put in order at their end; under DISTINCT each
-    /// once.
-    pub fn new(
-        alloc: Global,
-        items: &[Item],
-        in_order: bool,
-        distinct: bool,
-    ) -> Result<ResultRows, AllocError>
-        ensures told { IfOk result (Tells (map (λ (i : b.Item). i.name) (items_of items.now)) [] []) }
-        ensures order { IfOk result (λ rows. puts_in_order rows.store ≡ in_order) }
-        ensures distinct { IfOk result (λ rows. leaves_repeats_out rows.store ≡ distinct) }
+    /// No rows, which are to be kept in a store.
+    pub fn new(store: RowStore) -> ResultRows
+        ensures told { (names : List (List ℕ)) → Holds store names [] → Tells names [] [] result }
+        ensures store { result.store ≡ store }
     {
-        Ok(ResultRows {
-            store: RowStore::new(alloc, items, in_order, distinct)?,
+        ResultRows {
+            store,
             raised: None,
-        })
+        }
     }
 
     /// Adds a row, unless a result column has raised.
@@ -137,15 +131,17 @@ impl ResultRows {
         }
     }
 
-    /// The whole text, or the exception that was kept.
-    pub fn end(self, keys: &[Key]) -> Result<Vec<u8>, AnswerFault>
-        ensures text { IfOk result (λ text. IsTextOf self (map key_of keys.now) text.items) }
+    /// All rows, or the exception that was kept.
+    pub fn finish(self) -> Result<RowStore, AnswerFault>
+        ensures rows { IfOk result (λ store. (names : List (List ℕ)) (rows : List Row) (raises : List arithmetic.Raise) →
+            Tells names rows raises self → (raises ≡ []) × Holds store names rows) }
         ensures raised { IfErr result (λ fault. IfRaised fault (IsRaiseOf self)) }
+        ensures store { IfOk result (λ store. store ≡ self.store) }
     {
         let ResultRows { store, raised } = self;
-        if let Some(raise) = raised {
-            return Err(AnswerFault::Raised(raise));
+        match raised {
+            Some(raise) => Err(AnswerFault::Raised(raise)),
+            None => Ok(store),
         }
-        Ok(store.end(keys)?)
     }
 }

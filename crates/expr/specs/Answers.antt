@@ -6,6 +6,8 @@ use Rattle.definitions.specs.Value as spec
 use Rattle.definitions.specs.Value.{Number}
 use Rattle.definitions.specs.Arithmetic as a
 use Rattle.sqlvalue.specs.Meaning.{value_of}
+use Rattle.sqlvalue.specs.Owned.{owned_value}
+use Rattle.sqlvalue.specs.declared.owned_value.OwnedValue.{OwnedValue}
 use Rattle.sqlvalue.specs.Raises.{raise_of}
 use Rattle.sqlvalue.specs.Truths.{truth_of}
 use Rattle.sqlvalue.specs.declared.truth.Tri.{Tri}
@@ -20,8 +22,8 @@ abbrev pub answer_of : Result Value Raise → Result spec.Value a.Raise
 answer_of (Ok v) = Ok (value_of v)
 answer_of (Err r) = Err (raise_of r)
 
-abbrev pub values_answer_of : Result (Bor (List Value)) Raise → Result (List spec.Value) a.Raise
-values_answer_of (Ok vs) = Ok (map value_of vs.now)
+abbrev pub values_answer_of : Result (Bor (List OwnedValue)) Raise → Result (List spec.Value) a.Raise
+values_answer_of (Ok vs) = Ok (map owned_value vs.now)
 values_answer_of (Err r) = Err (raise_of r)
 
 -- two values that an operator may stand between: the scale of a product is bounded (own)

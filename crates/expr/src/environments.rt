@@ -10,7 +10,7 @@ ghost use Rattle.query_tree.specs.Bound.{column_of};
 ghost use Rattle.expr.specs.Answers.{answer_of, values_answer_of};
 
 use query_tree::BlockColumn;
-use sqlvalue::{Raise, Value};
+use sqlvalue::{OwnedValue, Raise, Value};
 
 /// What an expression of a block is evaluated in (own). What it lends is there as long as it is.
 pub trait Environment {
@@ -29,6 +29,6 @@ pub trait Environment {
         ensures { MayAnswer (get_or (environment self.now).functions number (Is Null)) (answer_of result) };
 
     /// The first value of each row of an inner block.
-    fn first_values(&self, block: usize) -> Result<&[Value<'_>], Raise>
+    fn first_values(&self, block: usize) -> Result<&[OwnedValue], Raise>
         ensures { MayAnswer (on_one column_values ((environment self.now).inner block)) (values_answer_of result) };
 }

@@ -15,7 +15,20 @@ use query_tree::ValueExpr;
 use sqlvalue::{Raise, Value};
 
 /// The value of an expression, or what it raises first in text order (own; ISO/IEC 9075:1992, 6.11 and 6.12). Takes no memory.
+/// A column, which most expressions are, is read where this is called.
 pub fn value<'a, S: Environment>(expr: &'a ValueExpr, env: &'a S) -> Result<Value<'a>, Raise>
+    requires fits { FitsTypes (S.environment env.now) (tree_of expr.now) }
+    requires typed { (type : ValueType) × (value_type (tree_of expr.now) ≡ Some type) }
+    ensures { MayAnswer (meaning.value (S.environment env.now) (tree_of expr.now)) (answer_of result) }
+{
+    match expr {
+        ValueExpr::Column { column, .. } => Ok(env.cell(*column)),
+        _ => evaluate(expr, env),
+    }
+}
+
+/// The same, part by part.
+fn evaluate<'a, S: Environment>(expr: &'a ValueExpr, env: &'a S) -> Result<Value<'a>, Raise>
     requires fits { FitsTypes (S.environment env.now) (tree_of expr.now) }
     requires typed { (type : ValueType) × (value_type (tree_of expr.now) ≡ Some type) }
     ensures { MayAnswer (meaning.value (S.environment env.now) (tree_of expr.now)) (answer_of result) }
@@ -29,11 +42,11 @@ pub fn value<'a, S: Environment>(expr: &'a ValueExpr, env: &'a S) -> Result<Valu
         } => Ok(env.parameter(*between, *column)),
         ValueExpr::Number(literal) => Ok(Value::Num(literal.number())),
         ValueExpr::Text(text) => Ok(Value::Text(text.as_str())),
-        ValueExpr::Signed { minus, operand } => apply_sign(*minus, value(operand, env)),
+        ValueExpr::Signed { minus, operand } => apply_sign(*minus, evaluate(operand, env)),
         ValueExpr::Chain { first, others } => {
-            let mut left = value(first, env);
+            let mut left = evaluate(first, env);
             for operand in others {
-                left = apply_operator(operand.operator, left, value(&operand.value, env));
+                left = apply_operator(operand.operator, left, evaluate(&operand.value, env));
             }
             left
         }

@@ -13,7 +13,7 @@ ghost use Rattle.query_tree.specs.Bound.{operator_of};
 ghost use Rattle.expr.specs.Answers.{answer_of, values_answer_of, FitsOperator, FitsBoth};
 
 use query_tree::Operator;
-use sqlvalue::{Num, Raise, Value, add, div, mul, sub};
+use sqlvalue::{Num, OwnedValue, Raise, Value, add, div, mul, sub};
 
 /// A value under a sign: minus, or else plus (ISO/IEC 9075:1992, 6.12).
 pub(crate) fn apply_sign<'a>(
@@ -64,13 +64,13 @@ fn calculate(operator: Operator, a: Num, b: Num) -> Result<Num, Raise>
 
 /// A subquery as a value, by the first values of its rows: null of no row, an exception of more than one
 /// (ISO/IEC 9075:1992, 7.11).
-pub(crate) fn only_value<'a>(rows: Result<&'a [Value<'a>], Raise>) -> Result<Value<'a>, Raise>
+pub(crate) fn only_value<'a>(rows: Result<&'a [OwnedValue], Raise>) -> Result<Value<'a>, Raise>
     ensures { (m : Meaning (List Row)) → MayAnswer (meaning.on_one meaning.column_values m)
         (values_answer_of rows.entry) → MayAnswer (meaning.and_then meaning.only_value m) (answer_of result) }
 {
     match rows {
         Ok([]) => Ok(Value::Null),
-        Ok([value]) => Ok(*value),
+        Ok([own]) => Ok(own.value()),
         Ok(_) => Err(Raise::Cardinality),
         Err(raise) => Err(raise),
     }

@@ -9,12 +9,13 @@ ghost use Rattle.definitions.specs.Value as spec;
 ghost use Rattle.definitions.specs.Queries.Evaluation as meaning;
 ghost use Rattle.definitions.specs.Queries.Telling.{MayAnswer};
 ghost use Rattle.sqlvalue.specs.Meaning.{op_of, value_of};
+ghost use Rattle.sqlvalue.specs.Owned.{owned_value};
 ghost use Rattle.sqlvalue.specs.Truths.{truth_of};
 ghost use Rattle.parse_tree.specs.Trees.{quantifier_of};
 ghost use Rattle.expr.specs.Answers.{answer_of, truth_answer_of, values_answer_of};
 
 use query_tree::Quantifier;
-use sqlvalue::{ComparisonOperator, Raise, Tri, Value, like};
+use sqlvalue::{ComparisonOperator, OwnedValue, Raise, Tri, Value, like};
 
 /// A comparison (ISO/IEC 9075:1992, 8.2).
 pub(crate) fn comparison(
@@ -100,7 +101,7 @@ pub(crate) fn either(left: Result<Tri, Raise>, right: Result<Tri, Raise>) -> Res
 }
 
 /// EXISTS (ISO/IEC 9075:1992, 8.8).
-pub(crate) fn has_row(rows: Result<&[Value], Raise>) -> Result<Tri, Raise>
+pub(crate) fn has_row(rows: Result<&[OwnedValue], Raise>) -> Result<Tri, Raise>
     ensures { (m : Meaning (List Row)) → MayAnswer (meaning.on_one meaning.column_values m)
         (values_answer_of rows.entry) → MayAnswer (meaning.on_one truth.has_row m) (truth_answer_of result) }
 {
@@ -116,7 +117,7 @@ pub(crate) fn quantified_comparison(
     op: ComparisonOperator,
     quantifier: Quantifier,
     operand: Result<Value, Raise>,
-    rows: Result<&[Value], Raise>,
+    rows: Result<&[OwnedValue], Raise>,
 ) -> Result<Tri, Raise>
     ensures { (m : Meaning spec.Value) (n : Meaning (List spec.Value)) → MayAnswer m (answer_of operand.entry) →
         MayAnswer n (values_answer_of rows.entry) → MayAnswer
@@ -131,22 +132,22 @@ pub(crate) fn quantified_comparison(
     }
 }
 
-fn with_all(op: ComparisonOperator, value: Value, values: &[Value]) -> Tri
-    ensures { truth_of result ≡ truth.compared_with_all (op_of op) (value_of value.entry) (map value_of values.now) }
+fn with_all(op: ComparisonOperator, value: Value, values: &[OwnedValue]) -> Tri
+    ensures { truth_of result ≡ truth.compared_with_all (op_of op) (value_of value.entry) (map owned_value values.now) }
 {
     let mut all = Tri::True;
     for other in values {
-        all = all.and(op.compare(&value, other));
+        all = all.and(op.compare(&value, &other.value()));
     }
     all
 }
 
-fn with_any(op: ComparisonOperator, value: Value, values: &[Value]) -> Tri
-    ensures { truth_of result ≡ truth.compared_with_any (op_of op) (value_of value.entry) (map value_of values.now) }
+fn with_any(op: ComparisonOperator, value: Value, values: &[OwnedValue]) -> Tri
+    ensures { truth_of result ≡ truth.compared_with_any (op_of op) (value_of value.entry) (map owned_value values.now) }
 {
     let mut any = Tri::False;
     for other in values {
-        any = any.or(op.compare(&value, other));
+        any = any.or(op.compare(&value, &other.value()));
     }
     any
 }

@@ -4,24 +4,23 @@ ghost use Rattle.std.specs.Prelude.{◌≡◌, map};
 ghost use Rattle.definitions_answers.specs.Groups.{in_one_group};
 ghost use Rattle.query_tree.specs.Bound.{column_of};
 ghost use Rattle.grouping.specs.Functions.{with_functions};
-ghost use Rattle.grouping.specs.Keeping.{kept_value};
+ghost use Rattle.sqlvalue.specs.Owned.{owned_value};
 
-use crate::kept::Kept;
 use crate::result_row::value_at;
 use expr::Environment;
 use query_tree::BlockColumn;
-use sqlvalue::{Raise, Value, rank};
+use sqlvalue::{OwnedValue, Raise, Value, rank};
 use std::cmp::Ordering;
 
 /// One of the rows of a group, and the values of the set functions over it.
 #[derive(Drop)]
 pub struct GroupContext<'a, S: Environment> {
     pub row: &'a S,
-    pub values: &'a [Kept],
+    pub values: &'a [OwnedValue],
 }
 
 impl<'a, S: Environment> Environment for GroupContext<'a, S> {
-    ghost environment = { λ g. with_functions (S.environment g.row.now) (map kept_value g.values.now) };
+    ghost environment = { λ g. with_functions (S.environment g.row.now) (map owned_value g.values.now) };
 
     fn cell(&self, column: BlockColumn) -> Value<'_> {
         self.row.cell(column)
@@ -35,7 +34,7 @@ impl<'a, S: Environment> Environment for GroupContext<'a, S> {
         Ok(value_at(self.values, number))
     }
 
-    fn first_values(&self, block: usize) -> Result<&[Value<'_>], Raise> {
+    fn first_values(&self, block: usize) -> Result<&[OwnedValue], Raise> {
         self.row.first_values(block)
     }
 }

@@ -5,19 +5,18 @@ ghost use Rattle.definitions.specs.Value.{Null};
 ghost use Rattle.definitions.specs.Queries.Outcomes.{directed, row_order};
 ghost use Rattle.query_tree.specs.Bound.{key_of};
 ghost use Rattle.sqlvalue.specs.Meaning.{value_of};
-ghost use Rattle.grouping.specs.Keeping.{kept_value};
+ghost use Rattle.sqlvalue.specs.Owned.{owned_value};
 ghost use Rattle.grouping.specs.Rows.{row_of, rows_of};
 
-use crate::kept::Kept;
 use query_tree::Key;
-use sqlvalue::{Value, rank};
+use sqlvalue::{OwnedValue, Value, rank};
 use std::alloc::AllocError;
 use std::cmp::Ordering;
 
 /// The values of a result row, which stay when what lent them is gone.
 #[derive(Drop)]
 pub struct ResultRow {
-    pub values: Vec<Kept>,
+    pub values: Vec<OwnedValue>,
 }
 
 impl ResultRow {
@@ -30,8 +29,8 @@ impl ResultRow {
 }
 
 /// The kept value of a number; null where there is none (own).
-pub(crate) fn value_at(values: &[Kept], number: usize) -> Value<'_>
-    ensures { value_of result ≡ get_or (map kept_value values.now) number Null }
+pub(crate) fn value_at(values: &[OwnedValue], number: usize) -> Value<'_>
+    ensures { value_of result ≡ get_or (map owned_value values.now) number Null }
 {
     match values.get(number) {
         Some(kept) => kept.value(),

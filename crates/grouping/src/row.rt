@@ -11,11 +11,10 @@ ghost use Rattle.grouping.specs.RowAt.{items_of, row_raises_in, row_in, CanGive}
 ghost use Rattle.grouping.specs.Rows.{row_of};
 
 use crate::fault::AnswerFault;
-use crate::kept::Kept;
 use crate::result_row::ResultRow;
 use expr::{Environment, value};
 use query_tree::Item;
-use sqlvalue::{write_decimal, write_value};
+use sqlvalue::{OwnedValue, write_decimal, write_value};
 use std::alloc::{AllocError, Global};
 
 /// The names of the result columns.
@@ -72,7 +71,7 @@ pub(crate) fn keep_row<S: Environment>(
 {
     let mut values = Vec::new(alloc);
     'items: for item in items {
-        let kept = Kept::new(alloc, &value(&item.value, env)?)?;
+        let kept = OwnedValue::new(alloc, &value(&item.value, env)?)?;
         values.push(kept)?;
     }
     Ok(ResultRow { values })

@@ -40,7 +40,7 @@ impl<T: Drop> From<AllocFailed<T>> for ExtendFault {
 }
 
 /// All indexes of a table with further rows behind those that they have, with their statistics counted over all.
-pub fn extended(
+pub fn extend_indexes(
     alloc: Global,
     indexes: &[Index],
     columns: &[TableColumn],
@@ -56,7 +56,7 @@ pub fn extended(
     let mut made = Vec::new(alloc);
     let mut first: Option<RepeatedRow> = None;
     for (place, index) in indexes.iter().enumerate() {
-        match index.extended(alloc, columns, rows) {
+        match index.with_further_rows(alloc, columns, rows) {
             Ok(index) => made.push(index)?,
             Err(UniqueFault::Repeated(key)) => first = Some(earlier_of(first, place, key)),
             Err(UniqueFault::Memory) => return Err(ExtendFault::Memory),

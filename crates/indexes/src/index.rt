@@ -77,7 +77,7 @@ impl Index {
     }
 
     /// The index on the same columns with more rows behind those that this one has, with its statistics counted over all.
-    pub fn extended(
+    pub fn with_further_rows(
         &self,
         alloc: Global,
         columns: &[TableColumn],
@@ -100,7 +100,7 @@ impl Index {
             Ok(numbers) => numbers,
             Err(_) => return Err(UniqueFault::Memory),
         };
-        let order = match self.order.extended(alloc, keys.as_slice()) {
+        let order = match self.order.with_further_rows(alloc, keys.as_slice()) {
             Ok(order) => order,
             Err(fault) => return Err(fault),
         };

@@ -49,7 +49,11 @@ impl IndexKind {
     }
 
     /// The order of the rows of the same columns with more rows behind those that this one has.
-    pub(crate) fn extended(&self, alloc: Global, keys: &[&Column]) -> Result<IndexKind, UniqueFault>
+    pub(crate) fn with_further_rows(
+        &self,
+        alloc: Global,
+        keys: &[&Column],
+    ) -> Result<IndexKind, UniqueFault>
         requires table { AreOfHeight (height (columns_of keys.now)) (columns_of keys.now) }
         requires few { height (columns_of keys.now) < 2 ^ 32 }
         requires beginning { IsRun (take (length (run_of self.now).entries) (keys_in (columns_of keys.now)))
@@ -58,11 +62,11 @@ impl IndexKind {
         ensures refused { IfErr result (RefusesOrder (columns_of keys.now) (is_unique self.now)) }
     {
         match self {
-            IndexKind::Sorted(index) => match index.extended(alloc, keys) {
+            IndexKind::Sorted(index) => match index.with_further_rows(alloc, keys) {
                 Ok(index) => Ok(IndexKind::Sorted(index)),
                 Err(_) => Err(UniqueFault::Memory),
             },
-            IndexKind::Unique(index) => match index.extended(alloc, keys) {
+            IndexKind::Unique(index) => match index.with_further_rows(alloc, keys) {
                 Ok(index) => Ok(IndexKind::Unique(index)),
                 Err(fault) => Err(fault),
             },

@@ -17,7 +17,7 @@ mod sorting;
 mod statistics;
 mod unique;
 
-pub use extension::{ExtendFault, RepeatedRow, extended};
+pub use extension::{ExtendFault, RepeatedRow, extend_indexes};
 pub use index::Index;
 pub use ordered::OrderedIndex;
 pub use pages::row_width;

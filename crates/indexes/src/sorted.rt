@@ -43,7 +43,11 @@ impl SortedIndex {
     }
 
     /// The index of the same columns with more rows behind those that this one has. An `Err` comes of memory alone.
-    pub fn extended(&self, alloc: Global, keys: &[&Column]) -> Result<SortedIndex, AllocError>
+    pub fn with_further_rows(
+        &self,
+        alloc: Global,
+        keys: &[&Column],
+    ) -> Result<SortedIndex, AllocError>
         requires table { AreOfHeight (height (columns_of keys.now)) (columns_of keys.now) }
         requires few { height (columns_of keys.now) < 2 ^ 32 }
         requires beginning { IsRun (take (length self.now.entries) (keys_in (columns_of keys.now))) self.now.entries }

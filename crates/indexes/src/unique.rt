@@ -63,7 +63,11 @@ impl UniqueIndex {
 
     /// The index of the same columns with more rows behind those that this one has, if no key comes again
     /// (ISO/IEC 9075:1992, 8.9).
-    pub fn extended(&self, alloc: Global, keys: &[&Column]) -> Result<UniqueIndex, UniqueFault>
+    pub fn with_further_rows(
+        &self,
+        alloc: Global,
+        keys: &[&Column],
+    ) -> Result<UniqueIndex, UniqueFault>
         requires table { AreOfHeight (height (columns_of keys.now)) (columns_of keys.now) }
         requires few { height (columns_of keys.now) < 2 ^ 32 }
         requires beginning { IsRun (take (length self.now.entries) (keys_in (columns_of keys.now))) self.now.entries }

@@ -1,11 +1,10 @@
 -- Rows across columns.
-use Rattle.std.proofs.Common.{◌≡◌, ◌∙◌, refl, sym, ap, ap₂, inl, inr, ℕ, zero, suc, ◌+◌, ◌<◌, ◌≤◌, List, [], ◌∷◌, ◌++◌, Some, length, map, take, get_or, Bool, cond, arith}
+use Rattle.std.proofs.Common.{◌≡◌, ◌∙◌, refl, sym, ap, ap₂, inl, inr, ℕ, zero, suc, ◌+◌, ◌<◌, ◌≤◌, List, [], ◌∷◌, ◌++◌, length, map, take, get_or, arith}
 use Rattle.std.specs.Prelude.{◌⊎◌}
-use Rattle.std.specs.List.{AllByRecursion, position_from}
+use Rattle.std.specs.List.{AllByRecursion}
 use Rattle.std.proofs.lemmas.Bool.{cases_lt}
 use Rattle.std.proofs.lemmas.List.{length_push, length-map, get_or-map, get_or_append_left, get_or_push, map-append, take_more, take_all}
 use Rattle.definitions.specs.Value.{Null}
-use Rattle.definitions.specs.Table.{Column}
 use Rattle.loading.specs.Stored.{StoredColumn, AreFilled, headers, value_at, row_at, rows_of}
 
 pub length-rows_of : (n : ℕ) (cs : List StoredColumn) → length (rows_of n cs) ≡ n
@@ -31,10 +30,6 @@ filled_at n (x ∷ xs) (suc j) c f h e = filled_at n xs j c f.1 (omega (arith, h
 pub cell_in_rows : (n : ℕ) (cs : List StoredColumn) (k j : ℕ) (c : StoredColumn) → k < n → j < length cs → c ≡ get_or cs j c → get_or c.values k Null ≡ get_or (get_or (rows_of n cs) k []) j Null
 cell_in_rows n cs k j c h l e =
     sym (ap (λ row. get_or row j Null) (get_or-rows_of n cs k h) ∙ get_or-map (value_at k) cs j c Null l ∙ ap (value_at k) (sym e))
-
-pub headers-position : (p : Column → Bool) (i : ℕ) (cs : List StoredColumn) → position_from p i (headers cs) ≡ position_from (λ (c : StoredColumn). p c.header) i cs
-headers-position p i [] = refl
-headers-position p i (c ∷ cs) = ap (λ o. cond (p c.header) (Some i) o) (headers-position p (i + 1) cs)
 
 -- the values of a column, and those of a part of its rows
 pub first_values : (k : ℕ) (cs : List StoredColumn) (j : ℕ) (c : StoredColumn) → k ≤ length c.values → j < length cs → c ≡ get_or cs j c → map (λ row. get_or row j Null) (rows_of k cs) ≡ take k c.values

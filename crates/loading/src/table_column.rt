@@ -1,6 +1,6 @@
 //! A column of a table: its name, its type, its constraint and its values.
 
-ghost use Rattle.std.specs.Prelude.{◌≡◌, ◌<◌, ◌≤◌, ◌+◌, [], Ok, Err, IfOk, IfErr, OnOk, OnErr, length, bytes_eq, slice_index_or};
+ghost use Rattle.std.specs.Prelude.{◌≡◌, ◌<◌, ◌≤◌, ◌+◌, [], Ok, Err, IfOk, IfErr, OnOk, OnErr, length, slice_index_or};
 ghost use Rattle.columns.specs.Columns.{cells_of};
 ghost use Rattle.definitions.specs.Value as spec;
 ghost use Rattle.definitions.specs.Loading.{FieldLoads};
@@ -63,13 +63,6 @@ impl TableColumn {
         ensures { result.now ≡ self.now.header.name }
     {
         self.name.as_str()
-    }
-
-    /// Whether the column has a name.
-    pub fn is_named(&self, name: &str) -> bool
-        ensures { result ≡ bytes_eq self.now.header.name name.now }
-    {
-        self.name() == name
     }
 
     /// The type of the column's values.

@@ -18,4 +18,4 @@ mod words;
 
 pub use reason::{Ending, Lack, LowStep, PlanFault, Reason, Step, WrongStep};
 pub use report::FileReport;
-pub use spelling::{SpelledPath, StateName, spelled, state_name};
+pub use spelling::{SpelledPath, StateName, spell_path, state_name};

@@ -12,7 +12,7 @@ pub struct SpelledPath {
 }
 
 /// A path of a block as its texts spell it; none where memory runs out.
-pub fn spelled(own: &BlockSpace<'_>, path: &Path) -> Option<SpelledPath> {
+pub fn spell_path(own: &BlockSpace<'_>, path: &Path) -> Option<SpelledPath> {
     let index = index_written(own, path);
     match path.clone() {
         Ok(path) => Some(SpelledPath { path, index }),

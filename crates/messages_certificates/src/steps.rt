@@ -8,7 +8,7 @@ ghost use Rattle.plan_tree.specs.Certificates.{certificate_of};
 ghost use Rattle.plan_space.specs.Planned.{space_in};
 
 use crate::reason::{LowStep, Step};
-use crate::spelling::{spelled, state_name};
+use crate::spelling::{spell_path, state_name};
 use certificate::BlockSpace;
 use certificate_files::StateKey;
 use plan_tree::{Certificate, State, TableSet, saturate};
@@ -68,7 +68,7 @@ fn access_of(own: &BlockSpace<'_>, certificate: &Certificate, table: usize) -> O
         let order = own.space.fold(tables, item.order);
         let bound = certificate.bound(tables, order);
         if item.cost < bound {
-            let step = Step::Access(spelled(own, item.path)?);
+            let step = Step::Access(spell_path(own, item.path)?);
             let to = State {
                 tables,
                 order,
@@ -166,7 +166,7 @@ fn loop_below(own: &BlockSpace<'_>, from: State, table: usize, bound: u64) -> Op
         let added = saturate(rows * u128::from(item.cost));
         let cost = saturate(u128::from(from.cost) + u128::from(added));
         if cost < bound {
-            return Some((Step::Loop(spelled(own, item.path)?), cost));
+            return Some((Step::Loop(spell_path(own, item.path)?), cost));
         }
     }
     None
@@ -187,7 +187,7 @@ fn merge_below(own: &BlockSpace<'_>, from: State, table: usize, bound: u64) -> O
             let step = Step::Merge {
                 conjunct: item.conjunct,
                 sorted: item.sorted,
-                path: spelled(own, item.path)?,
+                path: spell_path(own, item.path)?,
             };
             return Some((step, cost));
         }

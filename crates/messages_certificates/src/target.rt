@@ -3,7 +3,7 @@
 use crate::finding::Found;
 use crate::places::{Spot, offset_of};
 use crate::reason::{PlanFault, Reason, Step, WrongStep};
-use crate::spelling::{spelled, state_name};
+use crate::spelling::{spell_path, state_name};
 use crate::steps::state_at;
 use certificate::{BlockSpace, Spelled};
 use certificate_files::StateKey;
@@ -110,8 +110,8 @@ fn wrong_step(own: &BlockSpace<'_>, plan: &Plan) -> Option<WrongStep> {
 
 fn last_step(own: &BlockSpace<'_>, plan: &Plan) -> Option<Step> {
     match plan {
-        Plan::Access(path) => Some(Step::Access(spelled(own, path)?)),
-        Plan::Loop { path, .. } => Some(Step::Loop(spelled(own, path)?)),
+        Plan::Access(path) => Some(Step::Access(spell_path(own, path)?)),
+        Plan::Loop { path, .. } => Some(Step::Loop(spell_path(own, path)?)),
         Plan::Merge {
             conjunct,
             inner,
@@ -119,7 +119,7 @@ fn last_step(own: &BlockSpace<'_>, plan: &Plan) -> Option<Step> {
         } => Some(Step::Merge {
             conjunct: *conjunct,
             sorted: inner.sorted,
-            path: spelled(own, &inner.path)?,
+            path: spell_path(own, &inner.path)?,
         }),
         Plan::Sort { order, .. } => Some(Step::Sort { order: *order }),
     }

@@ -1,7 +1,7 @@
 //! The line of a script around a place.
 
 use crate::lines::begins_character;
-use crate::visible::shown;
+use crate::visible::make_visible;
 use std::fmt::{self, Formatter};
 
 /// How many characters are shown on each side of a place, at most.
@@ -41,7 +41,7 @@ pub fn write_excerpt<W: fmt::Write>(
 
 fn write_shown<W: fmt::Write>(f: &mut Formatter<W>, text: &str) -> fmt::Result {
     for character in text.chars() {
-        f.write_char(shown(character))?;
+        f.write_char(make_visible(character))?;
     }
     Ok(())
 }

@@ -15,7 +15,7 @@ impl Display for Visible<'_> {
             if offset >= SHOWN {
                 return f.write_str("..");
             }
-            f.write_char(shown(character))?;
+            f.write_char(make_visible(character))?;
         }
         Ok(())
     }
@@ -39,7 +39,7 @@ impl Display for VisibleBytes<'_> {
 }
 
 /// A character as it is shown: a control character as `?`, but for a tab.
-pub(crate) fn shown(character: char) -> char {
+pub(crate) fn make_visible(character: char) -> char {
     if character.is_control() && character != '\t' {
         '?'
     } else {

@@ -54,7 +54,7 @@ fn exit_status<'a, F: Ledger, P: Ledger, R: Runtime + AllocGlobal>(
     let fetch_failures = Failures::new(book, share);
     let (book, share) = puts.open::<P>();
     let put_failures = Failures::new(book, share);
-    match asked(rt, standard_error) {
+    match read_request(rt, standard_error) {
         Ok(request) => do_request(rt, standard_error, &request, fetch_failures, put_failures),
         Err(status) => status,
     }
@@ -62,7 +62,7 @@ fn exit_status<'a, F: Ledger, P: Ledger, R: Runtime + AllocGlobal>(
 
 /// What the command line asks for, or the status to end with where its words ask for nothing: those
 /// of help and the version are printed to standard output, and others to standard error.
-fn asked<R: Runtime + AllocGlobal>(
+fn read_request<R: Runtime + AllocGlobal>(
     rt: &R,
     standard_error: &StandardError<R>,
 ) -> Result<Request, u8> {

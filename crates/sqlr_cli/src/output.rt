@@ -36,7 +36,7 @@ impl<L: Ledger, R: Runtime + AllocGlobal, W: Write + Drop> Sink for Output<'_, '
 
     fn put(&mut self, bytes: &[u8]) -> Result<(), SinkFault> {
         self.standard_error.clear_notice();
-        match written(&mut self.writer, bytes) {
+        match write_and_flush(&mut self.writer, bytes) {
             Ok(()) => Ok(()),
             Err(reason) => {
                 self.failures.rise();
@@ -69,7 +69,7 @@ impl<L: Ledger, R: Runtime + AllocGlobal, W: Write + Drop> Output<'_, '_, L, R, 
     }
 }
 
-fn written<W: Write>(writer: &mut W, bytes: &[u8]) -> io::Result<()> {
+fn write_and_flush<W: Write>(writer: &mut W, bytes: &[u8]) -> io::Result<()> {
     writer.write_all(bytes)?;
     writer.flush()
 }

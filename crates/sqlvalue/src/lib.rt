@@ -8,6 +8,7 @@ mod field;
 mod lines;
 mod number;
 mod op;
+mod owned_value;
 mod pattern;
 mod refusal;
 mod sql_type;
@@ -23,6 +24,7 @@ pub use lines::{
 };
 pub use number::Num;
 pub use op::ComparisonOperator;
+pub use owned_value::OwnedValue;
 pub use pattern::like;
 pub use refusal::Refusal;
 pub use sql_type::{DeclaredType, MAX_LENGTH, MAX_PRECISION, SqlType, TypeFault};

@@ -45,7 +45,7 @@ fn wanted_at(alloc: Global, tokens: &[Token], stop: ParseStop) -> Wanted {
     let statement = tokens.get(at.saturating_sub(begun)..).unwrap_or(&[]);
     let mut cursor = Cursor::new(alloc, statement, Some(begun));
     let _ = script(alloc, &mut cursor);
-    cursor.wanted()
+    cursor.wanted_here()
 }
 
 /// How many tokens stand behind the last semicolon.

@@ -307,7 +307,7 @@ impl<'t, 's> Cursor<'t, 's> {
     }
 
     /// What the rules have looked for at the place that is watched.
-    pub fn wanted(&self) -> Wanted {
+    pub fn wanted_here(&self) -> Wanted {
         self.wanted
     }
 }

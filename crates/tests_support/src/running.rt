@@ -39,6 +39,6 @@ pub fn run(
     Ok(Some(Outcome {
         summary,
         composites,
-        opened: line.opened(),
+        opened: line.opened_rows(),
     }))
 }

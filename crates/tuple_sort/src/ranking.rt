@@ -5,7 +5,7 @@ ghost use Rattle.definitions.specs.Queries.Outcomes.{directed};
 ghost use Rattle.definitions.specs.Value as spec;
 ghost use Rattle.sqlvalue.specs.Meaning.{value_of};
 ghost use Rattle.definitions_execution.specs.RowOrder.{ranked_by};
-ghost use Rattle.plan_tree.specs.Plans.{order_of};
+ghost use Rattle.plan_tree.specs.Plans.{key_of, order_of};
 ghost use Rattle.tuple_sort.specs.Keys.{ranked_by_keys};
 ghost use Rattle.tuple_sort.specs.Values.{value_in_packed};
 
@@ -16,29 +16,22 @@ use scans::BlockSource;
 use sqlvalue::{Value, rank};
 use std::cmp::Ordering;
 
-/// How packed rows rank by the keys of an order, where the first of these is told apart by what stands beside them.
+/// How packed rows rank by what stands beside them, in the direction of an order's first key, and then by the rest.
 pub(crate) fn rank_of_keyed<const WIDTH: usize>(
     source: &BlockSource<'_>,
-    order: &[SortKey],
+    first: &SortKey,
+    rest: &[SortKey],
     members: &[usize],
     a: &SortTuple<WIDTH>,
     b: &SortTuple<WIDTH>,
 ) -> Ordering
-    ensures { result ≡ ranked_by_keys (value_in_packed source.now members.now) (order_of order.now) a.now b.now }
+    ensures { result ≡ ranked_by_keys (value_in_packed source.now members.now) (key_of first.now)
+        (order_of rest.now) a.now b.now }
 {
-    let Some((first, others)) = order.split_first() else {
-        return Ordering::Equal;
-    };
     if a.key != b.key {
         return by_direction(a.key.cmp(&b.key), first.descending);
     }
-    rank_of_packed(
-        source,
-        others,
-        members,
-        a.rows.as_slice(),
-        b.rows.as_slice(),
-    )
+    rank_of_packed(source, rest, members, a.rows.as_slice(), b.rows.as_slice())
 }
 
 /// How packed rows rank by the keys of an order: the first that tells them apart decides (ISO/IEC 9075:1992, 13.1, general rule 2).

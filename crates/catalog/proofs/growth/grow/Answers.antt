@@ -3,18 +3,18 @@ use Rattle.catalog.proofs.Loading.{repeat_of}
 use Rattle.catalog.proofs.Growing.{HasPushed, become, beginnings, repeated_is_new, pushed_extends, tells_record, tells_full, tells_all, tells_repeated}
 use Rattle.catalog.proofs.growth.grow.Goals as goal
 
-pub extended-requires-clause-filled : goal.extended-requires-clause-filled
-extended-requires-clause-filled c =
+pub extend_indexes-requires-clause-filled : goal.extend_indexes-requires-clause-filled
+extend_indexes-requires-clause-filled c =
     let has : HasPushed c.args.columns.now c.args.indexes.now c.args.len c.args.bytes.now c.in-Ok.field-0 c.push_records.new.columns = record { filled = c.requires.filled; few = c.requires.few; ordered = c.requires.ordered; pushes = (c.in-Ok.ensures).pushes } in
     (become _ _ _ _ _ _ has).filled
 
-pub extended-requires-clause-few : goal.extended-requires-clause-few
-extended-requires-clause-few c =
+pub extend_indexes-requires-clause-few : goal.extend_indexes-requires-clause-few
+extend_indexes-requires-clause-few c =
     let has : HasPushed c.args.columns.now c.args.indexes.now c.args.len c.args.bytes.now c.in-Ok.field-0 c.push_records.new.columns = record { filled = c.requires.filled; few = c.requires.few; ordered = c.requires.ordered; pushes = (c.in-Ok.ensures).pushes } in
     (become _ _ _ _ _ _ has).few
 
-pub extended-requires-clause-beginnings : goal.extended-requires-clause-beginnings
-extended-requires-clause-beginnings c =
+pub extend_indexes-requires-clause-beginnings : goal.extend_indexes-requires-clause-beginnings
+extend_indexes-requires-clause-beginnings c =
     let has : HasPushed c.args.columns.now c.args.indexes.now c.args.len c.args.bytes.now c.in-Ok.field-0 c.push_records.new.columns = record { filled = c.requires.filled; few = c.requires.few; ordered = c.requires.ordered; pushes = (c.in-Ok.ensures).pushes } in
     beginnings _ _ _ _ _ _ has
 
@@ -37,12 +37,12 @@ returns-in-Err-Memory-clause-err c = pushed_extends _ _ _ _ _ (c.in-Ok.ensures).
 pub returns-in-None-clause-ok : goal.returns-in-None-clause-ok
 returns-in-None-clause-ok c t o =
     let has : HasPushed c.args.columns.now c.args.indexes.now c.args.len c.args.bytes.now c.in-Ok.field-0 c.push_records.new.columns = record { filled = c.requires.filled; few = c.requires.few; ordered = c.requires.ordered; pushes = (c.in-Ok.ensures).pushes } in
-    tells_all _ _ _ _ _ _ has t o _ (c.in-Ok-extended.ensures).ok c.in-None.is refl
+    tells_all _ _ _ _ _ _ has t o _ (c.in-Ok-extend_indexes.ensures).ok c.in-None.is refl
 
 pub returns-in-Some-Record-clause-refused : goal.returns-in-Some-Record-clause-refused
 returns-in-Some-Record-clause-refused c t o =
     let has : HasPushed c.args.columns.now c.args.indexes.now c.args.len c.args.bytes.now c.in-Ok.field-0 c.push_records.new.columns = record { filled = c.requires.filled; few = c.requires.few; ordered = c.requires.ordered; pushes = (c.in-Ok.ensures).pushes } in
-    tells_record _ _ _ _ _ _ has t o c.in-Ok-extended.made.items c.in-Some-Record.refused (c.in-Ok-extended.ensures).ok (search rules)
+    tells_record _ _ _ _ _ _ has t o c.in-Ok-extend_indexes.made.items c.in-Some-Record.refused (c.in-Ok-extend_indexes.ensures).ok (search rules)
 
 pub returns-in-Some-Record-clause-err : goal.returns-in-Some-Record-clause-err
 returns-in-Some-Record-clause-err c = pushed_extends _ _ _ _ _ (c.in-Ok.ensures).pushes
@@ -50,7 +50,7 @@ returns-in-Some-Record-clause-err c = pushed_extends _ _ _ _ _ (c.in-Ok.ensures)
 pub returns-clause-refused : goal.returns-clause-refused
 returns-clause-refused c t o =
     let has : HasPushed c.args.columns.now c.args.indexes.now c.args.len c.args.bytes.now c.in-Ok.field-0 c.push_records.new.columns = record { filled = c.requires.filled; few = c.requires.few; ordered = c.requires.ordered; pushes = (c.in-Ok.ensures).pushes } in
-    tells_full _ _ _ _ _ _ has t o c.in-Ok-extended.made.items (c.in-Ok-extended.ensures).ok (search rules)
+    tells_full _ _ _ _ _ _ has t o c.in-Ok-extend_indexes.made.items (c.in-Ok-extend_indexes.ensures).ok (search rules)
 
 pub returns-clause-err : goal.returns-clause-err
 returns-clause-err c = pushed_extends _ _ _ _ _ (c.in-Ok.ensures).pushes

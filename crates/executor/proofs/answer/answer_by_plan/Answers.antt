@@ -6,4 +6,4 @@ pub run_plan-requires-clause-surrounded : goal.run_plan-requires-clause-surround
 run_plan-requires-clause-surrounded c = outermost c.args.source.now c.requires.formed
 
 pub returns-clause-work : goal.returns-clause-work
-returns-clause-work c = c.opened.ensures ∙ c.in_ok-text.ensures.opened ∙ c.in_ok-text.ensures.work ∙ c.in_ok-line.ensures.work
+returns-clause-work c = c.opened_rows.ensures ∙ c.in_ok-text.ensures.opened ∙ c.in_ok-text.ensures.work ∙ c.in_ok-line.ensures.work

@@ -4,7 +4,7 @@ use Rattle.std.proofs.lemmas.List.{map-append}
 use Rattle.std.proofs.lemmas.Result.{err_from_is_err_and}
 use Rattle.definitions_answers.specs.Lines.{IsInBounds}
 use Rattle.sqlvalue.specs.Meaning.{value_of}
-use Rattle.grouping.specs.Keeping.{kept_value}
+use Rattle.sqlvalue.specs.Owned.{owned_value}
 use Rattle.grouping.specs.RowAt.{items_of, row_in}
 use Rattle.grouping.proofs.Bounded.{is_in_bounds}
 use Rattle.grouping.proofs.Columns.{none_left, one_can, next_value, next_quiet, column_raises}
@@ -30,12 +30,12 @@ items-preserved g c =
     let env = g.S.Environment.environment c.args.env.now in
     let here = next_value env items c.items.item-index c.item-item.result c.items-test.true c.item-item.is _ c.in_ok-value.ensures in
     let rest = row_in env (items_of (drop (c.items.item-index + 1) items)) in
-    let done = map kept_value c.items.values.items in
+    let done = map owned_value c.items.values.items in
     record {
       row =
-          ap (λ ks. map kept_value ks ++ rest) c.in_ok-push.ensures.items
-          ∙ ap (λ vs. vs ++ rest) (map-append kept_value c.items.values.items (c.in_ok-kept.kept ∷ []))
-          ∙ append_assoc done (kept_value c.in_ok-kept.kept ∷ []) rest
+          ap (λ ks. map owned_value ks ++ rest) c.in_ok-push.ensures.items
+          ∙ ap (λ vs. vs ++ rest) (map-append owned_value c.items.values.items (c.in_ok-kept.kept ∷ []))
+          ∙ append_assoc done (owned_value c.in_ok-kept.kept ∷ []) rest
           ∙ ap (λ vs. done ++ vs) (ap (λ v. v ∷ rest) c.in_ok-kept.ensures ∙ sym here)
           ∙ c.items.invariant.row;
       raises = next_quiet env items c.items.item-index c.item-item.result c.items-test.true c.item-item.is _ _ c.in_ok-value.ensures c.items.invariant.raises;

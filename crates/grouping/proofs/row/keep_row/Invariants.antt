@@ -1,7 +1,7 @@
 use Rattle.std.proofs.Common.{◌≡◌, ◌++◌, map, drop}
 use Rattle.std.specs.List.{AllByRecursion}
 use Rattle.definitions_answers.specs.Lines.{IsInBounds}
-use Rattle.grouping.specs.Keeping.{kept_value}
+use Rattle.sqlvalue.specs.Owned.{owned_value}
 use Rattle.grouping.specs.RowAt.{items_of, row_in, row_raises_in}
 use Rattle.grouping.proofs.row.keep_row.Given as goal
 
@@ -9,7 +9,7 @@ use Rattle.grouping.proofs.row.keep_row.Given as goal
 abbrev pub invariant-items : goal.invariant-items
 invariant-items g l = record {
   row :
-      map kept_value l.values.items ++ row_in (g.S.Environment.environment l.env) (items_of (drop l.item-index l.items))
+      map owned_value l.values.items ++ row_in (g.S.Environment.environment l.env) (items_of (drop l.item-index l.items))
       ≡ row_in (g.S.Environment.environment l.env) (items_of l.items);
   raises :
       row_raises_in (g.S.Environment.environment l.env) (items_of (drop l.item-index l.items))

@@ -4,7 +4,7 @@ use Rattle.definitions.specs.Refusal.{NotFound}
 use Rattle.definitions.specs.IndexFaults as index
 use Rattle.definitions.specs.Faults as faults
 use Rattle.catalog.proofs.NamedTables.{named_some, named_none}
-use Rattle.catalog.proofs.TableStatements.{is_at, index_ok, index_made, index_not_made, index_left}
+use Rattle.catalog.proofs.TableStatements.{is_at, kept, index_ok, index_made, index_not_made, index_left}
 use Rattle.catalog.proofs.database.Database.create_index.Goals as goal
 
 pub returns-in-Some-clause-accepted : goal.returns-in-Some-clause-accepted
@@ -21,4 +21,5 @@ returns-in-None-clause-refused c = faults.index _ _ _ NotFound (index.list NotFo
 
 pub invariant_of-self : goal.invariant_of-self
 invariant_of-self c =
-    rw c.self.view_is (index_left c.add_index.result c.args.self.now c.args.table.now c.in-Some.place c.args.unique (map name_of c.args.columns.now) c.index_mut.result.now c.add_index.new.self (is_at c.args.self.now c.self.inside.tables.items c.args.table.now c.in-Some.place c.index_mut.result.now c.self.view_is (named_some c.args.self.now c.args.table.now c.in-Some.place (c.in-Some.ensures).place) c.index_mut.ensures.value) (rw (← c.self.view_is) c.self.invariant) c.add_index.ensures.ok c.add_index.ensures.err)
+    kept c.self.inside.names c.self.inside.tables.items c.args.self.now c.in-Some.place c.index_mut.result.now c.add_index.new.self c.self.view_is c.self.invariant c.index_mut.ensures.value
+    (index_left c.add_index.result c.args.self.now c.args.table.now c.in-Some.place c.args.unique (map name_of c.args.columns.now) c.index_mut.result.now c.add_index.new.self (is_at c.args.self.now c.self.inside.tables.items c.args.table.now c.in-Some.place c.index_mut.result.now c.self.view_is (named_some c.args.self.now c.args.table.now c.in-Some.place (c.in-Some.ensures).place) c.index_mut.ensures.value) (rw (← c.self.view_is) c.self.invariant.valid) c.add_index.ensures.ok c.add_index.ensures.err)

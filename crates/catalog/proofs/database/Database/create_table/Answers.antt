@@ -1,11 +1,10 @@
-use Rattle.std.proofs.Common.{◌<◌, ◌∙◌, sym, ap, length, arith}
+use Rattle.std.proofs.Common.{◌<◌, ◌∙◌, ◌++◌, ◌∷◌, [], sym, ap, refl, length, arith}
 use Rattle.std.proofs.lemmas.Result.{err_from_is_err_and}
-use Rattle.std.specs.Result.{is_ok}
 use Rattle.definitions.specs.Limits.{most_tables}
 use Rattle.definitions.specs.Faults as faults
 use Rattle.parse_tree.specs.Trees.{definitions_of}
-use Rattle.catalog.proofs.NamedTables.{taken, not_taken}
-use Rattle.catalog.proofs.Creating.{accepted, untyped, misjudged, on_ok, database_pushed, made_pushed}
+use Rattle.catalog.proofs.NamedTables.{taken, not_taken, new_name}
+use Rattle.catalog.proofs.Creating.{accepted, untyped, misjudged, created, stored_too, as_stored}
 use Rattle.catalog.proofs.database.Database.create_table.Goals as goal
 
 pub returns-then-len-ge-MAX_TABLES-clause-refused : goal.returns-then-len-ge-MAX_TABLES-clause-refused
@@ -24,17 +23,36 @@ returns-in_err-table-clause-refused c =
     let p = err_from_is_err_and c.from_residual.result c.from_residual.ensures.1 in
     rw (p.1, p.2) (untyped _ _ _ c.in_err-table.field-0.0 (c.in_err-table.ensures).err)
 
+-- ---- the room
+
+pub invariant_of-self : goal.invariant_of-self
+invariant_of-self c = as_stored c.self.inside.tables.items c.reserve.new.self.items c.self.inside.names c.self.inside.names c.self.invariant c.reserve.ensures.items refl
+
+-- ---- the name
+
+pub push-requires : goal.push-requires
+push-requires c =
+    new_name c.self.inside.names c.self.inside.tables.items c.args.self.now c.args.name.now c.self.invariant.named c.self.view_is
+    (not_taken c.args.self.now c.args.name.now c.table.result c.table.ensures.named (sym c.is_some.ensures ∙ c.if-is_some.false))
+
+pub invariant_of-self-in_err-push : goal.invariant_of-self-in_err-push
+invariant_of-self-in_err-push c = as_stored c.self.inside.tables.items c.reserve.new.self.items c.self.inside.names c.push.new.self c.self.invariant c.reserve.ensures.items c.in_err-push.ensures.err
+
+-- ---- the table
+
 pub returns-clause-accepted : goal.returns-clause-accepted
 returns-clause-accepted c =
     let few : length c.args.self.now < most_tables = omega (arith, c.if-len-ge-MAX_TABLES.false, c.len.ensures, c.self.inside.tables.ok.0, ap length c.self.view_is) in
-    on_ok c.map_err.result _ (accepted _ _ _ (not_taken c.args.self.now c.args.name.now c.table.result c.table.ensures.named (sym c.is_some.ensures ∙ c.if-is_some.false)) few (c.in_default.ensures).ok (c.in_ok-table.ensures).types)
+    accepted _ _ _ (not_taken c.args.self.now c.args.name.now c.table.result c.table.ensures.named (sym c.is_some.ensures ∙ c.if-is_some.false)) few (c.in_default.ensures).ok (c.in_ok-table.ensures).types
 
-pub invariant_of-self : goal.invariant_of-self
-invariant_of-self c =
+pub invariant_of-self-2 : goal.invariant_of-self-2
+invariant_of-self-2 c =
     let few : length c.args.self.now < most_tables = omega (arith, c.if-len-ge-MAX_TABLES.false, c.len.ensures, c.self.inside.tables.ok.0, ap length c.self.view_is) in
     let fine = accepted c.args.self.now c.args.name.now (definitions_of c.args.definitions.now) (not_taken c.args.self.now c.args.name.now c.table.result c.table.ensures.named (sym c.is_some.ensures ∙ c.if-is_some.false)) few (c.in_default.ensures).ok (c.in_ok-table.ensures).types in
-    database_pushed (is_ok c.push.result) c.self.inside.tables.items c.push.new.self.items c.in_ok-table.table c.args.name.now (definitions_of c.args.definitions.now) c.push.ensures.items (c.in_ok-table.ensures).ok c.self.invariant (rw c.self.view_is fine)
+    stored_too c.self.inside.tables.items c.push_reserved.new.self.items c.self.inside.names c.push.new.self c.in_ok-table.table c.args.name.now (definitions_of c.args.definitions.now) c.self.invariant (rw c.self.view_is fine)
+    c.in_ok-push.ensures.ok (c.push_reserved.ensures.items ∙ ap (λ ts. ts ++ c.in_ok-table.table ∷ []) c.reserve.ensures.items) (c.in_ok-table.ensures).ok
 
 pub returns-clause-made : goal.returns-clause-made
 returns-clause-made c =
-    made_pushed c.map_err.result (is_ok c.push.result) c.args.self.now c.push.new.self.items c.in_ok-table.table c.args.name.now (definitions_of c.args.definitions.now) c.map_err.ensures.variant (rw (← c.self.view_is) c.push.ensures.items) (c.in_ok-table.ensures).ok
+    created c.args.self.now c.push_reserved.new.self.items c.in_ok-table.table c.args.name.now (definitions_of c.args.definitions.now)
+    (c.push_reserved.ensures.items ∙ ap (λ ts. ts ++ c.in_ok-table.table ∷ []) (c.reserve.ensures.items ∙ c.self.view_is)) (c.in_ok-table.ensures).ok

@@ -1,7 +1,8 @@
-use Rattle.std.proofs.Common.{◌≡◌, ◌∙◌, ◌+◌, refl, ap, arith}
+use Rattle.std.proofs.Common.{◌≡◌, ◌∙◌, ◌+◌, refl, sym, ap, arith}
 use Rattle.std.specs.Vec.{with_items}
 use Rattle.std.specs.String.{string_bytes}
 use Rattle.std.proofs.lemmas.List.{with_items_is}
+use Rattle.definitions.specs.Table.{column_names}
 use Rattle.definitions.specs.Invariant.{IsTable}
 use Rattle.indexes.specs.Meaning.{table_statistics_of}
 use Rattle.catalog.specs.Tables.{table_of}
@@ -47,7 +48,15 @@ loaded c =
     (rw c.deref-in-Ok.ensures.value at c.table_statistics-self-inside.ensures)
 
 pub invariant_of-self : goal.invariant_of-self
-invariant_of-self c = let t = loaded c in record { filled = t.filled; few = t.few; ordered = t.ordered; valid = t.valid }
+invariant_of-self c =
+    let t = loaded c in
+    record {
+      filled = t.filled;
+      named = c.self.invariant.named ∙ ap column_names (sym (of_view _ _ _ c.self.inside.len _ _ c.self.view_is).columns ∙ sym t.columns);
+      few = t.few;
+      ordered = t.ordered;
+      valid = t.valid;
+    }
 
 pub returns-in-Ok-clause-ok : goal.returns-in-Ok-clause-ok
 returns-in-Ok-clause-ok c = (loaded c).loads
@@ -72,7 +81,7 @@ back c =
     (with_items_is (with_items c.self.inside.columns c.grow.new.columns) c.cut_columns.new.columns (c.cut_columns.auto.columns ∙ c.deref_mut-in-Err.ensures.len))
 
 pub invariant_of-self-in-Err : goal.invariant_of-self-in-Err
-invariant_of-self-in-Err c = record { filled = rw (back c) c.self.invariant.filled; few = c.self.invariant.few; ordered = rw (back c) c.self.invariant.ordered; valid = rw (back c) c.self.invariant.valid }
+invariant_of-self-in-Err c = record { filled = rw (back c) c.self.invariant.filled; named = rw (back c) c.self.invariant.named; few = c.self.invariant.few; ordered = rw (back c) c.self.invariant.ordered; valid = rw (back c) c.self.invariant.valid }
 
 pub returns-in-Err-clause-err : goal.returns-in-Err-clause-err
 returns-in-Err-clause-err c =

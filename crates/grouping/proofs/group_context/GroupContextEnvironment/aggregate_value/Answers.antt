@@ -1,7 +1,7 @@
 use Rattle.std.proofs.Common.{map}
-use Rattle.grouping.specs.Keeping.{kept_value}
+use Rattle.sqlvalue.specs.Owned.{owned_value}
 use Rattle.grouping.proofs.Answering.{told_at}
 use Rattle.grouping.proofs.group_context.GroupContextEnvironment.aggregate_value.Goals as goal
 
 pub returns : goal.returns
-returns g c = told_at (map kept_value c.args.self.now.values.now) c.args.number _ c.value_at.ensures
+returns g c = told_at (map owned_value c.args.self.now.values.now) c.args.number _ c.value_at.ensures

@@ -1,0 +1,11 @@
+use Rattle.std.proofs.Common.{◌∙◌, sym, ap, subst, List, [], map}
+use Rattle.definitions.specs.Queries.BoundBlock as b
+use Rattle.query_tree.specs.Bound.{block_of}
+use Rattle.grouping.specs.RowAt.{items_of}
+use Rattle.executor.specs.Telling.{Holds}
+use Rattle.executor.proofs.block_rows.BlockRows.new.Goals as goal
+
+pub returns-in_ok-new-clause-told : goal.returns-in_ok-new-clause-told
+returns-in_ok-new-clause-told c source outer same =
+    c.in_ok-new.ensures.told source outer same
+    (subst (λ ns. Holds c.in_ok-store.store ns []) (ap (λ (is : List b.Item). map (λ (i : b.Item). i.name) is) (ap items_of c.deref.ensures.value ∙ ap (λ x. (block_of x).items) (sym same))) c.in_ok-store.ensures.nothing)

@@ -1,0 +1,85 @@
+-- What is kept, place by place.
+use Rattle.std.proofs.Common.{◌≡◌, ◌∙◌, refl, sym, ap, subst, ℕ, zero, suc, ◌<◌, List, [], ◌∷◌, ◌++◌, Option, Some, None, length, map, get_or, set}
+use Rattle.std.specs.Prelude.{IfSome, option_map, slice_get}
+use Rattle.std.specs.List.{AllByRecursion}
+use Rattle.std.proofs.lemmas.List.{get_or-set_same, length-map, map-set}
+use Rattle.definitions.specs.Table.{Database}
+use Rattle.definitions.specs.Plans.Plan.{Plan}
+use Rattle.definitions.specs.Queries.Answer.{meanings}
+use Rattle.definitions.specs.Queries.BoundBlock.{Blocks}
+use Rattle.definitions.specs.Queries.Evaluation.{Combination}
+use Rattle.definitions.specs.Estimates.Version.{Version}
+use Rattle.definitions_execution.specs.Total.{totals}
+use Rattle.definitions_answers.specs.Kept.{Kept, IsRight}
+use Rattle.definitions_answers.specs.Parameters.{outer_values, parameters}
+use Rattle.definitions_answers.specs.Told.{TellsRows}
+use Rattle.subqueries.specs.Keeping.{kept_in, last_of_option, latest_in, latest_key, latest_total, places_in, told_by, told_last, told_of_option, AllKept, Replaces}
+use Rattle.subqueries.specs.declared.kept_results.KeptResult.{KeptResult}
+use Rattle.subqueries.specs.declared.kept_results.KeptResults.{KeptResults}
+
+-- ---- one place
+
+pub place_set : (places : List (Option KeptResult)) (i : ℕ) (x : KeptResult) → i < length places → get_or (map (option_map kept_in) (set places i (Some x))) i None ≡ Some (kept_in x)
+place_set places i x h =
+    ap (λ all. get_or all i None) (map-set (option_map kept_in) places i (Some x))
+    ∙ get_or-set_same (map (option_map kept_in) places) i (Some (kept_in x)) None (subst (λ n. i < n) (sym (length-map places (option_map kept_in))) h)
+
+pub still_empty : (places : List (Option Kept)) → AllByRecursion (λ place. place ≡ None) places → AllByRecursion (λ place. place ≡ None) (places ++ None ∷ [])
+still_empty [] h = (refl, tt)
+still_empty (p ∷ ps) h = (h.0, still_empty ps h.1)
+
+-- ---- what holds of all that is kept
+
+module _ (P : Kept → Type 0) where
+  abbrev InPlace : Option Kept → Type 0
+  InPlace place = IfSome place P
+
+  all_set : (places : List (Option Kept)) (i : ℕ) (kept : Kept) → AllByRecursion InPlace places → P kept → AllByRecursion InPlace (set places i (Some kept))
+  all_set [] i kept h k = tt
+  all_set (p ∷ ps) zero kept h k = (k, h.1)
+  all_set (p ∷ ps) (suc i) kept h k = (h.0, all_set ps i kept h.1 k)
+
+  at_place : (places : List (Option Kept)) (i : ℕ) → AllByRecursion InPlace places → InPlace (get_or places i None)
+  at_place [] i h = tt
+  at_place (p ∷ ps) zero h = h.0
+  at_place (p ∷ ps) (suc i) h = at_place ps i h.1
+
+  none_in_place : (places : List (Option Kept)) → AllByRecursion (λ place. place ≡ None) places → AllByRecursion InPlace places
+  none_in_place [] h = tt
+  none_in_place (p ∷ ps) h = (subst InPlace (sym h.0) tt, none_in_place ps h.1)
+
+  -- of none; after a result was looked for; and with one more that it holds of
+  pub none_is_kept : (r : KeptResults) → AllByRecursion (λ place. place ≡ None) (places_in r) → AllKept P r
+  none_is_kept r h = none_in_place (places_in r) h
+
+  pub same_are_kept : (old new : KeptResults) → places_in new ≡ places_in old → AllKept P old → AllKept P new
+  same_are_kept old new e h = subst (AllByRecursion InPlace) (sym e) h
+
+  pub one_more_is_kept : (old new : KeptResults) (kept : Kept) → Replaces (places_in old) (places_in new) kept → AllKept P old → P kept → AllKept P new
+  one_more_is_kept old new kept r h k = subst (AllByRecursion InPlace) (sym r.1) (all_set (places_in old) r.0 kept h k)
+
+  pub latest_is_kept : (r : KeptResults) → AllKept P r → IfSome (latest_in r) P
+  latest_is_kept r h = at_place (places_in r) r.latest h
+
+pub told_by_is : (results : List KeptResults) (block : ℕ) (r : KeptResults) → slice_get results block ≡ Some r → told_by results block ≡ told_last r
+told_by_is results block r e = ap last_of_option e
+
+-- ---- where all that is kept is right, the latest is, wherever the parameters have the values of its key
+
+module _ (version : Version) (db : Database) (blocks : Blocks) (plans : List Plan) (k : ℕ) (outer : List Combination) where
+  abbrev Right : Kept → Type 0
+  Right = IsRight version db blocks plans k
+
+  right_told : (latest : Option Kept) → IfSome latest Right → option_map (λ (x : Kept). x.key) latest ≡ Some (outer_values outer (parameters blocks k)) → TellsRows (meanings db 0 blocks k outer) (told_of_option latest)
+  right_told None h e = absurd cc
+  right_told (Some x) h e = let is : x.key ≡ outer_values outer (parameters blocks k) = cc in (h outer (sym is)).0
+
+  right_total : (latest : Option Kept) (total : ℕ) → IfSome latest Right → option_map (λ (x : Kept). x.key) latest ≡ Some (outer_values outer (parameters blocks k)) → option_map (λ (x : Kept). x.total) latest ≡ Some total → total ≡ totals version db 0 blocks plans k outer
+  right_total None total h e t = absurd cc
+  right_total (Some x) total h e t = let is : x.key ≡ outer_values outer (parameters blocks k) = cc in let own : x.total ≡ total = cc in sym own ∙ (h outer (sym is)).1
+
+  pub latest_is_told : (r : KeptResults) → AllKept Right r → latest_key r ≡ Some (outer_values outer (parameters blocks k)) → TellsRows (meanings db 0 blocks k outer) (told_last r)
+  latest_is_told r h e = right_told (latest_in r) (latest_is_kept Right r h) e
+
+  pub latest_is_total : (r : KeptResults) (total : ℕ) → AllKept Right r → latest_key r ≡ Some (outer_values outer (parameters blocks k)) → latest_total r ≡ Some total → total ≡ totals version db 0 blocks plans k outer
+  latest_is_total r total h e t = right_total (latest_in r) total (latest_is_kept Right r h) e t

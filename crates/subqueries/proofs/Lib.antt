@@ -1,0 +1,9 @@
+pub mod Lists
+pub mod Answering
+pub mod FirstValues
+pub mod Nearest
+pub mod Appending
+pub mod Texts
+pub mod Keys
+pub mod KeptPlaces
+pub mod AllParameters

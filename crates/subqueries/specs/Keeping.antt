@@ -1,0 +1,61 @@
+-- The results of blocks that are kept.
+use Rattle.std.specs.Prelude.{ℕ, ◌≡◌, List, [], Option, Some, None, Result, Ok, IfSome, get_or, map, option_map, set, slice_get}
+use Rattle.std.specs.List.{AllByRecursion}
+use Rattle.definitions.specs.Value.{Value}
+use Rattle.definitions.specs.Arithmetic.{Raise}
+use Rattle.definitions.specs.Queries.Evaluation.{Combination}
+use Rattle.definitions_answers.specs.Kept.{Kept}
+use Rattle.definitions_answers.specs.Parameters.{outer_values}
+use Rattle.sqlvalue.specs.Owned.{owned_value}
+use Rattle.subqueries.specs.OuterColumns.{outer_columns_of}
+use Rattle.subqueries.specs.Telling.{told_in}
+use Rattle.subqueries.specs.declared.parameters.OuterColumn.{OuterColumn}
+use Rattle.subqueries.specs.declared.telling.Told.{Told}
+use Rattle.subqueries.specs.declared.kept_results.KeptResult.{KeptResult}
+use Rattle.subqueries.specs.declared.kept_results.KeptResults.{KeptResults}
+
+abbrev pub kept_in : KeptResult → Kept
+kept_in r = record { key = map owned_value r.key.items; told = told_in r.told; total = r.total }
+
+-- what is told of a block in the rows around, and its total there, to be kept
+abbrev pub kept_of : List Combination → List OuterColumn → Told → ℕ → Kept
+kept_of outer parameters told total = record { key = outer_values outer (outer_columns_of parameters); told = told_in told; total = total }
+
+-- all places, and what is in each
+abbrev pub places_in : KeptResults → List (Option Kept)
+places_in r = map (option_map kept_in) r.places.items
+
+-- it is so of all that is kept
+abbrev pub AllKept : (Kept → Type 0) → KeptResults → Type 0
+AllKept P r = AllByRecursion (λ place. IfSome place P) (places_in r)
+
+-- one place is another's, and all others are as before
+abbrev pub Replaces : List (Option Kept) → List (Option Kept) → Kept → Type 0
+Replaces old new kept = (place : ℕ) × (new ≡ set old place (Some kept))
+
+-- ---- the latest
+
+abbrev pub latest_in : KeptResults → Option Kept
+latest_in r = get_or (places_in r) r.latest None
+
+abbrev pub latest_key : KeptResults → Option (List Value)
+latest_key r = option_map (λ (k : Kept). k.key) (latest_in r)
+
+abbrev pub latest_total : KeptResults → Option ℕ
+latest_total r = option_map (λ (k : Kept). k.total) (latest_in r)
+
+abbrev pub told_of_option : Option Kept → Result (List Value) Raise
+told_of_option None = Ok []
+told_of_option (Some k) = k.told
+
+-- what was told last; no rows, where nothing was
+abbrev pub told_last : KeptResults → Result (List Value) Raise
+told_last r = told_of_option (latest_in r)
+
+abbrev pub last_of_option : Option KeptResults → Result (List Value) Raise
+last_of_option None = Ok []
+last_of_option (Some r) = told_last r
+
+-- what was told last of the block of a number
+abbrev pub told_by : List KeptResults → ℕ → Result (List Value) Raise
+told_by results block = last_of_option (slice_get results block)

@@ -1,0 +1,6 @@
+pub mod Telling
+pub mod Found
+pub mod Framed
+pub mod BlockText
+pub mod OuterColumns
+pub mod Keeping

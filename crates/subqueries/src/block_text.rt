@@ -1,0 +1,208 @@
+//! The values in the text of a block, and the inner blocks that it asks for.
+
+ghost use Rattle.std.specs.Prelude.{◌≡◌, ◌++◌, ◌∷◌, [], IfOk, OnOk, map, option_map};
+ghost use Rattle.definitions.specs.Queries.Conjuncts.{blocks_in, member_values, tested_blocks, values_of};
+ghost use Rattle.definitions_answers.specs.Parameters.{arguments_of, asked_blocks, tested_of_option, values_in_block, values_of_option};
+ghost use Rattle.query_tree.specs.Bound.{block_of, bound_function_of, condition_of, member_of, value_of};
+ghost use Rattle.subqueries.specs.BlockText.{item_values, trees_of};
+
+use query_tree::{Aggregate, Block, Condition, Item, ValueExpr};
+use std::alloc::{AllocError, Global};
+
+/// All values in the text of a block: of its result columns, of WHERE and HAVING, and the arguments of its set functions (own).
+pub(crate) fn block_values<'a>(
+    alloc: Global,
+    block: &'a Block,
+) -> Result<Vec<&'a ValueExpr>, AllocError>
+    ensures { IfOk result (λ values. trees_of values.items ≡ values_in_block (block_of block.now)) }
+{
+    let mut values = Vec::new(alloc);
+    push_items(&mut values, &block.items)?;
+    push_clause(&mut values, &block.condition)?;
+    push_clause(&mut values, &block.having)?;
+    push_arguments(&mut values, &block.functions)?;
+    Ok(values)
+}
+
+/// The numbers of all inner blocks that the text of a block asks for: those in its values, and then those that its conditions test
+/// (own). Its values are handed in.
+pub(crate) fn asked_blocks(
+    alloc: Global,
+    block: &Block,
+    values: &[&ValueExpr],
+) -> Result<Vec<usize>, AllocError>
+    requires { trees_of values.now ≡ values_in_block (block_of block.now) }
+    ensures { IfOk result (λ asked. asked.items ≡ asked_blocks (block_of block.now)) }
+{
+    let mut asked = Vec::new(alloc);
+    'values: for value in values {
+        push_blocks(&mut asked, value)?;
+    }
+    push_clause_tested(&mut asked, &block.condition)?;
+    push_clause_tested(&mut asked, &block.having)?;
+    Ok(asked)
+}
+
+fn push_items<'a>(values: &mut Vec<&'a ValueExpr>, items: &'a [Item]) -> Result<(), AllocError>
+    ensures { OnOk result (trees_of values.new.items ≡ trees_of values.old.items ++ item_values items.now) }
+{
+    'items: for item in items {
+        values.push(&item.value)?;
+    }
+    Ok(())
+}
+
+fn push_arguments<'a>(
+    values: &mut Vec<&'a ValueExpr>,
+    functions: &'a [Aggregate],
+) -> Result<(), AllocError>
+    ensures { OnOk result (trees_of values.new.items ≡ trees_of values.old.items ++ arguments_of
+        (map bound_function_of functions.now)) }
+{
+    'functions: for function in functions {
+        push_argument(values, function)?;
+    }
+    Ok(())
+}
+
+/// COUNT(*) has no argument (ISO/IEC 9075:1992, 6.5).
+fn push_argument<'a>(
+    values: &mut Vec<&'a ValueExpr>,
+    function: &'a Aggregate,
+) -> Result<(), AllocError>
+    ensures { OnOk result (trees_of values.new.items ≡ trees_of values.old.items ++ arguments_of
+        (bound_function_of function.now ∷ [])) }
+{
+    match function {
+        Aggregate::CountRows => Ok(()),
+        Aggregate::OfValues { argument, .. } => values.extend_from_slice(&[argument]),
+    }
+}
+
+/// The values of WHERE or HAVING, where the block has it.
+fn push_clause<'a>(
+    values: &mut Vec<&'a ValueExpr>,
+    clause: &'a Option<Condition>,
+) -> Result<(), AllocError>
+    ensures { OnOk result (trees_of values.new.items ≡ trees_of values.old.items ++ values_of_option
+        (option_map condition_of clause.now)) }
+{
+    match clause {
+        Some(condition) => push_values(values, condition),
+        None => Ok(()),
+    }
+}
+
+/// The values that a condition speaks of, in text order.
+fn push_values<'a>(
+    values: &mut Vec<&'a ValueExpr>,
+    condition: &'a Condition,
+) -> Result<(), AllocError>
+    ensures { OnOk result (trees_of values.new.items ≡ trees_of values.old.items ++ values_of
+        (condition_of condition.now)) }
+{
+    match condition {
+        Condition::Compare { left, right, .. } => values.extend_from_slice(&[left, right]),
+        Condition::Quantified { value, .. } => values.extend_from_slice(&[value]),
+        Condition::IsNull { value, .. } => values.extend_from_slice(&[value]),
+        Condition::Like { value, .. } => values.extend_from_slice(&[value]),
+        Condition::InQuery { value, .. } => values.extend_from_slice(&[value]),
+        Condition::Between {
+            value,
+            low,
+            high,
+            ..
+        } => values.extend_from_slice(&[value, low, high]),
+        Condition::InList { value, members, .. } => {
+            values.extend_from_slice(&[value])?;
+            push_members(values, members)
+        }
+        Condition::Exists { .. } => Ok(()),
+        Condition::Not(operand) => push_values(values, operand),
+        Condition::And(parts) | Condition::Or(parts) => {
+            for part in parts {
+                push_values(values, part)?;
+            }
+            Ok(())
+        }
+    }
+}
+
+/// The members of an IN list; NULL is none.
+fn push_members<'a>(
+    values: &mut Vec<&'a ValueExpr>,
+    members: &'a [Option<ValueExpr>],
+) -> Result<(), AllocError>
+    ensures { OnOk result (trees_of values.new.items ≡ trees_of values.old.items ++ member_values
+        (map member_of members.now)) }
+{
+    'members: for member in members {
+        push_member(values, member)?;
+    }
+    Ok(())
+}
+
+fn push_member<'a>(
+    values: &mut Vec<&'a ValueExpr>,
+    member: &'a Option<ValueExpr>,
+) -> Result<(), AllocError>
+    ensures { OnOk result (trees_of values.new.items ≡ trees_of values.old.items ++ member_values
+        (member_of member.now ∷ [])) }
+{
+    match member {
+        Some(value) => values.extend_from_slice(&[value]),
+        None => Ok(()),
+    }
+}
+
+/// The inner blocks that a value holds.
+fn push_blocks(blocks: &mut Vec<usize>, expr: &ValueExpr) -> Result<(), AllocError>
+    ensures { OnOk result (blocks.new.items ≡ blocks.old.items ++ blocks_in (value_of expr.now)) }
+{
+    match expr {
+        ValueExpr::Subquery { block, .. } => blocks.extend_from_slice(&[*block]),
+        ValueExpr::Signed { operand, .. } => push_blocks(blocks, operand),
+        ValueExpr::Chain { first, others } => {
+            push_blocks(blocks, first)?;
+            for operand in others {
+                push_blocks(blocks, &operand.value)?;
+            }
+            Ok(())
+        }
+        _ => Ok(()),
+    }
+}
+
+/// The inner blocks that WHERE or HAVING itself tests, where the block has it.
+fn push_clause_tested(blocks: &mut Vec<usize>, clause: &Option<Condition>) -> Result<(), AllocError>
+    ensures { OnOk result (blocks.new.items ≡ blocks.old.items ++ tested_of_option
+        (option_map condition_of clause.now)) }
+{
+    match clause {
+        Some(condition) => push_tested(blocks, condition),
+        None => Ok(()),
+    }
+}
+
+/// The inner blocks that a condition itself tests, by a quantifier, IN or EXISTS (ISO/IEC 9075:1992, 8.4, 8.7 and 8.8).
+fn push_tested(blocks: &mut Vec<usize>, condition: &Condition) -> Result<(), AllocError>
+    ensures { OnOk result (blocks.new.items ≡ blocks.old.items ++ tested_blocks (condition_of condition.now)) }
+{
+    match condition {
+        Condition::Quantified { block, .. } => blocks.extend_from_slice(&[*block]),
+        Condition::InQuery { block, .. } => blocks.extend_from_slice(&[*block]),
+        Condition::Exists { block } => blocks.extend_from_slice(&[*block]),
+        Condition::Not(operand) => push_tested(blocks, operand),
+        Condition::And(parts) | Condition::Or(parts) => {
+            for part in parts {
+                push_tested(blocks, part)?;
+            }
+            Ok(())
+        }
+        Condition::Compare { .. }
+        | Condition::IsNull { .. }
+        | Condition::Between { .. }
+        | Condition::Like { .. }
+        | Condition::InList { .. } => Ok(()),
+    }
+}

@@ -1,0 +1,83 @@
+//! The blocks around a block.
+
+ghost use Rattle.std.specs.Prelude.{◌≡◌, ◌∷◌, [], List, OnErr, OnOk, get_or};
+ghost use Rattle.definitions.specs.Queries.Evaluation.{Combination};
+ghost use Rattle.subqueries.specs.Framed.{combination_in, combinations_in};
+
+use query_tree::BlockColumn;
+use scans::{BlockSource, Composite, OuterRows};
+use sqlvalue::Value;
+use std::alloc::{AllocError, Global};
+
+/// A block that is evaluated, and the composite of its rows that is at hand.
+#[derive(Clone, Copy)]
+struct Frame<'s> {
+    source: &'s BlockSource<'s>,
+    composite: Composite,
+}
+
+/// The blocks around a block, the outermost first, with a composite of rows of each (own; the candidate tuples of the blocks of
+/// higher level in Selinger et al. 1979, section 6).
+#[derive(Drop)]
+pub struct Frames<'s> {
+    frames: Vec<Frame<'s>>,
+}
+
+impl<'s> OuterRows for Frames<'s> {
+    ghost use Rattle.subqueries.specs.Framed.{combinations_in};
+
+    ghost combinations = { combinations_in };
+
+    fn cell(&self, between: usize, column: BlockColumn) -> Value<'_> {
+        let count = self.frames.len();
+        if between >= count {
+            return Value::Null;
+        }
+        let frame = &self.frames[count - 1 - between];
+        let rows = frame.composite.numbers(frame.source.table_count());
+        frame.source.cell(column, row_number(rows, column.table))
+    }
+}
+
+impl<'s> Frames<'s> {
+    /// There is no block around.
+    pub fn new(alloc: Global) -> Frames<'s>
+        ensures { combinations_in result ≡ [] }
+    {
+        Frames {
+            frames: Vec::new(alloc),
+        }
+    }
+
+    /// Goes into a block, at a composite of its rows.
+    pub fn enter(
+        &mut self,
+        source: &'s BlockSource<'s>,
+        composite: Composite,
+    ) -> Result<(), AllocError>
+        ensures entered { OnOk result (combinations_in self.new
+            ≡ combination_in source.now composite ∷ combinations_in self.old) }
+        ensures unchanged { OnErr result (combinations_in self.new ≡ combinations_in self.old) }
+    {
+        self.frames.push(Frame { source, composite })?;
+        Ok(())
+    }
+
+    /// Leaves the block that was gone into last.
+    pub fn leave(&mut self)
+        ensures { (first : Combination) (others : List Combination) → combinations_in self.old ≡ first ∷ others →
+            combinations_in self.new ≡ others }
+    {
+        let _frame = self.frames.pop();
+    }
+}
+
+/// The number of a table's row in a composite.
+fn row_number(rows: &[u32], table: usize) -> usize
+    ensures { result ≡ get_or rows.now table 0 }
+{
+    match rows.get(table) {
+        Some(row) => *row as usize,
+        None => 0,
+    }
+}
