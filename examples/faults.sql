@@ -25,6 +25,6 @@ SELECT A, COUNT(*) FROM T GROUP BY B;              -- E18: not grouped by A
 SELECT A FROM T ORDER BY 2;                        -- E19: one result column
 SELECT A.A FROM T A, T B, T C, T D, T E, T F, T G, T H, T I, T J, T K, T L, T M, T N, T O; -- E20: 15 tables
 SELECT A, A, A, A, A, A, A, A, A, A, A, A, A, A, A, A, A, A, A, A, A, A, A, A, A, A, A, A, A, A, A, A, A, A, A, A, A, A, A, A, A, A, A, A, A, A, A, A, A, A, A, A, A, A, A, A, A, A, A, A, A, A, A, A, A FROM T; -- E21: 65 items
-SELECT A FROM T WHERE A IN (SELECT A FROM T);      -- E21: can't be run yet
+SELECT (SELECT A FROM T) FROM T;                   -- E21: a subquery outside WHERE
 LOAD T FROM 'examples/faulty/none.csv';            -- E22: no such file
 SELECT A, B FROM T;                                -- nothing was loaded

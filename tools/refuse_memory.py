@@ -52,6 +52,11 @@ SCRIPTS = {
     "an ordered query": [*TABLE, "SELECT C, V FROM T ORDER BY C DESC, V;"],
     "a DISTINCT query": [*TABLE, "SELECT DISTINCT C, K FROM T;", "SELECT DISTINCT K, COUNT(*) FROM T GROUP BY K ORDER BY 2 DESC, K;"],
     "a join by an index": [*TABLE, "CREATE INDEX ON T (K);", "SELECT A.C, B.V FROM T A, T B WHERE A.K = B.K AND A.V < B.V;"],
+    "nested queries": [
+        *TABLE,
+        "SELECT K FROM T A WHERE V >= ALL (SELECT V FROM T B WHERE B.K = A.K AND EXISTS (SELECT * FROM T WHERE C = B.C AND K = A.K));",
+        "SELECT C, COUNT(*) FROM T WHERE C IN (SELECT MIN(C) FROM T GROUP BY K) GROUP BY C ORDER BY C DESC;",
+    ],
     "an explanation": [*TABLE, "SET STATISTICS T ROWS 1000 PAGES 50;", "EXPLAIN SELECT A.K, COUNT(*) FROM T A, T B WHERE A.K = B.K GROUP BY A.K;"],
 }
 

@@ -25,6 +25,8 @@ pub struct Run {
     pub certificates: Option<Vec<u8>>,
     pub output: Vec<u8>,
     pub messages: Vec<u8>,
+    /// The line of the session's work behind it, where that is compared.
+    pub work: Option<String>,
     pub status: u8,
 }
 
@@ -35,13 +37,13 @@ pub enum CaseFault {
     OpenLine,
     #[error("it begins with no comment: a line with '#' that says where what is expected comes from")]
     NoComment,
-    #[error("'{title}' is no heading: file NAME, script, certificates, output, messages or status N")]
+    #[error("'{title}' is no heading: file NAME, script, certificates, output, messages, work N or status N")]
     UnknownHeading { title: String },
-    #[error("'{title}' is out of place: files come first, then each script with its certificates if they are to be checked, its output, its messages if there are any, and its status")]
+    #[error("'{title}' is out of place: files come first, then each script with its certificates if they are to be checked, its output, its messages if there are any, the work if it is compared, and its status")]
     OutOfPlace { title: String },
     #[error("file '{name}' is there twice")]
     FileTwice { name: String },
-    #[error("text stands behind a status")]
+    #[error("text stands behind a status or a work")]
     BehindStatus,
     #[error("a script is no UTF-8")]
     NotText,
@@ -114,6 +116,7 @@ struct Begun {
     certificates: Option<Vec<u8>>,
     output: Option<Vec<u8>>,
     messages: Option<Vec<u8>>,
+    work: Option<String>,
 }
 
 impl Draft {
@@ -144,6 +147,7 @@ impl Draft {
                     certificates: None,
                     output: None,
                     messages: None,
+                    work: None,
                 });
             }
             _ => return Err(CaseFault::out_of_place(alloc, section.title)),
@@ -160,6 +164,10 @@ impl Draft {
             }
             Heading::Output if begun.output.is_none() => begun.output = Some(section.bytes),
             Heading::Messages if begun.takes_messages() => begun.messages = Some(section.bytes),
+            Heading::Work(_) if !section.bytes.is_empty() => return Err(CaseFault::BehindStatus),
+            Heading::Work(work) if begun.takes_work() => {
+                begun.work = Some(format!(in alloc; "{work}\n")?);
+            }
             Heading::Status(status) => return self.end(alloc, begun, section, status),
             _ => return Err(CaseFault::out_of_place(alloc, section.title)),
         }
@@ -180,6 +188,7 @@ impl Draft {
             certificates,
             output,
             messages,
+            work,
         } = begun;
         let Some(output) = output else {
             return Err(CaseFault::out_of_place(alloc, section.title));
@@ -192,6 +201,7 @@ impl Draft {
             certificates,
             output,
             messages: messages.unwrap_or(Vec::new(alloc)),
+            work,
             status,
         })?;
         Ok(())
@@ -204,6 +214,10 @@ impl Begun {
     }
 
     fn takes_messages(&self) -> bool {
-        self.output.is_some() && self.messages.is_none()
+        self.output.is_some() && self.messages.is_none() && self.work.is_none()
+    }
+
+    fn takes_work(&self) -> bool {
+        self.output.is_some() && self.work.is_none()
     }
 }

@@ -11,6 +11,7 @@ use tests_devices::{File, Part, Shelf, check, run};
 pub enum What {
     Output,
     Messages,
+    Work,
     Status,
 }
 
@@ -19,6 +20,7 @@ impl Display for What {
         f.write_str(match self {
             What::Output => "the output differs",
             What::Messages => "the messages differ",
+            What::Work => "the work differs",
             What::Status => "the status differs",
         })
     }
@@ -85,6 +87,7 @@ fn compare<L: Library>(
         Some(bytes) => check(alloc, session, tape, part, bytes),
         None => run(alloc, session, tape, part),
     };
+    let worked = format!(in alloc; "{}\n", session.work())?;
     let texts = [
         (
             What::Output,
@@ -95,6 +98,11 @@ fn compare<L: Library>(
             What::Messages,
             expected.messages.as_slice(),
             ran.messages.as_bytes(),
+        ),
+        (
+            What::Work,
+            expected.work.as_ref().unwrap_or(&worked).as_bytes(),
+            worked.as_bytes(),
         ),
     ];
     for (what, expected, printed) in texts {

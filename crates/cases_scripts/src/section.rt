@@ -14,6 +14,8 @@ pub enum Heading<'a> {
     Certificates,
     Output,
     Messages,
+    /// The session's work behind the script.
+    Work(&'a str),
     Status(u8),
 }
 
@@ -35,6 +37,14 @@ impl<'a> Heading<'a> {
             if *fixed == words {
                 return Some(*heading);
             }
+        }
+        if let Some(work) = words.strip_prefix("work ") {
+            let is_number = work.bytes().all(|byte| byte.is_ascii_digit());
+            return if is_number {
+                Some(Heading::Work(work))
+            } else {
+                None
+            };
         }
         Some(Heading::File(words.strip_prefix("file ")?))
     }

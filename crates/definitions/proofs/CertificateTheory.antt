@@ -4,4 +4,5 @@ pub mod Reading
 pub mod Faults
 pub mod Files
 pub mod Verdicts
+pub mod Passing
 pub mod Examples

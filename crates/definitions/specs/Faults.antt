@@ -2,15 +2,13 @@
 use Rattle.std.specs.Prelude.{ℕ, Bool, ◌<◌, ◌≤◌, ◌≡◌, List, Some, None, length, map, count_by}
 use Rattle.definitions.specs.Lists.{AnyOf}
 use Rattle.definitions.specs.Limits.{most_tables, most_columns, most_indexes}
-use Rattle.definitions.specs.Refusal.{Refusal, NameTaken, NotFound, OverLimit, OverQueryLimit}
+use Rattle.definitions.specs.Refusal.{Refusal, NameTaken, NotFound, OverLimit}
 use Rattle.definitions.specs.Value.{IsType}
 use Rattle.definitions.specs.Statement.{Name, Select, Constraint, ColumnDefinition, IndexStatistics, Statement, CreateTable, CreateIndex, Load, SetTableStatistics, SetIndexStatistics, Query, Explain}
 use Rattle.definitions.specs.Table.{Table, Database, table_named, is_key, is_primary, AreDistinct}
 use Rattle.definitions.specs.Invariant.{IsCount, IsPageCount}
 use Rattle.definitions.specs.IndexFaults.{IndexFaulty, StatisticsFaulty}
-use Rattle.definitions.specs.Binding.BoundForm.{bound_form}
 use Rattle.definitions.specs.Binding.Faults as binding
-use Rattle.definitions.specs.NotYet.{CanAnswer}
 
 abbrev pub definition_names : List ColumnDefinition → List Name
 definition_names = map (λ (d : ColumnDefinition). d.name)
@@ -19,7 +17,7 @@ definition_names = map (λ (d : ColumnDefinition). d.name)
 abbrev pub count_of : (Constraint → Bool) → List ColumnDefinition → ℕ
 count_of test = count_by (λ (d : ColumnDefinition). test d.constraint)
 
--- the faults that a statement has over a database, before any file is read; the limits are own, and so is what can't be run yet
+-- the faults that a statement has over a database, before any file is read; the limits are own
 pub data Faulty (db : Database) : Statement → Refusal → Type 0 where
   table_taken : (name : Name) (columns : List ColumnDefinition) (t : Table) → table_named db name ≡ Some t → Faulty db (CreateTable name columns) NameTaken
   column_twice : (name : Name) (columns : List ColumnDefinition) → ¬ (AreDistinct (definition_names columns)) → Faulty db (CreateTable name columns) NameTaken
@@ -34,7 +32,6 @@ pub data Faulty (db : Database) : Statement → Refusal → Type 0 where
   statistics : (table : Name) (columns : List Name) (given : IndexStatistics) (r : Refusal) → StatisticsFaulty db table columns given r → Faulty db (SetIndexStatistics table columns given) r
   no_table : (name : Name) (file : List ℕ) → table_named db name ≡ None → Faulty db (Load name file) NotFound
   query : (q : Select) (r : Refusal) → binding.Faulty db q r → Faulty db (Query q) r
-  not_yet : (q : Select) → binding.IsAccepted db q → ¬ (CanAnswer (bound_form db q)) → Faulty db (Query q) OverQueryLimit
   explained : (q : Select) (r : Refusal) → binding.Faulty db q r → Faulty db (Explain q) r
 
 -- a statement without a fault

@@ -1,6 +1,6 @@
 //! Laws over the definitions of `specs/`, and worked examples of them.
 ghost use Rattle.definitions.specs.Certificates.Laws.{SaysOneThing, SpellsOnce, SpelledIsCertificate, SpelledOrFaulty, SpelledIsFaultless, HasOneFault, BrokenHasNoForm};
-ghost use Rattle.definitions.specs.Certificates.Laws.{ToldOnce, PassedIsLeast, FileToldOnce, WellIsLeast, LinesAreFile, CutLosesNothing, TextIsCutOff};
+ghost use Rattle.definitions.specs.Certificates.Laws.{ToldOnce, PassedIsLeast, FileToldOnce, WellIsLeast, ExplainedPasses, LinesAreFile, CutLosesNothing, TextIsCutOff};
 ghost use Rattle.definitions.specs.Examples.Certificates.{OneTableIsSpelled, ColumnIsNamed, TwoTablesAreSpelled, OrderedIsSpelled, LoopIsSpelled, LaterPathsAreSpelled, OtherPlansAreSpelled, ProductIsSpelled};
 ghost use Rattle.definitions.specs.Examples.Certificates.{FaultsOfStates, FaultsOfNumbers, FaultsOfForm, BeginningsHaveNoForm, WordsAreCounted, VersionIsPartOfForm, FilesAreCut, VersionsOfTexts};
 ghost use Rattle.definitions.specs.Examples.Certificates.{RestIsRefused, EarlierSpaceIsNamed, RulesAreNamed, NothingIsRefused};
@@ -26,10 +26,11 @@ pub fn told_is_one()
     ensures least { PassedIsLeast }
 {}
 
-/// Of a file one text is printed, and where it ends well each block's plan is least.
+/// Of a file one text is printed, and where it ends well each block's plan is least; so it ends for what EXPLAIN prints.
 pub fn file_is_told()
     ensures once { FileToldOnce }
     ensures least { WellIsLeast }
+    ensures explained { ExplainedPasses }
 {}
 
 /// Cutting a file into texts loses nothing, and a text that stands in front is cut off as it is.

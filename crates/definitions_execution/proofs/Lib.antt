@@ -26,3 +26,4 @@ pub mod Giving
 pub mod ScriptSteps
 mod Loads
 pub mod Runs
+pub mod Headlines

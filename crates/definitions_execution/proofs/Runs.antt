@@ -13,7 +13,6 @@ use Rattle.definitions.specs.Queries.BoundBlock.{Key}
 use Rattle.definitions.specs.Queries.Answer.{answer}
 use Rattle.definitions.specs.Queries.Outcomes.{Rows, Exception, Allowed, order_of, row_order}
 use Rattle.definitions.specs.Binding.BoundForm.{bound_form}
-use Rattle.definitions.specs.NotYet.{CanAnswer}
 use Rattle.definitions.specs.Faults as faults
 use Rattle.definitions.specs.Faults.{IsAccepted}
 use Rattle.definitions.specs.Change as made
@@ -28,12 +27,8 @@ use Rattle.definitions.proofs.TextExamples.{texts_read, tokens_derive}
 use Rattle.definitions.proofs.BindingTheory.WorkedBindings.{faultless_is_accepted}
 
 -- SELECT X FROM T WHERE X = 1 prints the header, the one row and the count
-one_block : CanAnswer (bound_form t_and_u faultless)
-one_block = refl
-
 accepted : IsAccepted t_and_u (Query faultless)
 accepted r (faults.query q r' h) = faultless_is_accepted r' h
-accepted r (faults.not_yet q a h) = h one_block
 
 one_sorted : {X : Type 0} (order : X → X → Ordering) (x : X) → IsSorted order (x ∷ [])
 one_sorted order x i d l m = absurd (omega (arith, m))

@@ -26,5 +26,6 @@ pub mod Stepping
 pub mod GivingLaws
 pub mod Step
 pub mod CheckingRun
+pub mod Headline
 pub mod RunLaws
 pub mod ScriptExamples

@@ -7,6 +7,7 @@ use Rattle.definitions.specs.Change.{with_rows, changed, Makes, RepeatsKeys}
 use Rattle.definitions.specs.Refusal.{Refusal, NoFile, OverLimit, NullOrRepeated}
 use Rattle.definitions.specs.Faults.{Faulty, IsAccepted}
 use Rattle.definitions.specs.Binding.Faults.{Binds}
+use Rattle.definitions.specs.Plans.Plan.{Plan}
 use Rattle.definitions.specs.Queries.BoundBlock.{Blocks}
 use Rattle.definitions.specs.Queries.Outcomes.{Told, Rows, Exception, AllowedOf, names_of, shown}
 use Rattle.definitions.specs.Estimates.Version.{current_version}
@@ -16,7 +17,7 @@ use Rattle.definitions.specs.Printing.{done_text, loaded_text, refusal_text, rec
 use Rattle.definitions.specs.Token.{Token}
 use Rattle.definitions.specs.Lexing.{LexFault, Lexes, LexFails}
 use Rattle.definitions.specs.Grammar.{Derives, SyntaxFails, kinds}
-use Rattle.definitions_execution.specs.Total.{IsTotal}
+use Rattle.definitions_execution.specs.Total.{AreCertified, total_of}
 
 -- what a library may answer: the library before, a name, no file or its bytes, and the library after
 abbrev pub Answering : Type 0 → Type 1
@@ -47,11 +48,15 @@ abbrev pub told_ended : Told → Ended
 told_ended (Rows rows) = Well
 told_ended (Exception raise) = Faulted
 
--- the work after a SELECT: where rows are printed, the total under least plans of its blocks, and else what it was (Selinger et al. 1979,
--- section 4, has it as RSI calls)
-abbrev pub IsWorkAfter : Database → Blocks → Told → (before after : ℕ) → Type 0
-IsWorkAfter db blocks (Rows rows) before after = IsTotal current_version db blocks after
-IsWorkAfter db blocks (Exception raise) before after = after ≡ before
+-- the work after a SELECT by plans of its blocks: where rows are printed, their total, and else what it was (Selinger et al. 1979, section 4,
+-- has it as RSI calls)
+abbrev pub IsWorkAfter : Database → Blocks → List Plan → Told → (before after : ℕ) → Type 0
+IsWorkAfter db blocks plans (Rows rows) before after = after ≡ total_of current_version db blocks plans
+IsWorkAfter db blocks plans (Exception raise) before after = after ≡ before
+
+-- a SELECT is answered by plans that are certified to be least
+abbrev pub IsRunByLeast : Database → Blocks → Told → (before after : ℕ) → Type 0
+IsRunByLeast db blocks told before after = (plans : List Plan) × AreCertified current_version db blocks plans × IsWorkAfter db blocks plans told before after
 
 -- what LOAD makes of the records of a file (own)
 pub data Loaded (db : Database) (name : Name) (t : Table) (records : List Record) (db' : Database) (text : List ℕ) (ended : Ended) : Type 0 where
@@ -75,7 +80,7 @@ pub data Step {L : Type 0} (answers : Answering L) (old : State L) (s : Statemen
       → answers old.library file (Some bytes) library → AreFileRecords bytes records
       → Loaded old.database name t records db text ended → new ≡ record old { library = library; database = db } → Step answers old s new text ended
   query : (q : Select) (blocks : Blocks) (told : Told) (work : ℕ) → s ≡ Query q → IsAccepted old.database s → Binds old.database q blocks → AllowedOf old.database blocks told
-      → IsWorkAfter old.database blocks told old.work work → new ≡ record old { work = work } → text ≡ shown (names_of blocks) told → ended ≡ told_ended told → Step answers old s new text ended
+      → IsRunByLeast old.database blocks told old.work work → new ≡ record old { work = work } → text ≡ shown (names_of blocks) told → ended ≡ told_ended told → Step answers old s new text ended
   explain : (q : Select) (blocks : Blocks) → s ≡ Explain q → IsAccepted old.database s → Binds old.database q blocks
       → AreExplained current_version (certified_from old.database 0 blocks) text → new ≡ old → ended ≡ Well → Step answers old s new text ended
 

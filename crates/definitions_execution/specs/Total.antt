@@ -4,7 +4,8 @@ use Rattle.std.specs.Prelude.{ℕ, ◌+◌, ◌==◌, ◌≡◌, ⊤, List, [], 
 use Rattle.definitions.specs.Table.{Database}
 use Rattle.definitions.specs.Plans.Plan.{Plan}
 use Rattle.definitions.specs.Plans.Cost.{saturated}
-use Rattle.definitions.specs.Plans.Least.{IsLeast}
+use Rattle.definitions.specs.Plans.Certificate.{Certificate}
+use Rattle.definitions.specs.Plans.Exact.{IsCertified}
 use Rattle.definitions.specs.Queries.BoundBlock.{Block, Blocks}
 use Rattle.definitions.specs.Queries.Evaluation.{Combination}
 use Rattle.definitions.specs.Queries.Conjuncts.{blocks_of, late_conjuncts}
@@ -53,12 +54,12 @@ module _ (version : Version) where
 
   -- ---- least plans
 
-  -- of each block a least plan
-  abbrev pub AreLeast : Database → Blocks → List Plan → Type 0
-  AreLeast db [] [] = ⊤
-  AreLeast db (b ∷ bs) (p ∷ ps) = IsLeast (space_of version db b) p × AreLeast db bs ps
-  AreLeast db _ _ = ⊥
+  -- of each block a plan of its space that gives the required order and costs no more than any that does, with its exact certificate
+  abbrev pub AreCertified : Database → Blocks → List Plan → Type 0
+  AreCertified db [] [] = ⊤
+  AreCertified db (b ∷ bs) (p ∷ ps) = ((certificate : Certificate) × IsCertified (space_of version db b) p certificate) × AreCertified db bs ps
+  AreCertified db _ _ = ⊥
 
-  -- what a SELECT's work may be: the total under least plans, of which there may be several
+  -- what a SELECT's work may be: the total under such plans, of which there may be several
   abbrev pub IsTotal : Database → Blocks → ℕ → Type 0
-  IsTotal db blocks total = (plans : List Plan) × AreLeast db blocks plans × (total ≡ total_of db blocks plans)
+  IsTotal db blocks total = (plans : List Plan) × AreCertified db blocks plans × (total ≡ total_of db blocks plans)

@@ -12,8 +12,7 @@ use Rattle.definitions.specs.Queries.BoundBlock.{Block}
 use Rattle.definitions.specs.Binding.Formed.{IsFormedSomewhere}
 use Rattle.definitions.specs.Plans.Plan.{Plan, Access, Loop, Merge, Sort}
 use Rattle.definitions.specs.Plans.Space.{Space}
-use Rattle.definitions.specs.Plans.Least.{IsLeast}
-use Rattle.definitions.specs.Plans.Exact.{IsExact}
+use Rattle.definitions.specs.Plans.Exact.{IsCertified}
 use Rattle.definitions.specs.Plans.Certificate.{Certificate}
 use Rattle.definitions.specs.Estimates.Version.{current_version}
 use Rattle.definitions.specs.Certificates.Form.{word_count}
@@ -30,12 +29,12 @@ same_words (Sort input order) = ap (λ n. n + 1) (same_words input)
 
 -- a least plan of no more words than a text may have, with its exact certificate, spelled
 pub explained : (db : Database) (number : ℕ) (block : Block) (space : Space) (plan : Plan) (certificate : Certificate) (bytes : List ℕ) → IsDatabase db → number < most_blocks → IsFormedSomewhere db block
-    → (certified db number block current_version).space ≡ space → IsLeast space plan → IsExact space certificate → words_in plan ≤ 64
+    → (certified db number block current_version).space ≡ space → IsCertified space plan certificate → words_in plan ≤ 64
     → bytes ≡ spelling (certified db number block current_version) plan certificate → IsExplained (certified db number block current_version) bytes
-explained db number block space plan certificate bytes valid few formed same least exact words is =
-    let least' = subst (λ s. IsLeast s plan) (sym same) least in
-    let exact' = subst (λ s. IsExact s certificate) (sym same) exact in
-    (plan, certificate, (plans_are_spelled db number block plan certificate valid few formed least'.0 (omega (arith, words, same_words plan)) exact'.0, is), least', exact')
+explained db number block space plan certificate bytes valid few formed same whole words is =
+    let here : IsCertified (certified db number block current_version).space plan certificate = subst (λ s. IsCertified s plan certificate) (sym same) whole in
+    let (holds, exact, least) = here in
+    (plan, certificate, (plans_are_spelled db number block plan certificate valid few formed least.0 (omega (arith, words, same_words plan)) exact.0, is), here)
 
 pub next : (n : ℕ) → n + 1 ≡ suc n
 next n = omega arith
@@ -81,11 +80,11 @@ explains_none db blocks rest are = are
 -- ---- the text of a block
 
 pub text_explained : {E : Type 0} (db : Database) (number : ℕ) (block : Block) (space : Space) (plan : Plan) (certificate : Certificate) (result : Result (Vec ℕ) E) → IsDatabase db → number < most_blocks
-    → IsFormedSomewhere db block → (certified db number block current_version).space ≡ space → IsLeast space plan → IsExact space certificate → words_in plan ≤ 64
+    → IsFormedSomewhere db block → (certified db number block current_version).space ≡ space → IsCertified space plan certificate → words_in plan ≤ 64
     → IfOk result (λ (text : Vec ℕ). text.items ≡ spelling (certified db number block current_version) plan certificate)
     → IfOk result (λ (text : Vec ℕ). IsExplained (certified db number block current_version) text.items)
-text_explained db number block space plan certificate (Ok text) valid few formed same least exact words is = explained db number block space plan certificate text.items valid few formed same least exact words is
-text_explained db number block space plan certificate (Err e) valid few formed same least exact words is = tt
+text_explained db number block space plan certificate (Ok text) valid few formed same whole words is = explained db number block space plan certificate text.items valid few formed same whole words is
+text_explained db number block space plan certificate (Err e) valid few formed same whole words is = tt
 
 -- the number of a block is one of a few
 pub few_left : (number index count : ℕ) → number ≡ index → index < count → count ≤ most_blocks → number < most_blocks

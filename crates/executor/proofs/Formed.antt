@@ -31,10 +31,10 @@ use Rattle.grouping.specs.RowAt.{CanGive}
 use Rattle.grouping.specs.Functions.{CanTake}
 use Rattle.executor.specs.Having.{CanHave}
 
-own_type : (db : Database) (block : Block) (column : BlockColumn) (type : SqlType) → IsDatabase db → HasColumn db block column type → IsType type
+pub own_type : (db : Database) (block : Block) (column : BlockColumn) (type : SqlType) → IsDatabase db → HasColumn db block column type → IsType type
 own_type db block column type valid (n, t, c, at, there, own, is) = subst IsType is (column_type t.columns column.number c (rows_typed db n t valid.each there).0.types own)
 
-some_type : (o : Option ValueType) → IsTrue (is_some o) → (type : ValueType) × (o ≡ Some type)
+pub some_type : (o : Option ValueType) → IsTrue (is_some o) → (type : ValueType) × (o ≡ Some type)
 some_type None h = absurd (true≢false (sym h))
 some_type (Some type) h = (type, refl)
 
@@ -50,12 +50,12 @@ weaker : {X : Type 0} (P Q : X → Type 0) → ((x : X) → P x → Q x) → (xs
 weaker P Q f [] h = tt
 weaker P Q f (x ∷ xs) h = (f x h.0, weaker P Q f xs h.1)
 
-made_at : {X Y : Type 0} (g : X → Y) (xs : List X) (i : ℕ) (x : X) (d : Y) → slice_get xs i ≡ Some x → get_or (map g xs) i d ≡ g x
+pub made_at : {X Y : Type 0} (g : X → Y) (xs : List X) (i : ℕ) (x : X) (d : Y) → slice_get xs i ≡ Some x → get_or (map g xs) i d ≡ g x
 made_at g [] i x d e = absurd cc
 made_at {X} g (y ∷ ys) zero x d e = ap (λ (o : Option X). g (unwrap_or o y)) e
 made_at g (y ∷ ys) (suc i) x d e = made_at g ys i x d e
 
-all_at : {X : Type 0} (P : X → Type 0) (xs : List X) (i : ℕ) (x : X) → AllByRecursion P xs → slice_get xs i ≡ Some x → P x
+pub all_at : {X : Type 0} (P : X → Type 0) (xs : List X) (i : ℕ) (x : X) → AllByRecursion P xs → slice_get xs i ≡ Some x → P x
 all_at P [] i x h e = absurd cc
 all_at {X} P (y ∷ ys) zero x h e = subst P (ap (λ (o : Option X). unwrap_or o y) e) h.0
 all_at P (y ∷ ys) (suc i) x h e = all_at P ys i x h.1 e

@@ -1,38 +1,39 @@
 -- What may be told of a block that is grouped, where its composites come in the order of GROUP BY.
-use Rattle.std.proofs.Common.{◌≡◌, ◌∙◌, refl, sym, ap, subst, List, [], ◌∷◌, ◌++◌, Bool, true, false, Option, map, true≢false}
+use Rattle.std.proofs.Common.{◌≡◌, ◌∙◌, refl, sym, ap, subst, ℕ, List, [], ◌∷◌, ◌++◌, Bool, true, false, Option, map, true≢false}
 use Rattle.std.specs.Prelude.{Contains, IsPermutation, IsSorted}
 use Rattle.std.specs.List.{AllByRecursion}
 use Rattle.std.proofs.lemmas.List.Sorted.{IsPermutation-refl, IsPermutation-trans}
 use Rattle.definitions.specs.Table.{Row}
-use Rattle.definitions.specs.Arithmetic.{Raise}
+use Rattle.definitions.specs.Arithmetic.{Meaning, Raise}
 use Rattle.definitions.specs.Plans.Order.{BlockColumn}
-use Rattle.definitions.specs.Queries.Answer.{distinct_rows, is_grouped}
+use Rattle.definitions.specs.Queries.Answer.{block_answer, distinct_rows, is_grouped}
 use Rattle.definitions.specs.Queries.BoundBlock.{Block, Key}
 use Rattle.definitions.specs.Queries.Combinations as c
 use Rattle.definitions.specs.Queries.Combinations.{Context}
 use Rattle.definitions.specs.Queries.Conjuncts.{is_empty}
 use Rattle.definitions.specs.Queries.Evaluation.{Combination}
-use Rattle.definitions.specs.Queries.Outcomes.{Exception, Rows, row_order}
+use Rattle.definitions.specs.Queries.Outcomes.{Allowed, Exception, Rows, row_order}
 use Rattle.definitions_execution.specs.BlockLaws.{cell_of}
 use Rattle.definitions_execution.specs.Lists.{Rises}
 use Rattle.definitions_execution.specs.OfBlock.{combination_of}
 use Rattle.definitions_execution.specs.RowOrder.{NotAfter}
 use Rattle.definitions_execution.specs.Stored.{Composite}
 use Rattle.definitions_execution.specs.TypedCombinations.{IsTypedCombination}
-use Rattle.definitions_answers.specs.GroupRows.{group_raises, group_rows, rows_in, short_row, AreGroupsBy}
+use Rattle.definitions_answers.specs.GroupRows.{group_raises, group_rows, rows_in, short_row, AreGroupsBy, IsRegular}
 use Rattle.definitions_answers.specs.Groups.{joined, AreGroups}
+use Rattle.definitions_answers.specs.Plain.{kept_of, late_raises}
 use Rattle.definitions_answers.specs.Runs.{grouping_order}
 use Rattle.definitions_answers.specs.Shapes.{HasShapes, Shape}
 use Rattle.definitions_answers.proofs.Cutting.{cuts_are_groups}
 use Rattle.definitions_answers.proofs.GroupedShapes.{grouped_rows_have_shapes}
 use Rattle.definitions_answers.proofs.GroupRows.{groups_tell}
+use Rattle.definitions_answers.proofs.Regular.{formed_are_regular}
 use Rattle.definitions_answers.proofs.Reordered.{reordered}
 use Rattle.definitions_answers.proofs.Taken.{all_arranged, all_joined, all_split}
-use Rattle.scans.specs.Sources.{BlockSource, block_in, context_in}
+use Rattle.scans.specs.Sources.{BlockSource, block_in}
 use Rattle.executor.specs.Cut.{none, open_groups, some, whole, AreAllGroups, IsCutInto}
-use Rattle.executor.specs.Ready.{AreReady, CanGroup}
-use Rattle.executor.specs.Telling.{kept, late_raises, AreToldAs, MayTell}
-use Rattle.executor.proofs.GroupTelling.{regular}
+use Rattle.executor.specs.Ready.{AreReady}
+use Rattle.executor.specs.Telling.{context_with, AreToldAs, MayTell}
 use Rattle.executor.proofs.Meaning.{kept_arranged, quiet_where, required, typed}
 
 -- ---- all groups
@@ -79,40 +80,47 @@ in_any_order : (keys : List Key) (printed : List Row) → is_empty keys ≡ true
 in_any_order [] printed e = λ k d low high. refl
 in_any_order (key ∷ keys) printed e = absurd (true≢false (sym e))
 
-module _ (source : BlockSource) (outer : List Combination) (all : List Composite) (ready : AreReady source outer all) (grouped : is_grouped (block_in source) ≡ true) (quiet : late_raises source outer all ≡ []) where
+module _ (source : BlockSource) (outer : List Combination) (inner : ℕ → List Combination → Meaning (List Row)) (all : List Composite) (ready : AreReady source outer all) (grouped : is_grouped (block_in source) ≡ true)
+    (quiet : late_raises (context_with source outer inner) (block_in source) (map (combination_of source.database (block_in source)) all) ≡ []) where
   abbrev context : Context
-  context = context_in source outer
+  context = context_with source outer inner
 
   abbrev b : Block
   b = block_in source
 
   abbrev cs : List Combination
-  cs = map (combination_of source.database b) (kept source outer all)
+  cs = kept_of context b (map (combination_of source.database b) all)
 
-  can : CanGroup source outer
-  can = record { grouped = grouped; answerable = ready.answerable; valid = ready.valid; surrounded = ready.surrounded }
+  regular : IsRegular context b
+  regular = let (blocks, around, n, formed, placed) = ready.surrounded in formed_are_regular context blocks around n b (ready.valid, placed) formed ready.answerable grouped
 
   rises : Rises (NotAfter cell_of (grouping_order b.groups)) cs
-  rises = rw grouped at (required source outer all ready)
+  rises = rw grouped at (required source outer inner all ready)
 
   module _ (groups : List (List Combination)) (are : AreAllGroups b.groups cs groups) where
     of_kept : AreGroupsBy b.groups (c.kept context b) groups
-    of_kept = groups_are (c.kept context b) b.groups cs groups (kept_arranged source outer all ready) rises are
+    of_kept = groups_are (c.kept context b) b.groups cs groups (kept_arranged source outer inner all ready) rises are
 
-    pub group_raise_told : (raise : Raise) → Contains (group_raises context b groups) raise → MayTell source outer (Exception raise)
-    group_raise_told raise h = (groups_tell context b groups b.order grouped (quiet_where source outer all ready quiet) (typed source outer all ready) (regular source outer can) of_kept).0 raise h
+    pub group_raise_told : (raise : Raise) → Contains (group_raises context b groups) raise → MayTell source outer inner (Exception raise)
+    group_raise_told raise h = (groups_tell context b groups b.order grouped (quiet_where source outer inner all ready quiet) (typed source outer inner all ready) regular of_kept).0 raise h
 
     pub shaped : (shapes : List Shape) × AllByRecursion (HasShapes shapes) (group_rows context b groups)
     shaped =
         let (blocks, around, n, formed, placed) = ready.surrounded in
         let (shapes, has) = grouped_rows_have_shapes context blocks around n b (ready.valid, placed) formed ready.answerable in
-        (shapes, rows_shaped context b shapes groups has (each_group (IsTypedCombination context.database b) b.groups (c.kept context b) groups of_kept (typed source outer all ready)))
+        (shapes, rows_shaped context b shapes groups has (each_group (IsTypedCombination context.database b) b.groups (c.kept context b) groups of_kept (typed source outer inner all ready)))
 
-    arranged_told : (printed : List Row) → group_raises context b groups ≡ [] → IsPermutation (distinct_rows b.distinct (group_rows context b groups)) printed → IsSorted (row_order b.order) printed → MayTell source outer (Rows printed)
+    arranged_told : (printed : List Row) → group_raises context b groups ≡ [] → IsPermutation (distinct_rows b.distinct (group_rows context b groups)) printed → IsSorted (row_order b.order) printed → MayTell source outer inner (Rows printed)
     arranged_told printed silent same sorted =
-        (groups_tell context b groups b.order grouped (quiet_where source outer all ready quiet) (typed source outer all ready) (regular source outer can) of_kept).1 printed silent same sorted
+        (groups_tell context b groups b.order grouped (quiet_where source outer inner all ready quiet) (typed source outer inner all ready) regular of_kept).1 printed silent same sorted
 
-    pub group_rows_told : (in_order : Bool) (printed : List Row) → group_raises context b groups ≡ [] → (in_order ≡ false → is_empty b.order ≡ true) → AreToldAs in_order b.distinct b.order (group_rows context b groups) printed → MayTell source outer (Rows printed)
+    pub group_rows_told : (in_order : Bool) (printed : List Row) → group_raises context b groups ≡ [] → (in_order ≡ false → is_empty b.order ≡ true) → AreToldAs in_order b.distinct b.order (group_rows context b groups) printed → MayTell source outer inner (Rows printed)
     group_rows_told true printed silent empty h = arranged_told printed silent h.same h.sorted
     group_rows_told false printed silent empty h =
         arranged_told printed silent (subst (IsPermutation (distinct_rows b.distinct (group_rows context b groups))) (sym h) (IsPermutation-refl (distinct_rows b.distinct (group_rows context b groups)))) (in_any_order b.order printed (empty refl))
+
+    -- and of the rows in any order
+    pub group_bag_told : group_raises context b groups ≡ [] → Allowed (block_answer context b) [] (Rows (distinct_rows b.distinct (group_rows context b groups)))
+    group_bag_told silent =
+        (groups_tell context b groups [] grouped (quiet_where source outer inner all ready quiet) (typed source outer inner all ready) regular of_kept).1 (distinct_rows b.distinct (group_rows context b groups)) silent
+        (IsPermutation-refl (distinct_rows b.distinct (group_rows context b groups))) (in_any_order [] (distinct_rows b.distinct (group_rows context b groups)) refl)

@@ -1,9 +1,9 @@
 pub mod Lists
 pub mod AnswerArranged
 pub mod Formed
+mod ToldValues
 pub mod Testing
 mod Planned
-mod Totals
 mod Arranged
 mod Few
 mod PathsThere
@@ -16,7 +16,15 @@ mod GroupTelling
 mod GroupTaking
 mod GroupEnding
 mod BlockTaking
+mod Blind
+mod TypedMeanings
 mod Taking
 mod Meaning
 mod GroupMeaning
 mod Ending
+mod KeptTaking
+mod InnerBlocks
+mod InnerRows
+mod InnerTelling
+mod Outermost
+mod WholeQuery

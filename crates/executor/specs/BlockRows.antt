@@ -1,21 +1,21 @@
 -- The rows that a block makes of the combinations that its WHERE keeps.
-use Rattle.std.specs.Prelude.{◌≡◌, Bool, true, false, is_some, List, [], Contains, map}
+use Rattle.std.specs.Prelude.{ℕ, ◌≡◌, Bool, true, false, is_some, List, [], Contains, map}
 use Rattle.std.specs.List.{list_all}
 use Rattle.definitions.specs.Table.{Row}
 use Rattle.definitions.specs.Arithmetic as arithmetic
+use Rattle.definitions.specs.Arithmetic.{Meaning}
 use Rattle.definitions.specs.Estimates.Orders.{sort_key}
 use Rattle.definitions.specs.Queries.BoundBlock.{Block}
 use Rattle.definitions.specs.Queries.Conjuncts.{is_empty}
 use Rattle.definitions.specs.Queries.Evaluation.{Combination}
 use Rattle.definitions.specs.Queries.Answer.{is_grouped}
-use Rattle.definitions_execution.specs.OfBlock.{combination_of}
-use Rattle.definitions_execution.specs.Stored.{Composite}
 use Rattle.definitions_answers.specs.GroupRows.{group_raises, group_rows}
+use Rattle.definitions_answers.specs.Plain.{kept_of, late_raises}
 use Rattle.definitions_answers.specs.PlainRows.{plain_raises, plain_row}
 use Rattle.scans.specs.Sources.{BlockSource, block_in, context_in}
 use Rattle.executor.specs.Cut.{AreAllGroups}
 use Rattle.executor.specs.Groups.{AreWell, TellGroups}
-use Rattle.executor.specs.Telling.{kept, late_raises, names_of, Holds, Tells}
+use Rattle.executor.specs.Telling.{context_with, names_of, Holds, Tells}
 use Rattle.executor.specs.declared.block_rows.BlockRows.{BlockRows}
 use Rattle.executor.specs.declared.block_rows.BlockRows.TheVariants as rows
 use Rattle.executor.specs.declared.result_rows.RowStore.{RowStore}
@@ -60,7 +60,7 @@ module _ (source : BlockSource) (outer : List Combination) where
   abbrev pub MayRaiseOn : List Combination → arithmetic.Raise → Type 0
   MayRaiseOn cs raise = MayRaiseBy (is_grouped (block_in source)) cs raise
 
-  -- they tell of composites on which no late conjunct raises
-  pub record HaveTaken (composites : List Composite) (block_rows : BlockRows) : Type 0 where
-    pub quiet : late_raises source outer composites ≡ []
-    pub told : TellsOf (map (combination_of source.database (block_in source)) (kept source outer composites)) block_rows
+  -- they tell of combinations on which no late conjunct raises, by what inner blocks mean
+  pub record HaveTaken (inner : ℕ → List Combination → Meaning (List Row)) (cs : List Combination) (block_rows : BlockRows) : Type 0 where
+    pub quiet : late_raises (context_with source outer inner) (block_in source) cs ≡ []
+    pub told : TellsOf (kept_of (context_with source outer inner) (block_in source) cs) block_rows

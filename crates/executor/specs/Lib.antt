@@ -9,3 +9,5 @@ pub mod Having
 pub mod Cut
 pub mod Groups
 pub mod BlockRows
+pub mod KeptRows
+pub mod ReadyBlocks

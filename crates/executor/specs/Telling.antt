@@ -2,27 +2,34 @@
 use Rattle.std.specs.Prelude.{ℕ, ◌≡◌, Bool, true, false, is_some, List, [], ◌∷◌, ◌++◌, Option, Some, None, Contains, IsPermutation, map, filter, flat_map}
 use Rattle.definitions.specs.Table.{Row}
 use Rattle.definitions.specs.Arithmetic as arithmetic
+use Rattle.definitions.specs.Arithmetic.{Meaning, Is}
 use Rattle.definitions.specs.Queries.BoundBlock.{Item, Key}
-use Rattle.definitions.specs.Queries.Conjuncts.{late_conjuncts}
 use Rattle.definitions.specs.Queries.Evaluation.{Combination, Environment}
-use Rattle.definitions.specs.Queries.Combinations.{passing}
+use Rattle.definitions.specs.Queries.Combinations.{Context, passing}
 use Rattle.definitions.specs.Queries.Answer.{block_answer, distinct_rows}
 use Rattle.definitions.specs.Queries.Outcomes.{Allowed, Told}
 use Rattle.sqlvalue.specs.Raises.{raise_of}
 use Rattle.sqlvalue.specs.declared.arithmetic.Raise.{Raise}
 use Rattle.definitions_execution.specs.Stored.{Composite}
 use Rattle.definitions_execution.specs.OfBlock.{combination_of}
-use Rattle.scans.specs.Sources.{BlockSource, block_in, context_in, environment_at}
+use Rattle.scans.specs.Sources.{BlockSource, block_in, context_in}
 use Rattle.grouping.specs.ResultRows.{AreArranged, HasDistinct, HasOrdered, HasPrinted}
 use Rattle.grouping.specs.RowAt.{row_in, row_raises_in}
-use Rattle.executor.specs.OneComposite.{are_true_in, raised_in}
 use Rattle.executor.specs.declared.result_rows.ResultRows.{ResultRows}
 use Rattle.executor.specs.declared.result_rows.RowStore.{RowStore}
 use Rattle.executor.specs.declared.result_rows.RowStore.TheVariants as store
 
--- what may be told of a block in the rows of the blocks around it
-abbrev pub MayTell : BlockSource → List Combination → Told → Type 0
-MayTell source outer told = Allowed (block_answer (context_in source outer) (block_in source)) (block_in source).order told
+-- inner blocks that mean nothing
+abbrev pub no_inner : ℕ → List Combination → Meaning (List Row)
+no_inner block combinations = Is []
+
+-- what a block is evaluated in, where its inner blocks mean something
+abbrev pub context_with : BlockSource → List Combination → (ℕ → List Combination → Meaning (List Row)) → Context
+context_with source outer inner = record { database = source.database; outer = outer; inner = inner }
+
+-- what may be told of it
+abbrev pub MayTell : BlockSource → List Combination → (ℕ → List Combination → Meaning (List Row)) → Told → Type 0
+MayTell source outer inner told = Allowed (block_answer (context_with source outer inner) (block_in source)) (block_in source).order told
 
 -- composites stand for all combinations that pass the early conjuncts, each as often as there
 abbrev pub ArrangePassing : BlockSource → List Combination → List Composite → Type 0
@@ -30,20 +37,6 @@ ArrangePassing source outer composites = IsPermutation (passing (context_in sour
 
 abbrev pub names_of : BlockSource → List (List ℕ)
 names_of source = map (λ (i : Item). i.name) (block_in source).items
-
--- ---- rows of composites
-
-module _ (source : BlockSource) (outer : List Combination) where
-  -- what late conjuncts raise on a composite, and on composites
-  abbrev pub late_raises_on : Composite → List arithmetic.Raise
-  late_raises_on composite = raised_in (environment_at source outer composite) (late_conjuncts (block_in source))
-
-  abbrev pub late_raises : List Composite → List arithmetic.Raise
-  late_raises composites = flat_map late_raises_on composites
-
-  -- those on which late conjuncts are true
-  abbrev pub kept : List Composite → List Composite
-  kept composites = filter (λ composite. are_true_in (environment_at source outer composite) (late_conjuncts (block_in source))) composites
 
 -- ---- the rows that are kept
 

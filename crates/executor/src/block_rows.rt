@@ -1,18 +1,17 @@
 //! The rows that a block makes of the combinations that its WHERE keeps.
 
-ghost use Rattle.std.specs.Prelude.{◌≡◌, ◌++◌, ◌∷◌, [], List, IfErr, IfOk, OnOk, is_some, not};
+ghost use Rattle.std.specs.Prelude.{◌≡◌, ◌++◌, ◌∷◌, [], List, IfErr, IfOk, OnOk, is_some, not, true};
 ghost use Rattle.std.specs.List.{list_all};
 ghost use Rattle.definitions.specs.Estimates.Orders.{sort_key};
 ghost use Rattle.definitions.specs.Queries.Evaluation.{Combination};
 ghost use Rattle.query_tree.specs.Bound.{block_of, key_of};
-ghost use Rattle.scans.specs.Sources.{BlockSource as Source};
 ghost use Rattle.grouping.specs.Faults.{IfRaised};
 ghost use Rattle.grouping.specs.RowAt.{items_of};
-ghost use Rattle.scans.specs.Sources.{block_in};
+ghost use Rattle.scans.specs.Sources.{BlockSource as Source};
 ghost use Rattle.executor.specs.BlockRows.{comes_in_order, store_in, HasRowsOf, IsWellFor, MayRaiseOn, TellsOf};
 ghost use Rattle.executor.specs.Groups.{seen, AreTyped};
 ghost use Rattle.executor.specs.Ready.{CanAnswer};
-ghost use Rattle.executor.specs.Telling.{leaves_repeats_out, puts_in_order};
+ghost use Rattle.executor.specs.Telling.{leaves_repeats_out, names_of, puts_in_order, Holds};
 
 use crate::group_rows::{GroupRows, row_at};
 use crate::result_rows::{ResultRows, RowStore};
@@ -33,7 +32,7 @@ pub(crate) enum BlockRows<'s> {
 impl<'s> BlockRows<'s> {
     /// Of no combinations. Rows are told as they come where the plan gives them in order, and only the others are kept
     /// to be put in order.
-    pub fn new(alloc: Global, block: &'s Block) -> Result<BlockRows<'s>, AllocError>
+    pub fn to_print(alloc: Global, block: &'s Block) -> Result<BlockRows<'s>, AllocError>
         ensures told { IfOk result (λ rows. (source : Source) (outer : List Combination) →
             source.block ≡ block.now → TellsOf source outer [] rows) }
         ensures well { IfOk result (λ rows. (source : Source) (outer : List Combination) →
@@ -42,6 +41,30 @@ impl<'s> BlockRows<'s> {
         ensures distinct { IfOk result (λ rows. leaves_repeats_out (store_in rows) ≡ (block_of block.now).distinct) }
     {
         let store = RowStore::new(alloc, &block.items, !has_its_order(block), block.distinct)?;
+        BlockRows::new(alloc, block, store)
+    }
+
+    /// Of no combinations; all rows are kept.
+    pub fn to_keep(alloc: Global, block: &'s Block) -> Result<BlockRows<'s>, AllocError>
+        ensures told { IfOk result (λ rows. (source : Source) (outer : List Combination) →
+            source.block ≡ block.now → TellsOf source outer [] rows) }
+        ensures well { IfOk result (λ rows. (source : Source) (outer : List Combination) →
+            source.block ≡ block.now → IsWellFor source outer rows) }
+        ensures order { IfOk result (λ rows. puts_in_order (store_in rows) ≡ true) }
+        ensures distinct { IfOk result (λ rows. leaves_repeats_out (store_in rows) ≡ (block_of block.now).distinct) }
+    {
+        let store = RowStore::new(alloc, &block.items, true, block.distinct)?;
+        BlockRows::new(alloc, block, store)
+    }
+
+    /// Of no combinations, with a store of rows.
+    fn new(alloc: Global, block: &'s Block, store: RowStore) -> Result<BlockRows<'s>, AllocError>
+        ensures told { IfOk result (λ rows. (source : Source) (outer : List Combination) →
+            source.block ≡ block.now → Holds store (names_of source) [] → TellsOf source outer [] rows) }
+        ensures well { IfOk result (λ rows. (source : Source) (outer : List Combination) →
+            source.block ≡ block.now → IsWellFor source outer rows) }
+        ensures store { IfOk result (λ rows. store_in rows ≡ store) }
+    {
         if is_grouped(block) {
             Ok(BlockRows::Grouped(GroupRows::new(alloc, block, store)?))
         } else {

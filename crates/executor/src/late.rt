@@ -2,28 +2,31 @@
 
 ghost use Rattle.std.specs.Prelude.{◌≡◌, [], Contains, IfErr, IfOk, OnOk};
 ghost use Rattle.std.specs.List.{AllByRecursion};
+ghost use Rattle.definitions.specs.Table.{Database};
+ghost use Rattle.definitions.specs.Binding.Formed.{IsFormedSomewhere};
 ghost use Rattle.definitions.specs.Queries.Conjuncts.{late_conjuncts};
+ghost use Rattle.query_tree.specs.Bound.{block_of};
 ghost use Rattle.scans.specs.Asks.{CanEvaluate};
-ghost use Rattle.scans.specs.Sources.{block_in};
 ghost use Rattle.sqlvalue.specs.Raises.{raise_of};
 ghost use Rattle.executor.specs.Views.{conditions_of};
 ghost use Rattle.executor.specs.OneComposite.{are_true_in, raised_in};
 
+use conjuncts::conjuncts;
 use expr::{Environment, truth};
-use query_tree::Condition;
-use scans::BlockSource;
+use query_tree::{Block, Condition};
 use sqlvalue::Raise;
 use std::alloc::{AllocError, Global};
 
 /// The late conjuncts of a block, in text order.
 pub(crate) fn late_conditions<'s>(
     alloc: Global,
-    source: &'s BlockSource<'s>,
+    block: &'s Block,
 ) -> Result<Vec<&'s Condition>, AllocError>
-    ensures { IfOk result (λ conditions. conditions_of conditions.items ≡ late_conjuncts (block_in source.now)) }
+    requires formed { (database : Database) × IsFormedSomewhere database (block_of block.now) }
+    ensures { IfOk result (λ conditions. conditions_of conditions.items ≡ late_conjuncts (block_of block.now)) }
 {
     let mut conditions = Vec::new(alloc);
-    'conjuncts: for conjunct in source.conjuncts() {
+    'conjuncts: for conjunct in &conjuncts(alloc, &block.condition)? {
         if conjunct.late {
             conditions.push(conjunct.condition)?;
         }

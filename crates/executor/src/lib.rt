@@ -1,4 +1,4 @@
-//! Runs a bound query by its least plan: the text of its answer, and that of its plan's explanation.
+//! Runs a bound query by least plans of its blocks: the text of its answer, and that of its plans' explanation.
 #![tactic(auto)]
 
 mod answer;
@@ -6,12 +6,16 @@ mod block_rows;
 mod explaining;
 mod group_rows;
 mod having;
+mod kept_rows;
 mod late;
+mod nested;
 mod planning;
+mod ready_block;
 mod result_rows;
 mod running;
 
-pub use answer::{answer_by_plan, answer_text};
+pub use answer::{answer_text, run_select};
 pub use explaining::explain_text;
 pub use grouping::AnswerFault;
+pub use ready_block::{ReadyBlock, ready_blocks};
 pub use running::run_plan;

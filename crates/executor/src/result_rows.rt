@@ -1,11 +1,14 @@
 //! The rows of an answer, as far as they have come.
 
-ghost use Rattle.std.specs.Prelude.{◌≡◌, ◌++◌, ◌∷◌, [], Contains, List, ℕ, IfErr, IfOk, OnOk, map};
+ghost use Rattle.std.specs.Prelude.{◌≡◌, ◌++◌, ◌∷◌, [], Contains, List, ℕ, IfErr, IfOk, OnOk, map, true};
 ghost use Rattle.std.specs.List.{AllByRecursion};
 ghost use Rattle.definitions.specs.Table.{Row};
 ghost use Rattle.definitions.specs.Arithmetic as arithmetic;
 ghost use Rattle.definitions.specs.Printing.{table_text};
+ghost use Rattle.definitions.specs.Queries.Answer.{distinct_rows};
 ghost use Rattle.definitions.specs.Queries.BoundBlock as b;
+ghost use Rattle.definitions.specs.Queries.Evaluation.{column_values};
+ghost use Rattle.sqlvalue.specs.Owned.{owned_value};
 ghost use Rattle.definitions_answers.specs.Shapes.{HasShapes, Shape};
 ghost use Rattle.query_tree.specs.Bound.{key_of};
 ghost use Rattle.grouping.specs.Faults.{IfRaised};
@@ -15,7 +18,7 @@ ghost use Rattle.executor.specs.Telling.{leaves_repeats_out, puts_in_order, AreT
 use expr::Environment;
 use grouping::{AnswerFault, DistinctRows, OrderedRows, PrintedRows};
 use query_tree::{Item, Key};
-use sqlvalue::Raise;
+use sqlvalue::{OwnedValue, Raise};
 use std::alloc::{AllocError, Global};
 
 /// Where rows are kept until their end.
@@ -69,6 +72,19 @@ impl RowStore {
             RowStore::Printed(rows) => rows.add(items, env),
             RowStore::Distinct(rows) => rows.add(alloc, items, env),
             RowStore::Ordered(rows) => rows.add(alloc, items, env),
+        }
+    }
+
+    /// The first values of rows that are kept, in the order in which they came.
+    pub fn first_values(&self, alloc: Global) -> Result<Vec<OwnedValue>, AllocError>
+        requires kept { puts_in_order self.now ≡ true }
+        ensures { IfOk result (λ values. (names : List (List ℕ)) (rows : List Row) (shapes : List Shape) →
+            Holds self.now names rows → AllByRecursion (HasShapes shapes) rows →
+            map owned_value values.items ≡ column_values (distinct_rows (leaves_repeats_out self.now) rows)) }
+    {
+        match self {
+            RowStore::Ordered(rows) => rows.first_values(alloc),
+            RowStore::Printed(_) | RowStore::Distinct(_) => Ok(Vec::new(alloc)),
         }
     }
 

@@ -73,15 +73,7 @@ pub fn truth<'a, S: Environment>(condition: &'a Condition, env: &'a S) -> Result
             negated,
             value: operand,
             block,
-        } => unless(
-            *negated,
-            quantified_comparison(
-                ComparisonOperator::Equals,
-                Quantifier::Any,
-                value(operand, env),
-                env.first_values(*block),
-            ),
-        ),
+        } => unless(*negated, is_in_query(value(operand, env), *block, env)),
         Condition::Exists { block } => has_row(env.first_values(*block)),
         Condition::Not(operand) => opposite(truth(operand, env)),
         Condition::And(parts) => {
@@ -143,6 +135,29 @@ fn is_member<'a, S: Environment>(
         );
     }
     any
+}
+
+/// Whether a value is equal to the first one of a row of an inner block (ISO/IEC 9075:1992, 8.4).
+fn is_in_query<S: Environment>(
+    operand: Result<Value, Raise>,
+    block: usize,
+    env: &S,
+) -> Result<Tri, Raise>
+    ensures { (m : Meaning spec.Value) → MayAnswer m (answer_of operand.entry) →
+        MayAnswer (meaning.on_two (is.compared_with_any Equals) m
+        (meaning.on_one meaning.column_values ((S.environment env.now).inner block))) (truth_answer_of result) }
+{
+    if let Ok(value) = operand {
+        if let Some(truth) = env.is_among(block, &value) {
+            return Ok(truth);
+        }
+    }
+    quantified_comparison(
+        ComparisonOperator::Equals,
+        Quantifier::Any,
+        operand,
+        env.first_values(block),
+    )
 }
 
 /// That a value is equal to no member yet.

@@ -9,7 +9,7 @@ ghost use Rattle.sqlvalue.specs.Owned.{owned_value};
 use crate::result_row::value_at;
 use expr::Environment;
 use query_tree::BlockColumn;
-use sqlvalue::{OwnedValue, Raise, Value, rank};
+use sqlvalue::{OwnedValue, Raise, Tri, Value, rank};
 use std::cmp::Ordering;
 
 /// One of the rows of a group, and the values of the set functions over it.
@@ -36,6 +36,10 @@ impl<'a, S: Environment> Environment for GroupContext<'a, S> {
 
     fn first_values(&self, block: usize) -> Result<&[OwnedValue], Raise> {
         self.row.first_values(block)
+    }
+
+    fn is_among(&self, _block: usize, _value: &Value) -> Option<Tri> {
+        None
     }
 }
 

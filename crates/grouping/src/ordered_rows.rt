@@ -4,9 +4,12 @@ ghost use Rattle.std.specs.Prelude.{◌≡◌, ◌++◌, ◌∷◌, [], Contains
 ghost use Rattle.std.specs.List.{AllByRecursion};
 ghost use Rattle.definitions.specs.Table.{Row};
 ghost use Rattle.definitions.specs.Printing.{fields_line, table_text};
+ghost use Rattle.definitions.specs.Queries.Answer.{distinct_rows};
 ghost use Rattle.definitions.specs.Queries.BoundBlock as b;
+ghost use Rattle.definitions.specs.Queries.Evaluation.{column_values};
 ghost use Rattle.definitions_answers.specs.Shapes.{HasShapes, Shape};
 ghost use Rattle.query_tree.specs.Bound.{key_of};
+ghost use Rattle.sqlvalue.specs.Owned.{owned_value};
 ghost use Rattle.grouping.specs.Aggregating.{IsNotedLine};
 ghost use Rattle.grouping.specs.Faults.{IfRaised};
 ghost use Rattle.grouping.specs.ResultRows.{AreArranged, HasOrdered};
@@ -15,10 +18,11 @@ ghost use Rattle.grouping.specs.Rows.{row_of, rows_of};
 
 use crate::fault::AnswerFault;
 use crate::lines::DistinctLines;
-use crate::result_row::{ResultRow, order_rows};
+use crate::result_row::{ResultRow, order_rows, value_at};
 use crate::row::{keep_row, write_count, write_header, write_kept};
 use expr::Environment;
 use query_tree::{Item, Key};
+use sqlvalue::OwnedValue;
 use std::alloc::{AllocError, Global};
 
 /// The header and the rows so far, under DISTINCT each once.
@@ -88,6 +92,20 @@ impl OrderedRows {
                 seen.add(alloc, &self.line)
             }
         }
+    }
+
+    /// The first value of each row, in the order in which they came (ISO/IEC 9075:1992, 7.11: those of a subquery).
+    pub fn first_values(&self, alloc: Global) -> Result<Vec<OwnedValue>, AllocError>
+        ensures { IfOk result (λ values. (names : List (List ℕ)) (rows : List Row) (shapes : List Shape) →
+            HasOrdered names rows self.now → AllByRecursion (HasShapes shapes) rows →
+            map owned_value values.items ≡ column_values (distinct_rows (is_some self.now.seen) rows)) }
+    {
+        let mut values = Vec::new(alloc);
+        'rows: for row in &self.rows {
+            let own = OwnedValue::new(alloc, &value_at(&row.values, 0))?;
+            values.push(own)?;
+        }
+        Ok(values)
     }
 
     /// The whole text, in the order of the keys.

@@ -1,17 +1,23 @@
 -- How many steps a search takes.
 use Rattle.std.proofs.Common.{zero, suc, subst, [], ◌∷◌, ◌≡◌, ◌≢◌, ◌∙◌, ℕ, ◌+◌, ◌-◌, ◌*◌, ◌^◌, ◌<◌, ◌≤◌, List, length, if◌then◌else◌, Bool, true, false, add-one, mul-le-mul_left, arith, refl, sym, ap}
-use Rattle.std.specs.Prelude.{◌==◌, slice_index}
-use Rattle.std.specs.List.{AllByRecursion}
+use Rattle.std.specs.Prelude.{◌==◌, slice_index, Contains, flat_map}
+use Rattle.std.specs.List.{AllByRecursion, range_with_len}
 use Rattle.std.specs.List.Sorted.{IsStrictlyIncreasing}
 use Rattle.std.proofs.lemmas.Bool.Decides.{Decides-eqb}
+use Rattle.std.proofs.lemmas.Option.{slice_get_within}
 use Rattle.definitions.specs.Estimates.BlockTables.{has}
+use Rattle.definitions.specs.Plans.Path.{Path}
+use Rattle.definitions.specs.Plans.Plan.{Inner}
 use Rattle.definitions.specs.Plans.Space.{Space}
 use Rattle.definitions.specs.Plans.PlanSpace.{MayFollow, CanSort}
-use Rattle.definitions.specs.Plans.TableSet.{Lacks, no_tables, with_table}
-use Rattle.plan_space.specs.Merge.{Merge as CostedMerge, AreMerges, most_merges}
+use Rattle.definitions.specs.Plans.TableSet.{TableSet, Lacks, no_tables, with_table}
+use Rattle.definitions.proofs.PlanTheory.Elements.{first_is, later}
+use Rattle.definitions.proofs.EstimateTheory.Members.{flattened, in_range}
+use Rattle.plan_space.specs.Merge.{Merge as CostedMerge, IsMergeItem, AreMerges}
 use Rattle.join_dp.specs.Counting.{AreCounts, most_last, most_lasts, most_to, most_up_to}
 use Rattle.plan_space.proofs.Lists.{at_index, weaker}
 use Rattle.join_dp.proofs.LessSets.{with_more}
+use Rattle.join_dp.proofs.Shorter.{no_longer}
 
 -- one item less is to come, and the steps for it are taken
 pub one_less : (old row row' each items rest all : ℕ) → items ≡ rest + 1 → row' ≤ row + each → row + each * items ≤ old + each * all → row' + each * rest ≤ old + each * all
@@ -74,9 +80,46 @@ rising_few n (x ∷ xs) rising all =
     let below = at_index (λ (y : ℕ). y < n) (x ∷ xs) 0 all (length xs) (omega arith) in
     omega (arith, from, below)
 
+-- ---- how many merges there may be
+
+-- by a conjunct, with a path whose rows are sorted or come as they are
+abbrev by_path : ℕ → Path → List (ℕ × Inner)
+by_path number path = (number, record { path = path; sorted = true }) ∷ (number, record { path = path; sorted = false }) ∷ []
+
+is_by_path : (number : ℕ) (path : Path) (sorted : Bool) → Contains (by_path number path) (number, record { path = path; sorted = sorted })
+is_by_path number path true = first_is (number, record { path = path; sorted = true }) ((number, record { path = path; sorted = false }) ∷ []) (number, record { path = path; sorted = true }) refl
+is_by_path number path false =
+    later (number, record { path = path; sorted = true }) ((number, record { path = path; sorted = false }) ∷ []) (number, record { path = path; sorted = false })
+    (first_is (number, record { path = path; sorted = false }) [] (number, record { path = path; sorted = false }) refl)
+
+module _ (space : Space) (table : ℕ) where
+  abbrev by_conjunct : ℕ → List (ℕ × Inner)
+  by_conjunct number = flat_map (by_path number) (space.paths no_tables table)
+
+  -- by each conjunct, and with each path of the table alone
+  abbrev pub by_any : List (ℕ × Inner)
+  by_any = flat_map by_conjunct (range_with_len 0 (length space.conjuncts))
+
+  abbrev sides_of : CostedMerge → ℕ × Inner
+  sides_of merge = (merge.conjunct, merge.inner)
+
+  is_by_any : (tables : TableSet) (merge : CostedMerge) → IsMergeItem space tables table merge → Contains by_any (sides_of merge)
+  is_by_any tables merge item =
+      let is = item.is_merge in
+      let numbered : merge.conjunct < length space.conjuncts = slice_get_within space.conjuncts merge.conjunct is.1.2.0.0 is.1.2.0.1 in
+      let path : Contains (space.paths no_tables table) merge.inner.path = subst (λ (t : ℕ). Contains (space.paths no_tables t) merge.inner.path) is.0 is.1.5.0 in
+      flattened by_conjunct (range_with_len 0 (length space.conjuncts)) merge.conjunct (sides_of merge)
+      (in_range 0 (length space.conjuncts) merge.conjunct (omega arith) (omega (arith, numbered)))
+      (flattened (by_path merge.conjunct) (space.paths no_tables table) merge.inner.path (sides_of merge) path (is_by_path merge.conjunct merge.inner.path merge.inner.sorted))
+
+  few_merges : (tables : TableSet) (merges : List CostedMerge) → AreMerges space tables table merges → length merges ≤ length by_any
+  few_merges tables merges are =
+      no_longer sides_of merges by_any (λ i j d lt within e. are.distinct i j d lt within (ap (λ (s : ℕ × Inner). s.0) e) (ap (λ (s : ℕ × Inner). s.1) e))
+      (weaker (IsMergeItem space tables table) (λ (merge : CostedMerge). Contains by_any (sides_of merge)) merges are.each (is_by_any tables))
+
 -- there are such numbers in every space
-pub some_counts : (space : Space) → AreCounts space (λ tables. length space.orders) (λ tables table. length (space.paths tables table) + most_merges space table)
+pub some_counts : (space : Space) → AreCounts space (λ tables. length space.orders) (λ tables table. length (space.paths tables table) + length (by_any space table))
 some_counts space = record {
   of_sorts = λ tables orders are. rising_few (length space.orders) orders are.rising (weaker (CanSort space tables) (λ (order : ℕ). order < length space.orders) orders are.each (λ order can. can.1.0));
-  of_joins = λ tables table merges follows are. let few = are.few in omega (arith, few);
+  of_joins = λ tables table merges follows are. let few = few_merges space table tables merges are in omega (arith, few);
 }

@@ -14,4 +14,5 @@ pub mod Growing
 pub mod Ending
 pub mod Indexed
 pub mod Finals
+pub mod Shorter
 pub mod Counted

@@ -16,7 +16,6 @@ pub(crate) fn offset_of(cause: &Cause) -> usize {
             None => unexpected.behind,
         },
         Cause::TooDeep { offset } => *offset,
-        Cause::NotYet(query) => query.block.start,
         Cause::Create {
             name,
             columns,

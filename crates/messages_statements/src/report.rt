@@ -147,7 +147,6 @@ impl Report<'_> {
             Cause::NoFile(file) => write!(f, "there is no file '{}'", file.text),
             Cause::ManyRows(_) => write!(f, "a table has at most {MAX_ROWS} rows"),
             Cause::Query(cause) => crate::words::write_fault(f, cause.query, cause.fault),
-            Cause::NotYet(_) => f.write_str("a SELECT with a subquery can't be run yet"),
             Cause::Record { .. } | Cause::Repeated { .. } => Ok(()),
         }
     }

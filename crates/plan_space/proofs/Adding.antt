@@ -1,9 +1,9 @@
 -- The merges of a conjunct with one path.
-use Rattle.std.proofs.Common.{◌≡◌, ◌∙◌, refl, sym, ap, ap₂, subst, ℕ, ◌+◌, ◌⊎◌, inl, inr, List, [], ◌∷◌, ◌++◌, Bool, true, false, Some, map, arith}
+use Rattle.std.proofs.Common.{◌≡◌, ◌≢◌, ◌∙◌, refl, sym, ap, ap₂, subst, ℕ, ◌+◌, ◌⊎◌, inl, inr, List, [], ◌∷◌, ◌++◌, Bool, true, false, Some, map, get_or}
 use Rattle.std.specs.Prelude.{Contains}
 use Rattle.std.specs.List.{AllByRecursion}
-use Rattle.std.proofs.lemmas.List.{length-append}
-use Rattle.std.proofs.lemmas.List.Elements.{Contains-append_left, Contains-append_right}
+use Rattle.std.proofs.lemmas.List.Elements.{Contains-get_or, Contains-append_left, Contains-append_right, Contains-push_cases}
+use Rattle.std.proofs.lemmas.List.Quantifiers.{all_pairs_push}
 use Rattle.std.proofs.lemmas.Nat.Bits.{bit_at-pow_same}
 use Rattle.definitions.specs.Plans.TableSet.{Has, only, no_tables}
 use Rattle.definitions.specs.Plans.Order.{BlockColumn, ascending}
@@ -17,7 +17,7 @@ use Rattle.definitions.proofs.PlanTheory.Elements.{first_is}
 use Rattle.definitions.proofs.PlanTheory.TableSets.{only_has}
 use Rattle.interesting_orders.specs.Merges.{GoesBy}
 use Rattle.plan_space.specs.Item.{Item, IsItem}
-use Rattle.plan_space.specs.Merge.{FoundMerge, MergesBy, found, IsFound, IsGrown, AddsPath}
+use Rattle.plan_space.specs.Merge.{FoundMerge, AreDistinct, MergesBy, found, IsFound, IsGrown, AddsPath}
 use Rattle.plan_space.specs.MergeListed.{merge_told, IsWay}
 use Rattle.plan_space.specs.declared.listed.MergeJoinPath.{MergeJoinPath}
 use Rattle.plan_space.specs.declared.listed.MergeClause.{MergeClause}
@@ -33,6 +33,11 @@ module _ (space : Space) (table : ℕ) where
 
   pub then_grown : (a b c : List FoundMerge) → IsGrown space table a b → IsGrown space table b c → IsGrown space table a c
   then_grown a b c first second = record { kept = λ x there. second.kept x (first.kept x there); right = λ all. second.right (first.right all) }
+
+-- one more, which differs from those before it
+distinct_more : (xs : List FoundMerge) (y : FoundMerge) → AreDistinct xs → ((x : FoundMerge) → Contains xs x → x.conjunct ≡ y.conjunct → x.inner ≢ y.inner) → AreDistinct (xs ++ y ∷ [])
+distinct_more xs y distinct differs =
+    all_pairs_push (λ (a b : FoundMerge). a.conjunct ≡ b.conjunct → a.inner ≢ b.inner) xs y distinct (λ k d lt. differs (get_or xs k d) (Contains-get_or xs k d lt))
 
 last_there : (xs : List FoundMerge) (x : FoundMerge) → Contains (xs ++ x ∷ []) x
 last_there xs x = Contains-append_right xs (x ∷ []) x (first_is x [] x refl)
@@ -122,12 +127,46 @@ module _ (space : Space) (way : MergeClause) (is : IsWay space way.table way.con
           (subst (λ (p : Path). Satisfies space (only way.table) (order_at space (space.path_order p)) (ascending y)) of_path
           (subst (λ t. Satisfies space (only t) (order_at space (space.path_order side.path)) (ascending y)) reads satisfied)))))
 
+  -- what is added is of the conjunct and the path
+  abbrev IsOfPath : FoundMerge → Type 0
+  IsOfPath x = (x.conjunct ≡ way.conjunct) × (x.inner.path ≡ item.path)
+
+  added_one : (old : List FoundMerge) (sorted : Bool) (cost : ℕ) (x : FoundMerge) → Contains (old ++ listed sorted cost ∷ []) x → Contains old x ⊎ IsOfPath x
+  added_one old sorted cost x there = by_place (Contains-push_cases old (listed sorted cost) x there)
+    where
+      by_place : Contains old x ⊎ (listed sorted cost ≡ x) → Contains old x ⊎ IsOfPath x
+      by_place (inl h) = inl h
+      by_place (inr e) = inr (ap (λ (y : FoundMerge). y.conjunct) (sym e), ap (λ (y : FoundMerge). y.inner.path) (sym e))
+
+  added_both : (old : List FoundMerge) (x : FoundMerge) → Contains ((old ++ with_sort ∷ []) ++ as_it_is ∷ []) x → Contains old x ⊎ IsOfPath x
+  added_both old x there = by_place (added_one (old ++ with_sort ∷ []) false item.cost x there)
+    where
+      by_place : Contains (old ++ with_sort ∷ []) x ⊎ IsOfPath x → Contains old x ⊎ IsOfPath x
+      by_place (inl h) = added_one old true (saturated (item.cost + way.sort_cost)) x h
+      by_place (inr of_path) = inr of_path
+
+  -- and none is added twice
+  abbrev IsNew : List FoundMerge → Type 0
+  IsNew old = (x : FoundMerge) → Contains old x → x.conjunct ≡ way.conjunct → x.inner.path ≢ item.path
+
+  sort_distinct : (old : List FoundMerge) → AreDistinct old → IsNew old → AreDistinct (old ++ with_sort ∷ [])
+  sort_distinct old distinct new = distinct_more old with_sort distinct (λ x h same e. new x h same (ap (λ (i : Inner). i.path) e))
+
+  both_distinct : (old : List FoundMerge) → AreDistinct old → IsNew old → AreDistinct ((old ++ with_sort ∷ []) ++ as_it_is ∷ [])
+  both_distinct old distinct new =
+      distinct_more (old ++ with_sort ∷ []) as_it_is (sort_distinct old distinct new) (λ x h same e. by_place x same e (Contains-push_cases old with_sort x h))
+    where
+      by_place : (x : FoundMerge) → x.conjunct ≡ way.conjunct → x.inner ≡ inner false → Contains old x ⊎ (with_sort ≡ x) → ⊥
+      by_place x same e (inl h) = new x h same (ap (λ (i : Inner). i.path) e)
+      by_place x same e (inr is) = let both : true ≡ false = ap (λ (y : FoundMerge). y.inner.sorted) is ∙ ap (λ (i : Inner). i.sorted) e in absurd cc
+
   pub adds_sorted : (old : List FoundMerge) → (GoesBy space (only way.table) item.order way.conjunct way.other → ⊥) → AddsPath space way.table way.conjunct item.path old (old ++ with_sort ∷ [])
   adds_sorted old never = record {
     grown = grown space way.table old with_sort sort_found;
     there = there (old ++ with_sort ∷ []) (subst (λ (x : FoundMerge). Contains (old ++ with_sort ∷ []) x) (exact true (saturated (item.cost + way.sort_cost)) sorted_cost) (last_there old with_sort))
         (λ by'. absurd (never by'));
-    few = omega (arith, length-append old (with_sort ∷ []));
+    added = added_one old true (saturated (item.cost + way.sort_cost));
+    distinct = sort_distinct old;
   }
 
   pub adds_both : (old : List FoundMerge) → GoesBy space (only way.table) item.order way.conjunct way.other → AddsPath space way.table way.conjunct item.path old ((old ++ with_sort ∷ []) ++ as_it_is ∷ [])
@@ -139,7 +178,8 @@ module _ (space : Space) (way : MergeClause) (is : IsWay space way.table way.con
         grown = then_grown space way.table old (old ++ with_sort ∷ []) ((old ++ with_sort ∷ []) ++ as_it_is ∷ []) (grown space way.table old with_sort sort_found) second;
         there = there ((old ++ with_sort ∷ []) ++ as_it_is ∷ []) (second.kept _ first)
             (λ _. subst (λ (x : FoundMerge). Contains ((old ++ with_sort ∷ []) ++ as_it_is ∷ []) x) (exact false item.cost right.cost) (last_there (old ++ with_sort ∷ []) as_it_is));
-        few = omega (arith, length-append old (with_sort ∷ []), length-append (old ++ with_sort ∷ []) (as_it_is ∷ []));
+        added = added_both old;
+        distinct = both_distinct old;
       }
     where
       adds_with : (old : List FoundMerge) → Has' (old ++ with_sort ∷ []) true

@@ -6,6 +6,7 @@ pub mod Listing
 mod Items
 pub mod Sides
 mod Ways
+mod PathsOnce
 mod Adding
 mod Walking
 mod Opening

@@ -1,8 +1,11 @@
 -- The merges that are open on a set of tables, with what they cost.
-use Rattle.std.proofs.Common.{◌≤◌, ◌≡◌, ◌∙◌, refl, sym, ap, subst, ℕ, ◌*◌, ◌+◌, ◌⊎◌, inl, inr, List, [], ◌∷◌, Bool, true, false, cond, arith, length}
-use Rattle.std.specs.Prelude.{Contains, slice_get}
+use Prim.Native.Nat.{zero}
+use Rattle.std.proofs.Common.{suc, ◌≡◌, ◌≢◌, ◌∙◌, refl, sym, ap, subst, ℕ, ◌+◌, ◌*◌, ◌⊎◌, inl, inr, List, [], ◌∷◌, Bool, true, false, cond, arith}
+use Rattle.std.specs.Prelude.{All, AllPairs, Contains, slice_get}
 use Rattle.std.specs.List.{AllByRecursion}
 use Rattle.std.proofs.lemmas.Bool.Decides.{Decides-eqb, nat_tests}
+use Rattle.std.proofs.lemmas.List.Elements.{All-from_recursion, recursion_from_All}
+use Rattle.std.proofs.lemmas.List.Kept.{AllPairs-cons}
 use Rattle.std.specs.Int.{bit_at}
 use Rattle.definitions.specs.Plans.TableSet.{TableSet, Has, only}
 use Rattle.definitions.specs.Plans.Path.{table_of}
@@ -12,8 +15,15 @@ use Rattle.definitions.specs.Plans.Cost.{saturated, share, selectivity_of, merge
 use Rattle.definitions.specs.Estimates.BlockTables.{has}
 use Rattle.definitions.proofs.PlanTheory.Elements.{first_is, later, first_or_rest, not_in_empty}
 use Rattle.plan_tree.proofs.Tests.{has_it}
-use Rattle.plan_space.specs.Merge.{FoundMerge, with_pairs, open_merges, IsMerge, IsMergeItem, AreMerges, IsFound, found}
+use Rattle.plan_space.specs.Merge.{Merge, FoundMerge, AreDistinct, with_pairs, open_merges, IsMerge, IsMergeItem, AreMerges, IsFound, found}
 use Rattle.plan_space.specs.MergeListed.{AreMergesOf}
+
+-- of two conjuncts or of two inner sides
+abbrev Differs : ℕ → Inner → ℕ → Inner → Type 0
+Differs number inner number' inner' = number ≡ number' → inner ≢ inner'
+
+abbrev Differ : Merge → Merge → Type 0
+Differ a b = Differs a.conjunct a.inner b.conjunct b.inner
 
 module _ (tables : TableSet) (pairs : ℕ) where
   -- what is found and whose other table is there is open
@@ -33,15 +43,34 @@ module _ (tables : TableSet) (pairs : ℕ) where
       by_place rest (inl same) = here (has tables y.other) (ap (λ (z : FoundMerge). has tables z.other) same ∙ is) same
       by_place rest (inr r) = behind (has tables y.other) (rest r)
 
-  -- and no more are open than were found
-  no_more : (xs : List FoundMerge) → length (open_merges tables pairs xs) ≤ length xs
-  no_more [] = omega arith
-  no_more (x ∷ xs) = by_test (has tables x.other) (no_more xs)
+  -- what holds of each that is found, by its conjunct and its inner side, holds of each that is open
+  open_each : (P : ℕ → Inner → Type 0) (xs : List FoundMerge) → AllByRecursion (λ (x : FoundMerge). P x.conjunct x.inner) xs
+      → AllByRecursion (λ (m : Merge). P m.conjunct m.inner) (open_merges tables pairs xs)
+  open_each P [] all = tt
+  open_each P (x ∷ xs) all = by_test (has tables x.other) (open_each P xs all.1)
     where
-      by_test : (b : Bool) → length (open_merges tables pairs xs) ≤ length xs
-          → length (cond b (with_pairs pairs x ∷ open_merges tables pairs xs) (open_merges tables pairs xs)) ≤ length (x ∷ xs)
-      by_test true rest = omega (arith, rest)
-      by_test false rest = omega (arith, rest)
+      by_test : (b : Bool) → AllByRecursion (λ (m : Merge). P m.conjunct m.inner) (open_merges tables pairs xs)
+          → AllByRecursion (λ (m : Merge). P m.conjunct m.inner) (cond b (with_pairs pairs x ∷ open_merges tables pairs xs) (open_merges tables pairs xs))
+      by_test true rest = (all.0, rest)
+      by_test false rest = rest
+
+  -- and none is open twice
+  open_distinct : (xs : List FoundMerge) → AreDistinct xs → AllPairs Differ (open_merges tables pairs xs)
+  open_distinct [] distinct = λ i j d lt within. absurd (omega arith)
+  open_distinct (x ∷ xs) distinct = by_test (has tables x.other) (open_distinct xs (λ i j d lt within. distinct (suc i) (suc j) d (omega arith) (omega arith)))
+    where
+      head : All (λ (y : FoundMerge). Differs x.conjunct x.inner y.conjunct y.inner) xs
+      head k d within = distinct zero (suc k) d (omega arith) (omega arith)
+
+      differs : All (Differ (with_pairs pairs x)) (open_merges tables pairs xs)
+      differs =
+          All-from_recursion (Differ (with_pairs pairs x)) (open_merges tables pairs xs)
+          (open_each (Differs x.conjunct x.inner) xs (recursion_from_All (λ (y : FoundMerge). Differs x.conjunct x.inner y.conjunct y.inner) xs head))
+
+      by_test : (b : Bool) → AllPairs Differ (open_merges tables pairs xs)
+          → AllPairs Differ (cond b (with_pairs pairs x ∷ open_merges tables pairs xs) (open_merges tables pairs xs))
+      by_test true rest = AllPairs-cons Differ (with_pairs pairs x) (open_merges tables pairs xs) differs rest
+      by_test false rest = rest
 
 module _ (space : Space) (tables : TableSet) (table pairs : ℕ) (are : pairs ≡ saturated (space.cardinality tables * space.cardinality (only table))) where
   cost_is : (number other : ℕ) (inner : Inner) → table_of inner.path ≡ table → (with_pairs pairs (found space number other inner)).cost ≡ merge_cost space tables number inner
@@ -69,7 +98,7 @@ module _ (space : Space) (tables : TableSet) (table pairs : ℕ) (are : pairs �
   are_merges xs of' = record {
     each = each xs of'.each;
     all = λ number inner is. one number inner is;
-    few = omega (arith, no_more tables pairs xs, of'.few);
+    distinct = open_distinct tables pairs xs of'.distinct;
   }
     where
       one : (number : ℕ) (inner : Inner) → IsMerge space tables table number inner

@@ -1,5 +1,5 @@
 -- The merges that bring a table on top of plans on a set of tables, with what they add to the plans' costs.
-use Rattle.std.specs.Prelude.{ℕ, ◌+◌, ◌*◌, ◌≤◌, ◌≡◌, if◌then◌else◌, List, [], ◌∷◌, Contains, length, slice_get}
+use Rattle.std.specs.Prelude.{ℕ, ◌+◌, ◌≤◌, ◌≡◌, ◌≢◌, ◌⊎◌, if◌then◌else◌, List, [], ◌∷◌, AllPairs, Contains, slice_get}
 use Rattle.std.specs.List.{AllByRecursion}
 use Rattle.definitions.specs.Plans.TableSet.{TableSet, Has, no_tables}
 use Rattle.definitions.specs.Plans.Order.{BlockColumn}
@@ -24,6 +24,10 @@ pub record FoundMerge : Type 0 where
   pub cost : ℕ
   pub selectivity : ℕ
 
+-- no two found merges are of one conjunct and one inner side
+abbrev pub AreDistinct : List FoundMerge → Type 0
+AreDistinct xs = AllPairs (λ (a b : FoundMerge). a.conjunct ≡ b.conjunct → a.inner ≢ b.inner) xs
+
 abbrev pub with_pairs : ℕ → FoundMerge → Merge
 with_pairs pairs x = record { conjunct = x.conjunct; inner = x.inner; cost = saturated (x.cost + share pairs x.selectivity) }
 
@@ -44,16 +48,13 @@ module _ (space : Space) where
     pub cost : item.cost ≡ merge_cost space tables item.conjunct item.inner
     pub small : item.cost ≤ limit
 
-  -- by each conjunct and each path of the table alone, its rows sorted or as they are
-  abbrev pub most_merges : ℕ → ℕ
-  most_merges table = 2 * (length space.conjuncts * length (space.paths no_tables table))
-
-  -- all merges that bring a table, each with its cost
+  -- all merges that bring a table, each once and with its cost
   pub record AreMerges (tables : TableSet) (table : ℕ) (items : List Merge) : Type 0 where
     pub each : AllByRecursion (IsMergeItem tables table) items
     pub all : (number : ℕ) (inner : Inner) → IsMerge tables table number inner
         → Contains items (record { conjunct = number; inner = inner; cost = merge_cost space tables number inner })
-    pub few : length items ≤ most_merges table
+    -- no two are of one conjunct and one inner side
+    pub distinct : AllPairs (λ (a b : Merge). a.conjunct ≡ b.conjunct → a.inner ≢ b.inner) items
 
   -- ---- found merges
 
@@ -75,19 +76,26 @@ module _ (space : Space) where
   HasMerges Of table number xs = (inner : Inner) (x y : BlockColumn) → MergesBy table number x y → table_of inner.path ≡ table → Of inner.path
       → IsInner space y inner → Contains xs (found number x.table inner)
 
+  -- no path of the table alone is listed twice
+  abbrev pub ListsPathsOnce : ℕ → Type 0
+  ListsPathsOnce table = AllPairs (λ (a b : Path). a ≢ b) (space.paths no_tables table)
+
   -- found merges are added and none is lost
   pub record IsGrown (table : ℕ) (old new : List FoundMerge) : Type 0 where
     pub kept : (x : FoundMerge) → Contains old x → Contains new x
     pub right : AllByRecursion (IsFound table) old → AllByRecursion (IsFound table) new
 
-  -- those of a conjunct with one path, and those with any path
+  -- those of a conjunct with one path, each once, and those with any path
   pub record AddsPath (table number : ℕ) (path : Path) (old new : List FoundMerge) : Type 0 where
     pub grown : IsGrown table old new
     pub there : HasMerges (λ other. other ≡ path) table number new
-    pub few : length new ≤ length old + 2
+    pub added : (x : FoundMerge) → Contains new x → Contains old x ⊎ ((x.conjunct ≡ number) × (x.inner.path ≡ path))
+    pub distinct : AreDistinct old
+        → ((x : FoundMerge) → Contains old x → x.conjunct ≡ number → x.inner.path ≢ path) → AreDistinct new
 
   pub record AddsMerges (table number : ℕ) (old new : List FoundMerge) : Type 0 where
     pub grown : IsGrown table old new
     pub there : (inner : Inner) (x y : BlockColumn) → MergesBy table number x y → table_of inner.path ≡ table → IsInner space y inner
         → Contains new (found number x.table inner)
-    pub few : length new ≤ length old + 2 * length (space.paths no_tables table)
+    pub added : (x : FoundMerge) → Contains new x → Contains old x ⊎ (x.conjunct ≡ number)
+    pub distinct : AreDistinct old → ((x : FoundMerge) → Contains old x → x.conjunct ≢ number) → AreDistinct new

@@ -1,5 +1,5 @@
 -- The merges that may bring a table, for every set of tables.
-use Rattle.std.specs.Prelude.{ℕ, ◌≡◌, List, Option, Some, None, Contains, slice_get, ◌≤◌, length}
+use Rattle.std.specs.Prelude.{ℕ, ◌≡◌, List, Option, Some, None, Contains, slice_get}
 use Rattle.std.specs.List.{AllByRecursion}
 use Rattle.definitions.specs.Plans.TableSet.{only}
 use Rattle.definitions.specs.Plans.Order.{BlockColumn}
@@ -9,7 +9,7 @@ use Rattle.definitions.specs.Plans.Space.{Space}
 use Rattle.definitions.specs.Plans.PlanSpace.{IsInner}
 use Rattle.definitions.specs.Plans.Cost.{selectivity_of}
 use Rattle.plan_tree.specs.Plans.{path_of}
-use Rattle.plan_space.specs.Merge.{FoundMerge, MergesBy, IsFound, found, most_merges}
+use Rattle.plan_space.specs.Merge.{FoundMerge, AreDistinct, MergesBy, IsFound, found}
 use Rattle.plan_space.specs.declared.listed.MergeJoinPath.{MergeJoinPath}
 use Rattle.plan_space.specs.declared.listed.MergeClause.{MergeClause}
 
@@ -24,9 +24,9 @@ module _ (space : Space) where
       × ((x : BlockColumn) × (y : BlockColumn) × MergesBy space table number x y × (x.table ≡ way.other))
       × (way.selectivity ≡ selectivity_of (slice_get space.conjuncts number)) × (way.sort_cost ≡ space.sort_cost (only table))
 
-  -- each is one that brings the table, and those of all conjuncts are there
+  -- each is one that brings the table, those of all conjuncts are there, and none twice
   pub record AreMergesOf (table : ℕ) (xs : List FoundMerge) : Type 0 where
     pub each : AllByRecursion (IsFound space table) xs
     pub all : (number : ℕ) (inner : Inner) (x y : BlockColumn) → MergesBy space table number x y → table_of inner.path ≡ table → IsInner space y inner
         → Contains xs (found space number x.table inner)
-    pub few : length xs ≤ most_merges space table
+    pub distinct : AreDistinct xs

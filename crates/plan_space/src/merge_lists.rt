@@ -20,7 +20,7 @@ ghost use Rattle.estimate.specs.Sets as set_estimates;
 ghost use Rattle.plan_space.specs.Item.{AreItems, IsItem};
 ghost use Rattle.plan_space.specs.Items.{item_of};
 ghost use Rattle.plan_space.specs.PathLists as block_paths;
-ghost use Rattle.plan_space.specs.Merge.{AddsMerges, AddsPath, AreMerges};
+ghost use Rattle.plan_space.specs.Merge.{AddsMerges, AddsPath, AreMerges, ListsPathsOnce};
 ghost use Rattle.plan_space.specs.MergeListed.{merge_told, AreMergesOf, IsWay};
 
 use crate::listed::{MergeClause, MergeJoinPath};
@@ -147,7 +147,7 @@ fn add_merges(
 ) -> Result<(), AllocError>
     requires { only way.table < order_uses.sets_in uses.now }
     ensures { (space : Space) → AreUses space uses.now → IsWay space way.table way.conjunct (Some way) →
-        AreItems space no_tables way.table paths.entry →
+        AreItems space no_tables way.table paths.entry → ListsPathsOnce space way.table →
         OnOk result (AddsMerges space way.table way.conjunct (map merge_told merges.old.items)
         (map merge_told merges.new.items)) }
 {

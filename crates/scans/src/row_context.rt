@@ -15,7 +15,7 @@ use crate::block_source::BlockSource;
 use crate::outer_rows::OuterRows;
 use expr::Environment;
 use query_tree::BlockColumn;
-use sqlvalue::{OwnedValue, Raise, Value};
+use sqlvalue::{OwnedValue, Raise, Tri, Value};
 
 /// A composite of rows of a block's tables, which go by their numbers, in the rows of the blocks around it. Of a table that is not
 /// there yet it has the first row.
@@ -44,6 +44,10 @@ impl<'s, 'a, A: OuterRows> Environment for RowContext<'s, 'a, A> {
 
     fn first_values(&self, _block: usize) -> Result<&[OwnedValue], Raise> {
         Ok(&[])
+    }
+
+    fn is_among(&self, _block: usize, _value: &Value) -> Option<Tri> {
+        None
     }
 }
 

@@ -128,7 +128,6 @@ load_is_faultless db s r name file t (faulty.no_such_table n c p h) is named = c
 load_is_faultless db s r name file t (faulty.out_of_range n c p h) is named = cc
 load_is_faultless db s r name file t (faulty.statistics n c v x h) is named = cc
 load_is_faultless db s r name file t (faulty.query q x h) is named = cc
-load_is_faultless db s r name file t (faulty.not_yet q a h) is named = cc
 load_is_faultless db s r name file t (faulty.explained q x h) is named = cc
 
 -- keys that repeat are in no unique index
@@ -218,10 +217,10 @@ module _ {L : Type 0} (answers : Answering L) where
   reworked old new work s x e (step.no_file name file library is a given n t d) = (record old { library = library }, (sym (one_state n).0, sym (one_state n).1), step.no_file name file library is a given refl t d)
   reworked old new work s x e (step.load name file bytes library tb records db is named given are lo n) =
       (record old { library = library; database = db }, (sym (one_state n).0, sym (one_state n).1), step.load name file bytes library tb records db is named given are lo refl)
-  reworked old new work s x e (step.query q blocks (Rows rows) after is a b al total n t d) =
-      (record old { work = after }, (sym (one_state n).0, sym (one_state n).1), step.query q blocks (Rows rows) after is a b al total refl t d)
-  reworked old new work s x e (step.query q blocks (Exception raise) after is a b al total n t d) =
-      (old, (sym (one_state n).0, sym (one_state n).1), step.query q blocks (Exception raise) old.work is a b al refl refl t d)
+  reworked old new work s x e (step.query q blocks (Rows rows) after is a b al run n t d) =
+      (record old { work = after }, (sym (one_state n).0, sym (one_state n).1), step.query q blocks (Rows rows) after is a b al run refl t d)
+  reworked old new work s x e (step.query q blocks (Exception raise) after is a b al (chosen, certified, unchanged) n t d) =
+      (old, (sym (one_state n).0, sym (one_state n).1), step.query q blocks (Exception raise) old.work is a b al (chosen, certified, refl) refl t d)
   reworked old new work s x e (step.explain q blocks is a b are n d) = (old, (sym (one_state n).0, sym (one_state n).1), step.explain q blocks is a b are refl d)
 
   step_moved : (old other new : State L) (s : Statement) (x : List ℕ) (e : Ended) → AreOneButForWork old other → Step answers other s new x e → (own : State L) × AreOneButForWork own new × Step answers old s own x e

@@ -9,3 +9,4 @@ pub mod Selecting
 pub mod Explained
 pub mod Written
 pub mod EndAlike
+pub mod Headlines

@@ -10,6 +10,8 @@ use Rattle.definitions.specs.Faults as faults
 use Rattle.definitions.specs.Loading.{Record, AreFileRecords, FirstFaulty}
 use Rattle.definitions.specs.Printing.{refusal_text, record_refusal_text, loaded_text}
 use Rattle.definitions.specs.Queries.Outcomes.{Rows, Exception}
+use Rattle.definitions.specs.Estimates.Version.{current_version}
+use Rattle.definitions_execution.specs.Total.{total_of}
 use Rattle.definitions_execution.specs.Step as step
 use Rattle.definitions_execution.specs.Step.{Answering, State}
 use Rattle.loading.specs.Meaning.{record_refusal}
@@ -117,10 +119,14 @@ limit_told db db' name bytes (Err f) h n x d = tt
 -- the work is the one told, where one is
 pub query_taken : {L : Type 0} (answers : Answering L) (old new : State L) (q : tree.Select) (p : Printed) → Answers old.database q p → new ≡ record old { work = unwrap_or p.work old.work } → Takes answers old (tree.Query q) new p
 query_taken answers old new q p (selecting.refused r f t d w) n = (step.Faulted, step.refused r f (n ∙ ap (λ o. record old { work = unwrap_or o old.work }) w) t refl, d)
-query_taken answers old new q p (selecting.told blocks (Rows rows) a b allowed t d (total, is, w)) n =
-    (step.Well, step.query q blocks (Rows rows) total refl a b allowed is (n ∙ ap (λ o. record old { work = unwrap_or o old.work }) w) t refl, d)
-query_taken answers old new q p (selecting.told blocks (Exception raise) a b allowed t d w) n =
-    (step.Faulted, step.query q blocks (Exception raise) old.work refl a b allowed refl (n ∙ ap (λ o. record old { work = unwrap_or o old.work }) w) t refl, d)
+query_taken answers old new q p (selecting.told blocks (Rows rows) plans a b allowed certified t d w) n = (
+  step.Well,
+  step.query q blocks (Rows rows) (total_of current_version old.database blocks plans) refl a b allowed (plans, certified, refl)
+      (n ∙ ap (λ o. record old { work = unwrap_or o old.work }) w) t refl,
+  d,
+)
+query_taken answers old new q p (selecting.told blocks (Exception raise) plans a b allowed certified t d w) n =
+    (step.Faulted, step.query q blocks (Exception raise) old.work refl a b allowed (plans, certified, refl) (n ∙ ap (λ o. record old { work = unwrap_or o old.work }) w) t refl, d)
 
 -- ---- EXPLAIN
 

@@ -57,8 +57,6 @@ pub enum Cause<'a> {
         record: RepeatedRecord,
     },
     Query(QueryCause<'a>),
-    /// A query can't be answered so far.
-    NotYet(&'a Select),
 }
 
 /// Columns of a table as a statement lists them.

@@ -1,8 +1,11 @@
 //! A checking run: the statements before the last, and then the certificates of the last one's query.
 
 ghost use Rattle.std.specs.Prelude.{ℕ, ◌≡◌, ◌≢◌, ◌<◌, List, IfOk, IfErr, OnOk, OnErr};
+ghost use Rattle.definitions.specs.Estimates.Version.{current_version};
+ghost use Rattle.definitions_execution.specs.Headline.{IsCheckedLeast};
 ghost use Rattle.definitions_execution.specs.Step.{AreStatements};
 ghost use Rattle.parse_tree.specs.Trees.{statement_of, statements_of};
+ghost use Rattle.sqlr.specs.declared.ended.Ended.TheVariants as ended;
 ghost use Rattle.sqlr.specs.declared.ended.RunFault.TheVariants as fault;
 ghost use Rattle.sqlr.specs.Devices.{Took, TookBeginning};
 ghost use Rattle.sqlr.specs.Checking.{ArePrepared, BreaksChecking, BreaksLast, BreaksPrepared, BreaksPreparing, Checks, ChecksLast, IsIfRefused, IsPrepared};
@@ -33,6 +36,8 @@ impl<L: Library> Session<L> {
         certificates: &[u8],
         sink: &mut S,
     ) -> Result<Ended, RunFault>
+        ensures headline { IfOk result (λ how. how ≡ ended.Well →
+            IsCheckedLeast current_version self.new.database script.now certificates.now) }
         ensures checks { IfOk result (Checks L.answers self.old script.now certificates.now self.new
             (S.taken sink.old) (S.taken sink.new)) }
         ensures breaks { IfErr result (BreaksChecking L.answers L.fails self.old script.now certificates.now self.new

@@ -10,7 +10,6 @@ use crate::outcome::{Printed, StepFault, done, exception_line, refusal_line};
 use binder::{BindFault, bind};
 use catalog::Database;
 use executor::{AnswerFault, answer_text};
-use sqlvalue::Refusal;
 use std::alloc::Global;
 use syntax::Select;
 
@@ -33,10 +32,7 @@ pub(crate) fn select<'q>(
         }
         Err(BindFault::Memory) => return Err(StepFault::Memory),
     };
-    if blocks.len() != 1 {
-        return refusal_line(alloc, Refusal::OverQueryLimit, Cause::NotYet(query));
-    }
-    match answer_text(alloc, database, &blocks[0]) {
+    match answer_text(alloc, database, &blocks) {
         Ok((text, work)) => Ok(Printed {
             work: Some(work),
             ..done(text)

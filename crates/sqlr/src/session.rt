@@ -1,13 +1,15 @@
 //! A session: a database, the library that LOAD asks, and how its scripts are run.
 
-ghost use Rattle.std.specs.Prelude.{◌≡◌, ◌≢◌, [], None, IfOk, IfErr, OnErr};
+ghost use Rattle.std.specs.Prelude.{◌≡◌, ◌≢◌, ℕ, List, [], None, IfOk, IfErr, OnErr};
 ghost use Rattle.definitions.specs.Printing.{fault_text};
 ghost use Rattle.definitions.specs.Statement as tree;
+ghost use Rattle.definitions_execution.specs.Headline.{KeepsHeadline};
 ghost use Rattle.definitions_execution.specs.Step.{AreStatements};
 ghost use Rattle.definitions.specs.Table.{table_named};
 ghost use Rattle.sqlvalue.specs.RefusalMeaning.{refusal_of};
 ghost use Rattle.parse_tree.specs.Trees.{name_of, select_of, statement_of, statements_of, text_of};
 ghost use Rattle.sqlr.specs.declared.outcome.StepFault.TheVariants as fault;
+ghost use Rattle.sqlr.specs.Devices.{Took};
 ghost use Rattle.sqlr.specs.Sessions.{BreaksAt, BreaksIn, BreaksLine, BreaksOff, IsBoth, IsLibraryBlamed, IsSinkBlamed, IsStepBlamed, Prints, Runs, RunsAll, Takes, TakesBytes};
 
 use crate::cause::{Cause, FileLoad, Refused};
@@ -79,6 +81,8 @@ impl<L: Library> Session<L> {
     /// off did; where the sink failed, the statement whose text it refused has taken effect, and a
     /// beginning of that text was printed.
     pub fn run<S: Sink>(&mut self, script: &str, sink: &mut S) -> Result<Ended, RunFault>
+        ensures headline { IfOk result (λ ended. (text : List ℕ) × Took (S.taken sink.old) text (S.taken sink.new)
+            × KeepsHeadline L.answers self.old script.now self.new text) }
         ensures runs { IfOk result (Runs L.answers self.old script.now self.new (S.taken sink.old) (S.taken sink.new)) }
         ensures breaks { IfErr result (BreaksOff L.answers L.fails self.old script.now self.new (S.taken sink.old)
             (S.taken sink.new)) }

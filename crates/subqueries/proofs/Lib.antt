@@ -1,6 +1,7 @@
 pub mod Lists
 pub mod Answering
-pub mod FirstValues
+pub mod OrderedValues
+pub mod ToldValues
 pub mod Nearest
 pub mod Appending
 pub mod Texts

@@ -1,10 +1,10 @@
 //! The values in the text of a block, and the inner blocks that it asks for.
 
-ghost use Rattle.std.specs.Prelude.{◌≡◌, ◌++◌, ◌∷◌, [], IfOk, OnOk, map, option_map};
-ghost use Rattle.definitions.specs.Queries.Conjuncts.{blocks_in, member_values, tested_blocks, values_of};
+ghost use Rattle.std.specs.Prelude.{◌≡◌, ◌++◌, ◌∷◌, [], IfOk, IsPermutation, OnOk, flat_map, map, option_map};
+ghost use Rattle.definitions.specs.Queries.Conjuncts.{blocks_in, blocks_of, member_values, tested_blocks, values_of};
 ghost use Rattle.definitions_answers.specs.Parameters.{arguments_of, asked_blocks, tested_of_option, values_in_block, values_of_option};
 ghost use Rattle.query_tree.specs.Bound.{block_of, bound_function_of, condition_of, member_of, value_of};
-ghost use Rattle.subqueries.specs.BlockText.{item_values, trees_of};
+ghost use Rattle.subqueries.specs.BlockText.{conditions_in, item_values, trees_of, Rising};
 
 use query_tree::{Aggregate, Block, Condition, Item, ValueExpr};
 use std::alloc::{AllocError, Global};
@@ -41,6 +41,37 @@ pub(crate) fn asked_blocks(
     push_clause_tested(&mut asked, &block.condition)?;
     push_clause_tested(&mut asked, &block.having)?;
     Ok(asked)
+}
+
+/// The numbers of the inner blocks that conditions ask for, rising (own).
+pub fn blocks_asked(alloc: Global, conditions: &[&Condition]) -> Result<Vec<usize>, AllocError>
+    ensures each { IfOk result (λ blocks. IsPermutation (flat_map blocks_of (conditions_in conditions.now))
+        blocks.items) }
+    ensures rising { IfOk result (λ blocks. Rising blocks.items) }
+{
+    let mut blocks = Vec::new(alloc);
+    'conditions: for condition in conditions {
+        push_asked(alloc, &mut blocks, condition)?;
+    }
+    blocks.sort_unstable();
+    Ok(blocks)
+}
+
+/// The inner blocks that a condition asks for: those that it tests itself, and those in its values.
+fn push_asked(
+    alloc: Global,
+    blocks: &mut Vec<usize>,
+    condition: &Condition,
+) -> Result<(), AllocError>
+    ensures { OnOk result (blocks.new.items ≡ blocks.old.items ++ blocks_of (condition_of condition.now)) }
+{
+    let mut values = Vec::new(alloc);
+    push_values(&mut values, condition)?;
+    push_tested(blocks, condition)?;
+    'values: for value in &values {
+        push_blocks(blocks, value)?;
+    }
+    Ok(())
 }
 
 fn push_items<'a>(values: &mut Vec<&'a ValueExpr>, items: &'a [Item]) -> Result<(), AllocError>

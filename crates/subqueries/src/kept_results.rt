@@ -11,7 +11,7 @@ ghost use Rattle.subqueries.specs.OuterColumns.{outer_columns_of};
 use crate::parameters::OuterColumn;
 use crate::telling::Told;
 use scans::OuterRows;
-use sqlvalue::{Num, OwnedValue, Raise, Value};
+use sqlvalue::{Num, OwnedValue, Raise, Tri, Value};
 use std::alloc::{AllocError, Global};
 
 /// An odd number of 64 bits, by which hashes are multiplied (own).
@@ -35,11 +35,14 @@ pub struct KeptResults {
 }
 
 impl KeptResults {
-    ghost use Rattle.std.specs.Prelude.{IfNone, IfSome, OnErr, OnOk, OnSome, max};
+    ghost use Rattle.std.specs.Prelude.{IfNone, IfSome, Ok, OnErr, OnOk, OnSome, is_ok, is_some, max};
     ghost use Rattle.std.specs.List.{AllByRecursion};
+    ghost use Rattle.definitions.specs.Statement.{Equals};
+    ghost use Rattle.definitions.specs.Truth.{compared_with_any};
     ghost use Rattle.definitions.specs.Queries.Evaluation.{column_values, on_one};
     ghost use Rattle.definitions.specs.Queries.Telling.{MayAnswer};
     ghost use Rattle.definitions_answers.specs.Told.{meaning_told};
+    ghost use Rattle.sqlvalue.specs.Truths.{truth_of};
     ghost use Rattle.expr.specs.Answers.{values_answer_of};
     ghost use Rattle.subqueries.specs.Keeping.{kept_of, latest_in, latest_key, latest_total, places_in, told_last, Replaces};
 
@@ -101,6 +104,19 @@ impl KeptResults {
         match &self.places[self.latest] {
             Some(kept) => kept.told.first_values(),
             None => Ok(&[]),
+        }
+    }
+
+    /// Whether a value equals one of the first values that were told last (ISO/IEC 9075:1992, 8.4); none where nothing was told, or an
+    /// exception.
+    pub fn is_among(&self, value: &Value) -> Option<Tri>
+        ensures truth { IfSome result (λ truth. MayAnswer (on_one (compared_with_any Equals (value_of value.now))
+            (on_one column_values (meaning_told (told_last self.now)))) (Ok (truth_of truth))) }
+        ensures given { IfSome (latest_in self.now) (λ kept. is_some result ≡ is_ok kept.told) }
+    {
+        match &self.places[self.latest] {
+            Some(kept) => kept.told.is_among(value),
+            None => None,
         }
     }
 }

@@ -3,7 +3,7 @@
 use crate::kept_results::KeptResults;
 use expr::Environment;
 use query_tree::BlockColumn;
-use sqlvalue::{OwnedValue, Raise, Value};
+use sqlvalue::{OwnedValue, Raise, Tri, Value};
 
 /// An environment, with what was told last of each inner block, by its number, in place of its rows (own).
 #[derive(Drop)]
@@ -34,6 +34,13 @@ impl<'a, S: Environment> Environment for Late<'a, S> {
         match self.results.get(block) {
             Some(results) => results.first_values(),
             None => Ok(&[]),
+        }
+    }
+
+    fn is_among(&self, block: usize, value: &Value) -> Option<Tri> {
+        match self.results.get(block) {
+            Some(results) => results.is_among(value),
+            None => None,
         }
     }
 }

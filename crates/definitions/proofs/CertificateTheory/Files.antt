@@ -1,6 +1,6 @@
 -- A text in front of a file is cut off as it is.
 use Rattle.std.proofs.Common.{◌≡◌, ◌∙◌, refl, sym, ap, ℕ, ◌<◌, List, [], ◌∷◌, ◌++◌, Bool, true, false, arith, append_assoc, append-nil, length, take, drop, ◌==◌}
-use Rattle.std.specs.Prelude.{codes, decimal, not, ◌&&◌, bytes_eq, flat_map}
+use Rattle.std.specs.Prelude.{codes, decimal, not, ◌&&◌, bytes_eq, flat_map, get_or}
 use Rattle.std.specs.List.{list_all}
 use Rattle.std.specs.Str.Parse.{AllDigits}
 use Rattle.std.proofs.lemmas.Bool.{leb-true, ne_eqb}
@@ -162,6 +162,20 @@ free_first : (version : Version) → Free (first_words version)
 free_first One = free_decimal 1 refl
 free_first Two = free_decimal 2 refl
 free_first Three = free_decimal 3 refl
+
+-- a text begins with its version's line
+first_line_of : (text rest : List ℕ) → Free text → get_or (lines_of (line text ++ rest)) 0 [] ≡ line text
+first_line_of text rest h = ap (λ l. get_or (lines_of l) 0 []) (append_assoc text (10 ∷ []) rest) ∙ ap (λ ls. get_or ls 0 []) (first_of_lines text rest h)
+
+pub first_off : (version : Version) (said : Written) (rest : List ℕ) → get_or (lines_of (text_of version said ++ rest)) 0 [] ≡ first_line version
+first_off version said rest =
+    let c = said.certificate in
+    let b : List ℕ = line (codes "BLOCK " ++ decimal said.block) in
+    let p : List ℕ = line (codes "PLAN " ++ plan_text said.plan) in
+    let t : List ℕ = line (codes "TARGET " ++ decimal c.target) in
+    let x : List ℕ = flat_map state_line c.states in
+    ap (λ l. get_or (lines_of l) 0 []) (parts_flat (first_line version) b p t x end_line rest)
+    ∙ first_line_of (first_words version) (b ++ (p ++ (t ++ (x ++ (end_line ++ rest))))) (free_first version)
 
 pub text_off : (version : Version) (said : Written) (rest : List ℕ) → has_form version said ≡ true → own_text (lines_of (text_of version said ++ rest)) ≡ text_of version said
 text_off version said rest h =

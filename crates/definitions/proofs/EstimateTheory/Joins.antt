@@ -20,7 +20,7 @@ use Rattle.definitions.specs.Estimates.BlockSpace.{space_of}
 use Rattle.definitions.specs.Examples.Estimates.Setups.{column_at, scan_of, state, certificate_of}
 use Rattle.definitions.specs.Examples.Estimates.Joins.{unindexed, join, by_y, key_indexed, sorted_and_merged, key_join, join_certificate, ordered_certificate, key_certificate, JoinIsCertified, OrderedIsCertified, KeyJoinIsCertified, unsorted_certificate, HigherBoundsAreRefused}
 use Rattle.definitions.specs.Examples.Estimates.Products.{small_and_great, product_pays, product_first, product_certificate, ProductIsCertified, late_space, LateProductsCostMore}
-use Rattle.definitions.specs.Estimates.Laws.{IsCertified}
+use Rattle.definitions.specs.Plans.Exact.{IsCertified}
 use Rattle.definitions.proofs.PlanTheory.Bounds.{bounded, least}
 use Rattle.definitions.proofs.PlanTheory.TableSets.{by_cases}
 use Rattle.definitions.proofs.PlanTheory.Orders.{fold_of}

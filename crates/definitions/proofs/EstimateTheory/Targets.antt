@@ -14,7 +14,8 @@ use Rattle.definitions.specs.Plans.Cost.{limit, cost_of}
 use Rattle.definitions.specs.Plans.Certificate.{StateCost}
 use Rattle.definitions.specs.Plans.Validity.{NoneFinal, KeepsBounds, IsValid}
 use Rattle.definitions.specs.Plans.Checking.{Target, Refused, IsVerdict}
-use Rattle.definitions.specs.Estimates.Laws.{bare, NoAccessBelow, IsCertified}
+use Rattle.definitions.specs.Plans.Exact.{IsCertified}
+use Rattle.definitions.specs.Estimates.Laws.{bare, NoAccessBelow}
 use Rattle.definitions.proofs.PlanTheory.Elements.{not_in_empty}
 use Rattle.definitions.proofs.PlanTheory.Bounds.{least}
 use Rattle.definitions.proofs.PlanTheory.Exactness.{exact}

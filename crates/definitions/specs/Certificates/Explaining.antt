@@ -2,9 +2,8 @@
 use Rattle.std.specs.Prelude.{ℕ, ◌+◌, ◌≡◌, List, [], ◌∷◌, ◌++◌, map, option_map, unwrap_or, slice_get}
 use Rattle.definitions.specs.Table.{Index, Table, Database}
 use Rattle.definitions.specs.Plans.Plan.{Plan}
-use Rattle.definitions.specs.Plans.Least.{IsLeast}
 use Rattle.definitions.specs.Plans.Certificate.{Certificate}
-use Rattle.definitions.specs.Plans.Exact.{IsExact}
+use Rattle.definitions.specs.Plans.Exact.{IsCertified}
 use Rattle.definitions.specs.Queries.BoundBlock.{Block, Blocks}
 use Rattle.definitions.specs.Estimates.Version.{Version}
 use Rattle.definitions.specs.Estimates.BlockSpace.{space_of}
@@ -28,10 +27,9 @@ abbrev pub certified_from : Database → ℕ → Blocks → List (Version → Ce
 certified_from db number [] = []
 certified_from db number (block ∷ blocks) = certified db number block ∷ certified_from db (number + 1) blocks
 
--- the bytes are the text of a least plan of the block, and of the one certificate that lists every cheaper state
+-- the bytes are the text of a least plan of the block, and of the one certificate that lists every cheaper state, which is valid for it
 abbrev pub IsExplained : CertifiedBlock → List ℕ → Type 0
-IsExplained block bytes = (plan : Plan) × (certificate : Certificate) × Spells block bytes plan certificate
-    × IsLeast block.space plan × IsExact block.space certificate
+IsExplained block bytes = (plan : Plan) × (certificate : Certificate) × Spells block bytes plan certificate × IsCertified block.space plan certificate
 
 abbrev pub AreExplained : (current : Version) → List (Version → CertifiedBlock) → List ℕ → Type 0
 AreExplained current [] text = text ≡ []

@@ -1,10 +1,13 @@
 -- What holds of certificates' texts and of checking runs, each proved as the contract of a function that has no code.
 use Rattle.std.specs.Prelude.{ℕ, ◌<◌, length, take, ◌≡◌, ◌⊎◌, List, [], ◌∷◌, ◌++◌, flat_map}
+use Rattle.definitions.specs.Table.{Database}
+use Rattle.definitions.specs.Queries.BoundBlock.{Blocks}
 use Rattle.definitions.specs.Plans.Plan.{Plan}
 use Rattle.definitions.specs.Plans.Certificate.{Certificate, IsCertificate}
 use Rattle.definitions.specs.Plans.Least.{IsLeast}
 use Rattle.definitions.specs.Estimates.Version.{Version}
 use Rattle.definitions.specs.Certificates.CertifiedBlock.{CertifiedBlock}
+use Rattle.definitions.specs.Certificates.Explaining.{certified_from, AreExplained}
 use Rattle.definitions.specs.Certificates.Text.{Written}
 use Rattle.definitions.specs.Certificates.Spelling.{Spells}
 use Rattle.definitions.specs.Certificates.Fault.{Fault, BadForm, Says, HasFault}
@@ -65,6 +68,12 @@ WellIsLeast = (current : Version) (blocks : List (Version → CertifiedBlock)) (
 abbrev pub FileToldOnce : Type 0
 FileToldOnce = (current : Version) (blocks : List (Version → CertifiedBlock)) (lines : List (List ℕ)) (a b : List ℕ) (e f : CheckEnded)
     → AreTold current blocks lines a e → AreTold current blocks lines b f → (a ≡ b) × (e ≡ f)
+
+-- and so does a checking run of what EXPLAIN prints, whatever the blocks
+abbrev pub ExplainedPasses : Type 0
+ExplainedPasses = (current : Version) (db : Database) (number : ℕ) (blocks : Blocks) (text printed : List ℕ) (ended : CheckEnded)
+    → AreExplained current (certified_from db number blocks) text → AreTold current (certified_from db number blocks) (lines_of text) printed ended
+    → ended ≡ Well
 
 -- a file's lines are the file, and cutting a block's text off loses none
 abbrev pub LinesAreFile : Type 0

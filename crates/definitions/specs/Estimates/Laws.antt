@@ -9,10 +9,8 @@ use Rattle.definitions.specs.Plans.Plan.{Plan}
 use Rattle.definitions.specs.Plans.Space.{Space}
 use Rattle.definitions.specs.Plans.PlanSpace.{InSpace, GivesRequired}
 use Rattle.definitions.specs.Plans.Cost.{limit, cost_of}
-use Rattle.definitions.specs.Plans.Least.{IsLeast}
 use Rattle.definitions.specs.Plans.Certificate.{Certificate}
-use Rattle.definitions.specs.Plans.Validity.{IsValid}
-use Rattle.definitions.specs.Plans.Exact.{IsExact}
+use Rattle.definitions.specs.Plans.Exact.{IsCertified}
 use Rattle.definitions.specs.Plans.Search.{IsComplete}
 use Rattle.definitions.specs.Plans.Numbering.{HasNumber}
 use Rattle.definitions.specs.Queries.BoundBlock.{Condition, Block, Blocks}
@@ -59,10 +57,6 @@ EstimatesStayBelow = (db : Database) (block : Block) → ((c : Condition) → se
     × ((tables : TableSet) (table : ℕ) → path_rows db block tables table ≤ rows_at db block table)
 
 -- ---- certificates
-
--- a certificate is valid for a plan and exact, so that the plan is least
-abbrev pub IsCertified : Space → Plan → Certificate → Type 0
-IsCertified space plan certificate = IsValid space plan certificate × IsExact space certificate × IsLeast space plan
 
 -- a certificate that lists no state
 abbrev pub bare : ℕ → Certificate

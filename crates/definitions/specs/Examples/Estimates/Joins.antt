@@ -15,7 +15,7 @@ use Rattle.definitions.specs.Estimates.Version.{Version, One}
 use Rattle.definitions.specs.Estimates.Orders.{orders_of}
 use Rattle.definitions.specs.Estimates.Paths.{paths_of}
 use Rattle.definitions.specs.Estimates.BlockSpace.{space_of}
-use Rattle.definitions.specs.Estimates.Laws.{IsCertified}
+use Rattle.definitions.specs.Plans.Exact.{IsCertified}
 use Rattle.definitions.specs.Examples.Estimates.Setups as s
 use Rattle.definitions.specs.Examples.Estimates.Setups.{two_tables, state, certificate_of, scan_of, path_costs}
 

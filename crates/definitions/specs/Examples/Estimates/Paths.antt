@@ -15,7 +15,8 @@ use Rattle.definitions.specs.Estimates.Cardinality.{path_rows}
 use Rattle.definitions.specs.Estimates.Version.{Version, One}
 use Rattle.definitions.specs.Estimates.Paths.{paths_of}
 use Rattle.definitions.specs.Estimates.BlockSpace.{space_of}
-use Rattle.definitions.specs.Estimates.Laws.{bare, IsCertified}
+use Rattle.definitions.specs.Plans.Exact.{IsCertified}
+use Rattle.definitions.specs.Estimates.Laws.{bare}
 use Rattle.definitions.specs.Examples.Estimates.Setups as s
 use Rattle.definitions.specs.Examples.Estimates.Setups.{one_index, select_b, path_costs, scan_of, match_of}
 

@@ -13,7 +13,8 @@ use Rattle.definitions.specs.Queries.BoundBlock as bound
 use Rattle.definitions.specs.Queries.BoundBlock.{Block}
 use Rattle.definitions.specs.Estimates.Version.{One, Two, Three}
 use Rattle.definitions.specs.Estimates.BlockSpace.{space_of}
-use Rattle.definitions.specs.Estimates.Laws.{bare, IsCertified}
+use Rattle.definitions.specs.Plans.Exact.{IsCertified}
+use Rattle.definitions.specs.Estimates.Laws.{bare}
 use Rattle.definitions.specs.Examples.Estimates.Setups as s
 use Rattle.definitions.specs.Examples.Estimates.Setups.{state, certificate_of, scan_of}
 

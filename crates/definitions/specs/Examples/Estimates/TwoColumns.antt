@@ -12,7 +12,7 @@ use Rattle.definitions.specs.Queries.BoundBlock.{Condition, Key, Block}
 use Rattle.definitions.specs.Estimates.Version.{One, Two}
 use Rattle.definitions.specs.Estimates.Paths.{paths_of}
 use Rattle.definitions.specs.Estimates.BlockSpace.{space_of}
-use Rattle.definitions.specs.Estimates.Laws.{IsCertified}
+use Rattle.definitions.specs.Plans.Exact.{IsCertified}
 use Rattle.definitions.specs.Examples.Estimates.Setups as s
 use Rattle.definitions.specs.Examples.Estimates.Setups.{state, certificate_of, path_costs, scan_of, match_of}
 use Rattle.definitions.specs.Examples.Estimates.Paths.{a, b, a_is_seven, IsTarget}

@@ -1,25 +1,38 @@
-use Rattle.std.proofs.Common.{sym, subst}
-use Rattle.std.proofs.lemmas.Result.{IfOk-weaker}
-use Rattle.definitions.specs.Estimates.BlockSpace.{space_of}
-use Rattle.definitions.specs.Estimates.Version.{current_version}
-use Rattle.definitions.specs.Plans.Least.{IsLeast}
+use Rattle.std.proofs.Common.{map}
+use Rattle.std.proofs.lemmas.Result.{IfErr-weaker, IfOk-weaker}
+use Rattle.grouping.proofs.Faults.{raised_weaker}
 use Rattle.query_tree.specs.Bound.{block_of}
-use Rattle.plan_tree.specs.Plans.{plan_of}
-use Rattle.executor.proofs.Totals.{is_total}
+use Rattle.executor.specs.ReadyBlocks.{plans_in}
+use Rattle.executor.proofs.WholeQuery.{all_ready, database_is, is_total, outermost, plans_certified, stands}
 use Rattle.executor.proofs.answer.answer_text.Goals as goal
 
+pub run_select-requires-clause-query : goal.run_select-requires-clause-query
+run_select-requires-clause-query c =
+    rw c.deref.ensures.value (all_ready c.args.database.now (map block_of c.args.blocks.now) c.in_ok-query.query.items c.in_ok-query.ensures.ready c.in_ok-query.ensures.blocks c.requires.formed)
+
+pub run_select-requires-clause-outermost : goal.run_select-requires-clause-outermost
+run_select-requires-clause-outermost c =
+    rw c.deref.ensures.value (outermost c.args.database.now (map block_of c.args.blocks.now) c.in_ok-query.query.items c.in_ok-query.ensures.ready c.in_ok-query.ensures.blocks c.requires.formed)
+
+pub run_select-requires-clause-stands : goal.run_select-requires-clause-stands
+run_select-requires-clause-stands c =
+    rw c.deref.ensures.value (stands c.args.database.now (map block_of c.args.blocks.now) c.in_ok-query.query.items c.in_ok-query.ensures.ready c.in_ok-query.ensures.blocks c.requires.formed)
+
 pub returns-clause-rows : goal.returns-clause-rows
-returns-clause-rows c = rw (c.in_ok-source.ensures.database, c.in_ok-source.ensures.block) at c.answer_by_plan.ensures.rows
+returns-clause-rows c =
+    let same = database_is c.args.database.now (map block_of c.args.blocks.now) c.in_ok-query.query.items c.in_ok-query.ensures.ready c.in_ok-query.ensures.blocks c.requires.formed in
+    rw (c.deref.ensures.value, same, c.in_ok-query.ensures.blocks) at c.run_select.ensures.rows
 
 pub returns-clause-work : goal.returns-clause-work
 returns-clause-work c =
-    let source = c.in_ok-source.source in
-    let plan = plan_of c.in_ok-space.plan in
-    let here : IsLeast (space_of current_version c.args.database.now (block_of source.block)) plan =
-    subst (λ b. IsLeast (space_of current_version c.args.database.now (block_of b)) plan) (sym c.in_ok-source.ensures.block) c.in_ok-space.ensures.least in
-    let least : IsLeast (space_of current_version source.database (block_of source.block)) plan =
-    subst (λ d. IsLeast (space_of current_version d (block_of source.block)) plan) (sym c.in_ok-source.ensures.database) here in
-    rw (c.in_ok-source.ensures.database, c.in_ok-source.ensures.block) at (IfOk-weaker c.answer_by_plan.result _ _ (λ r is. is_total source plan r.1 least is) c.answer_by_plan.ensures.work)
+    IfOk-weaker c.run_select.result _ _ (λ r is. is_total c.args.database.now (map block_of c.args.blocks.now) c.in_ok-query.query.items c.in_ok-query.ensures.ready c.in_ok-query.ensures.blocks c.requires.formed c.in_ok-query.ensures.least r.1 is) (rw c.deref.ensures.value at c.run_select.ensures.total)
 
 pub returns-clause-raised : goal.returns-clause-raised
-returns-clause-raised c = rw (c.in_ok-source.ensures.database, c.in_ok-source.ensures.block) at c.answer_by_plan.ensures.raised
+returns-clause-raised c =
+    let same = database_is c.args.database.now (map block_of c.args.blocks.now) c.in_ok-query.query.items c.in_ok-query.ensures.ready c.in_ok-query.ensures.blocks c.requires.formed in
+    rw (c.deref.ensures.value, same, c.in_ok-query.ensures.blocks) at c.run_select.ensures.raised
+
+pub returns-clause-certified : goal.returns-clause-certified
+returns-clause-certified c =
+    let plans = plans_certified c.args.database.now (map block_of c.args.blocks.now) c.in_ok-query.query.items c.in_ok-query.ensures.ready c.in_ok-query.ensures.blocks c.requires.formed c.in_ok-query.ensures.least in
+    IfErr-weaker c.run_select.result _ _ (λ fault h. raised_weaker fault _ _ (λ raise k. (plans_in c.in_ok-query.query.items, plans)) h) c.run_select.ensures.raised

@@ -11,5 +11,5 @@ pub returns : goal.returns
 returns c =
     let own = certified c.args.database.now c.args.number (block_of c.args.block.now) current_version in
     text_explained c.args.database.now c.args.number (block_of c.args.block.now) (space_in c.in_ok-own.own.space) (plan_of c.in_ok-plan.plan) (certificate_of c.in_ok-plan.certificate) c.write_text.result
-    c.requires.valid c.requires.few c.requires.formed c.in_ok-own.ensures.space c.in_ok-plan.ensures.least c.in_ok-plan.ensures.exact c.in_ok-plan.ensures.short
+    c.requires.valid c.requires.few c.requires.formed c.in_ok-own.ensures.space (c.in_ok-plan.ensures.valid, c.in_ok-plan.ensures.exact, c.in_ok-plan.ensures.least) c.in_ok-plan.ensures.short
     (c.write_text.ensures own (c.certified_block.ensures own c.in_ok-own.ensures))

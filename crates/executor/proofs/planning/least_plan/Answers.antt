@@ -1,6 +1,8 @@
 use Rattle.std.proofs.Common.{◌∙◌, subst}
 use Rattle.definitions.specs.Estimates.Version.{current_version}
-use Rattle.definitions.specs.Plans.Least.{IsLeast}
+use Rattle.definitions.specs.Plans.Certificate.{Certificate}
+use Rattle.definitions.specs.Plans.Exact.{IsCertified}
+use Rattle.plan_tree.specs.Certificates.{certificate_of}
 use Rattle.plan_tree.specs.Plans.{plan_of}
 use Rattle.executor.proofs.Planned.{has_plans, same_space}
 use Rattle.executor.proofs.planning.least_plan.Goals as goal
@@ -15,6 +17,6 @@ returns-clause-space c =
 
 pub returns-clause-least : goal.returns-clause-least
 returns-clause-least c =
-    subst (λ s. IsLeast s (plan_of c.in_ok-plan.plan))
+    subst (λ s. (certificate : Certificate) × IsCertified s (plan_of c.in_ok-plan.plan) certificate)
     (same_space c.in_ok-space.space current_version c.args.database.now c.args.block.now c.in_ok-space.ensures.version (c.in_ok-space.ensures.database ∙ c.in_ok-estimate.ensures.database)
-    (c.in_ok-space.ensures.block ∙ c.in_ok-estimate.ensures.block)) c.in_ok-plan.ensures.least
+    (c.in_ok-space.ensures.block ∙ c.in_ok-estimate.ensures.block)) (certificate_of c.in_ok-plan._certificate, (c.in_ok-plan.ensures.valid, c.in_ok-plan.ensures.exact, c.in_ok-plan.ensures.least))

@@ -72,7 +72,7 @@ returns-in-InQuery g t c =
     let tree = ap condition_of b.is ∙ of_in_query b.negated b.operand b.block in
     let m = value env (tree_of b.operand) in
     let n = on_one column_values (env.inner b.block) in
-    rw tree (c.unless-in-InQuery.ensures (on_two (compared_with_any Equals) m n) (c.quantified_comparison-in-InQuery.ensures m n c.value-in-InQuery.ensures c.first_values-in-InQuery.ensures))
+    rw tree (c.unless-in-InQuery.ensures (on_two (compared_with_any Equals) m n) (c.is_in_query.ensures m c.value-in-InQuery.ensures))
 
 -- ---- AND
 

@@ -12,6 +12,7 @@ use Rattle.plan_space.specs.Item.{AreItems}
 use Rattle.plan_space.specs.MergeListed.{merge_told, IsWay}
 use Rattle.plan_space.specs.declared.listed.MergeJoinPath.{MergeJoinPath}
 use Rattle.plan_space.specs.declared.listed.MergeClause.{MergeClause}
+use Rattle.plan_space.proofs.PathsOnce.{paths_once}
 use Rattle.plan_space.proofs.Walking.{AreFirst, one_first, none_added, all_first, added_by}
 use Rattle.plan_space.proofs.merge_lists.table_merges.Goals as goal
 use Rattle.plan_space.proofs.merge_lists.table_merges.Goals.{in-Some+in_ok-add_merges, in_default}
@@ -34,7 +35,7 @@ conjuncts-preserved c = λ version paths uses sort.
       | in-Some+in_ok-add_merges w ↦
           let is : IsWay space a.table number (Some w.in-Some.way) = w.in-Some.ensures.exact space refl uses sort in
           let items : AreItems space no_tables a.table w.paths.result = subst (λ (s : TableSet). AreItems space s a.table w.paths.result) w.none.ensures (w.paths.ensures version paths) in
-          let adds = added_by space a.table number w.in-Some.way w.paths.result old (map merge_told w.add_merges.new.merges.items) is items (λ own of_own. w.in_ok-add_merges.ensures space uses own of_own) in
+          let adds = added_by space a.table number w.in-Some.way w.paths.result old (map merge_told w.add_merges.new.merges.items) is items (paths_once version a.estimate.now.database (block_of a.estimate.now.block) no_tables a.table) (λ own of_own once. w.in_ok-add_merges.ensures space uses own of_own once) in
           subst (λ (v : Vec MergeJoinPath). AreFirst space a.table (number + 1) (map merge_told v.items)) (sym w.merges-is) (one_first space a.table number old (map merge_told w.add_merges.new.merges.items) before adds)
       | in_default w ↦
           let none : IsWay space a.table number None = subst (λ (way : Option MergeClause). IsWay space a.table number way) w.in_default.is (c.merge_way.ensures.exact space refl uses sort) in

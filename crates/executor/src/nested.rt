@@ -1,0 +1,214 @@
+//! Blocks within blocks, evaluated by their numbers over the rows of the blocks around them.
+
+ghost use Rattle.std.specs.Prelude.{◌≡◌, ◌<◌, ◌+◌, ◌∷◌, [], Contains, IfErr, IfOk, OnOk, length, sum_by};
+ghost use Rattle.std.specs.List.{AllByRecursion};
+ghost use Rattle.definitions.specs.Plans.Cost.{saturated};
+ghost use Rattle.definitions.specs.Queries.Answer.{meanings};
+ghost use Rattle.definitions_answers.specs.Standing.{Stands, StandsInside};
+ghost use Rattle.definitions_answers.specs.Steps.{context_among};
+ghost use Rattle.definitions_answers.specs.Taking.{Says};
+ghost use Rattle.definitions_answers.specs.Told.{TellsRows};
+ghost use Rattle.definitions.specs.Queries.Combinations.{at};
+ghost use Rattle.definitions_answers.specs.Told.{told_environment};
+ghost use Rattle.scans.specs.Asks.{CanEvaluate};
+ghost use Rattle.scans.specs.Sources.{block_in, context_in};
+ghost use Rattle.sqlvalue.specs.Raises.{raise_of};
+ghost use Rattle.subqueries.specs.Keeping.{told_by};
+ghost use Rattle.executor.specs.OneComposite.{are_true_in, raised_in};
+ghost use Rattle.executor.specs.Views.{conditions_of};
+ghost use Rattle.subqueries.specs.Found.{said_in};
+ghost use Rattle.subqueries.specs.Framed.{combination_in, combinations_in};
+ghost use Rattle.subqueries.specs.Telling.{told_in};
+ghost use Rattle.definitions_execution.specs.Total.{subqueries};
+ghost use Rattle.executor.specs.ReadyBlocks.{blocks_in, database_in, subqueries_at, total_at, AreLeft, AreReady, AreRight, IsToldLast, OfBlock};
+
+use crate::group_rows::row_at;
+use crate::kept_rows::KeptRows;
+use crate::late::try_all;
+use crate::ready_block::ReadyBlock;
+use crate::running::run_plan;
+use plan_tree::saturate;
+use query_tree::Condition;
+use scans::{BlockSource, Composite, OuterRows, TupleSource};
+use sqlvalue::Raise;
+use std::alloc::{AllocError, Global};
+use subqueries::{Frames, KeptResults, Late, Told};
+
+/// Has a block told what it may tell in the rows of the blocks around it, which is then what it told last, and gives its
+/// total there. A result that is kept for the values of its parameters is told again (Selinger et al. 1979, section 6).
+#[cycle(nested)]
+pub(crate) fn ask_block<'s>(
+    alloc: Global,
+    query: &'s [ReadyBlock<'_>],
+    number: usize,
+    frames: &mut Frames<'s>,
+    results: &mut [KeptResults],
+) -> Result<u64, AllocError>
+    requires query { AreReady query.now }
+    requires number { number < length query.now }
+    requires stands { Stands (database_in query.now) (blocks_in query.now) number (combinations_in frames.old) }
+    requires right { AreRight query.now results.old }
+    ensures told { OnOk result (IsToldLast query.now (combinations_in frames.old) results.new number) }
+    ensures total { IfOk result (λ total. total ≡ total_at query.now (combinations_in frames.old) number) }
+    ensures right { OnOk result (AreRight query.now results.new) }
+    ensures left { OnOk result (AreLeft query.now number results.old results.new) }
+    ensures frames { OnOk result (combinations_in frames.new ≡ combinations_in frames.old) }
+{
+    let parameters = &query[number].parameters;
+    if let Some(total) = results[number].find(parameters, &*frames) {
+        return Ok(total);
+    }
+    let (told, total) = evaluate_block(alloc, query, number, frames, results)?;
+    results[number].keep(alloc, parameters, &*frames, told, total)?;
+    Ok(total)
+}
+
+/// What is told of a block in the rows of the blocks around it, and its total there: the rows that a plan of it opens, and
+/// those of its subqueries at each composite, since all of them are evaluated there (own; Selinger et al. 1979, sections 5
+/// and 6). What is told is told when all was counted. Late conjuncts are all evaluated on each composite, and what they
+/// raise is told before what groups and result columns raise (own).
+#[cycle(nested)]
+fn evaluate_block<'s>(
+    alloc: Global,
+    query: &'s [ReadyBlock<'_>],
+    number: usize,
+    frames: &mut Frames<'s>,
+    results: &mut [KeptResults],
+) -> Result<(Told, u64), AllocError>
+    requires query { AreReady query.now }
+    requires number { number < length query.now }
+    requires stands { Stands (database_in query.now) (blocks_in query.now) number (combinations_in frames.old) }
+    requires right { AreRight query.now results.old }
+    ensures told { IfOk result (λ r. TellsRows (meanings (database_in query.now) 0 (blocks_in query.now) number
+        (combinations_in frames.old)) (told_in r.0)) }
+    ensures total { IfOk result (λ r. r.1 ≡ total_at query.now (combinations_in frames.old) number) }
+    ensures right { OnOk result (AreRight query.now results.new) }
+    ensures left { OnOk result (AreLeft query.now (number + 1) results.old results.new) }
+    ensures frames { OnOk result (combinations_in frames.new ≡ combinations_in frames.old) }
+{
+    let ready = &query[number];
+    let mut line = run_plan(
+        alloc,
+        &ready.source,
+        ready.space.orders(),
+        &ready.plan,
+        &*frames,
+    )?;
+    let mut rows = KeptRows::new(alloc, ready.block)?;
+    let mut inner = 0;
+    'composites: while let Some(composite) = line.next(&*frames) {
+        let (late, work) = try_late(alloc, query, number, &composite, frames, results)?;
+        inner = sum_of(inner, work);
+        rows.take(
+            alloc,
+            &ready.source,
+            ready.block,
+            late,
+            &composite,
+            &*frames,
+        )?;
+    }
+    let told = rows.end(alloc, &ready.source, ready.block, &*frames)?;
+    Ok((told, sum_of(line.opened_rows(), inner)))
+}
+
+/// What the late conjuncts of a block say of a composite, and the sum of the totals of their subqueries there.
+#[cycle(nested)]
+pub(crate) fn try_late<'s>(
+    alloc: Global,
+    query: &'s [ReadyBlock<'_>],
+    number: usize,
+    composite: &Composite,
+    frames: &mut Frames<'s>,
+    results: &mut [KeptResults],
+) -> Result<(Result<bool, Raise>, u64), AllocError>
+    requires query { AreReady query.now }
+    requires number { number < length query.now }
+    requires stands { Stands (database_in query.now) (blocks_in query.now) number (combinations_in frames.old) }
+    requires right { AreRight query.now results.old }
+    ensures says { IfOk result (λ said. OfBlock query.now number (λ r. Says
+        (context_among (database_in query.now) (blocks_in query.now) (combinations_in frames.old)) (block_in r.source)
+        (combination_in r.source composite.now) (said_in said.0))) }
+    ensures total { IfOk result (λ said. OfBlock query.now number (λ r. said.1 ≡ saturated (sum_by (total_at query.now
+        (combination_in r.source composite.now ∷ combinations_in frames.old)) (subqueries (block_in r.source))))) }
+    ensures right { OnOk result (AreRight query.now results.new) }
+    ensures left { OnOk result (AreLeft query.now (number + 1) results.old results.new) }
+    ensures frames { OnOk result (combinations_in frames.new ≡ combinations_in frames.old) }
+{
+    let ready = &query[number];
+    if ready.late.is_empty() {
+        return Ok((Ok(true), 0));
+    }
+    // A look at the first table tells what holds of the database.
+    let _table = ready.source.table(0);
+    frames.enter(&ready.source, *composite)?;
+    let work = ask_subqueries(alloc, query, number, frames, results)?;
+    frames.leave();
+    let late = try_told(&ready.late, &ready.source, composite, &*frames, &*results);
+    Ok((late, work))
+}
+
+/// Asks each block that a block's late conjuncts ask for, at the combination of it that was entered last, and gives the
+/// sum of their totals.
+#[cycle(nested)]
+fn ask_subqueries<'s>(
+    alloc: Global,
+    query: &'s [ReadyBlock<'_>],
+    number: usize,
+    frames: &mut Frames<'s>,
+    results: &mut [KeptResults],
+) -> Result<u64, AllocError>
+    requires query { AreReady query.now }
+    requires number { number < length query.now }
+    requires inside { AllByRecursion (StandsInside (database_in query.now) (blocks_in query.now) number
+        (combinations_in frames.old)) (subqueries_at query.now number) }
+    requires right { AreRight query.now results.old }
+    ensures told { OnOk result (AllByRecursion (IsToldLast query.now (combinations_in frames.old) results.new)
+        (subqueries_at query.now number)) }
+    ensures total { IfOk result (λ work. work ≡ saturated (sum_by (total_at query.now (combinations_in frames.old))
+        (subqueries_at query.now number))) }
+    ensures right { OnOk result (AreRight query.now results.new) }
+    ensures left { OnOk result (AreLeft query.now (number + 1) results.old results.new) }
+    ensures frames { OnOk result (combinations_in frames.new ≡ combinations_in frames.old) }
+{
+    let mut work = 0;
+    'blocks: for block in &query[number].subqueries {
+        let own = ask_block(alloc, query, *block, frames, results)?;
+        work = sum_of(work, own);
+    }
+    Ok(work)
+}
+
+/// Tries late conjuncts on a composite, by what was told last of their subqueries.
+fn try_told<A: OuterRows>(
+    late: &[&Condition],
+    source: &BlockSource<'_>,
+    composite: &Composite,
+    around: &A,
+    results: &[KeptResults],
+) -> Result<bool, Raise>
+    requires { AllByRecursion (CanEvaluate (told_environment (at (context_in source.now (A.combinations around.now))
+        (combination_in source.now composite.now)) (told_by results.now))) (conditions_of late.now) }
+    ensures truth { IfOk result (λ all. all ≡ are_true_in (told_environment (at (context_in source.now
+        (A.combinations around.now)) (combination_in source.now composite.now)) (told_by results.now))
+        (conditions_of late.now)) }
+    ensures quiet { OnOk result (raised_in (told_environment (at (context_in source.now (A.combinations around.now))
+        (combination_in source.now composite.now)) (told_by results.now)) (conditions_of late.now) ≡ []) }
+    ensures raised { IfErr result (λ raise. Contains (raised_in (told_environment (at (context_in source.now
+        (A.combinations around.now)) (combination_in source.now composite.now)) (told_by results.now))
+        (conditions_of late.now)) (raise_of raise)) }
+{
+    let row = row_at(source, composite, around);
+    let env = Late {
+        base: &row,
+        results,
+    };
+    try_all(late, &env)
+}
+
+/// A sum of totals, which stops at the limit.
+pub(crate) fn sum_of(total: u64, more: u64) -> u64
+    ensures { result ≡ saturated (total + more) }
+{
+    saturate(u128::from(total) + u128::from(more))
+}

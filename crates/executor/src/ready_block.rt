@@ -1,0 +1,105 @@
+//! Blocks of a statement that are ready to be evaluated.
+
+ghost use Rattle.std.specs.Prelude.{◌≡◌, ℕ, IfOk, Some, map, slice_get};
+ghost use Rattle.std.specs.List.{AllByRecursion};
+ghost use Rattle.definitions.specs.Binding.Answerable.{IsAnswerable};
+ghost use Rattle.definitions.specs.Binding.Formed.{IsFormedSomewhere};
+ghost use Rattle.definitions.specs.Estimates.BlockSpace.{space_of};
+ghost use Rattle.definitions.specs.Estimates.Version.{current_version};
+ghost use Rattle.definitions.specs.Plans.PlanSpace.{GivesRequired, InSpace};
+ghost use Rattle.definitions.specs.Queries.BoundBlock.{Blocks};
+ghost use Rattle.definitions_answers.specs.Parameters.{parameters as parameters_of};
+ghost use Rattle.query_tree.specs.Bound.{block_of};
+ghost use Rattle.plan_space.specs.Planned.{space_in};
+ghost use Rattle.plan_tree.specs.Plans.{plan_of};
+ghost use Rattle.scans.specs.Sources.{block_in};
+ghost use Rattle.subqueries.specs.OuterColumns.{outer_columns_of};
+ghost use Rattle.executor.specs.declared.ready_block.ReadyBlock.{ReadyBlock as Ready};
+ghost use Rattle.executor.specs.ReadyBlocks.{blocks_in, HasLeast, IsReadyIn};
+
+use crate::late::late_conditions;
+use crate::planning::least_plan;
+use catalog::Database;
+use plan_space::Space;
+use plan_tree::Plan;
+use query_tree::{Block, Condition};
+use scans::BlockSource;
+use std::alloc::{AllocError, Global};
+use subqueries::{OuterColumn, block_parameters, blocks_asked};
+
+/// A block with a plan of its space, its late conjuncts, the blocks that these ask for, in rising order, and its parameters:
+/// all that is made of it once, however often it is evaluated (own).
+#[derive(Drop)]
+pub struct ReadyBlock<'s> {
+    pub source: BlockSource<'s>,
+    pub block: &'s Block,
+    pub space: Space<'s>,
+    pub plan: Plan,
+    pub late: Vec<&'s Condition>,
+    pub subqueries: Vec<usize>,
+    pub parameters: Vec<OuterColumn>,
+}
+
+impl<'s> ReadyBlock<'s> {
+    /// A block with a plan of its space that gives the order that the block asks for, whatever it costs. Its parameters
+    /// are those that `block_parameters` tells of it (Selinger et al. 1979, sections 4 to 6).
+    pub fn new(
+        alloc: Global,
+        database: &'s Database,
+        block: &'s Block,
+        space: Space<'s>,
+        plan: Plan,
+        parameters: &[OuterColumn],
+    ) -> Result<ReadyBlock<'s>, AllocError>
+        requires formed { IsFormedSomewhere database.now (block_of block.now) }
+        requires answerable { IsAnswerable (block_of block.now) }
+        requires space { space_in space ≡ space_of current_version database.now (block_of block.now) }
+        requires within { InSpace (space_of current_version database.now (block_of block.now)) (plan_of plan) }
+        requires required { GivesRequired (space_of current_version database.now (block_of block.now)) (plan_of plan) }
+        ensures ready { IfOk result (λ r. (blocks : Blocks) (number : ℕ) →
+            outer_columns_of parameters.now ≡ parameters_of blocks number → IsReadyIn database.now blocks number r) }
+        ensures block { IfOk result (λ r. block_in r.source ≡ block_of block.now) }
+        ensures plan { IfOk result (λ r. plan_of r.plan ≡ plan_of plan) }
+    {
+        // A look at its tables tells what holds of a database.
+        let _tables = database.tables();
+        let source = BlockSource::new(alloc, database, block)?;
+        let late = late_conditions(alloc, block)?;
+        let subqueries = blocks_asked(alloc, &late)?;
+        let mut own = Vec::new(alloc);
+        own.extend_from_slice(parameters)?;
+        Ok(ReadyBlock {
+            source,
+            block,
+            space,
+            plan,
+            late,
+            subqueries,
+            parameters: own,
+        })
+    }
+}
+
+/// The blocks of a statement, each with a least plan (Selinger et al. 1979, sections 4 to 6).
+pub fn ready_blocks<'s>(
+    alloc: Global,
+    database: &'s Database,
+    blocks: &'s [Block],
+) -> Result<Vec<ReadyBlock<'s>>, AllocError>
+    requires formed { AllByRecursion (IsFormedSomewhere database.now) (map block_of blocks.now) }
+    requires answerable { AllByRecursion IsAnswerable (map block_of blocks.now) }
+    ensures ready { IfOk result (λ query. (number : ℕ) (r : Ready) → slice_get query.items number ≡ Some r →
+        IsReadyIn database.now (map block_of blocks.now) number r) }
+    ensures blocks { IfOk result (λ query. blocks_in query.items ≡ map block_of blocks.now) }
+    ensures least { IfOk result (λ query. AllByRecursion (HasLeast database.now) query.items) }
+{
+    let parameters = block_parameters(alloc, blocks)?;
+    let mut query = Vec::new(alloc);
+    'numbers: for number in 0..blocks.len() {
+        let block = &blocks[number];
+        let (space, plan) = least_plan(alloc, database, block)?;
+        let ready = ReadyBlock::new(alloc, database, block, space, plan, &parameters[number])?;
+        query.push(ready)?;
+    }
+    Ok(query)
+}
