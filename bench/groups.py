@@ -127,32 +127,34 @@ def line_of(workload, told):
     return " ".join(words + ["MISSED" if missed else "holds"] + [] if same else words + ["OTHER ROWS"]), same
 
 
-def run(program, words, folder, cluster):
+def run(workloads, words, ask):
+    """Asks all whose names begin with one of the words, or all, and tells a line of each; gives whether all printed the same rows."""
     same = True
     print("workload  rows  sqlr/ms  sqlite3/ms  PostgreSQL/ms  ratios to them  target")
-    for workload in WORKLOADS:
+    for workload in workloads:
         if not words or workload.name.startswith(tuple(words)):
-            line, is_same = line_of(workload, asked_of_all(program, folder, cluster, workload))
+            line, is_same = line_of(workload, ask(workload))
             print(line, flush=True)
             same = same and is_same
     return same
 
 
-def main():
+def main(workloads, write, asked, server):
+    """Writes the records, fills the server if there is one, and ends with status 0 where all printed the same rows."""
     program = pathlib.Path(sys.argv[1]).resolve() if len(sys.argv) > 1 else BUILT
     folder = pathlib.Path(tempfile.mkdtemp())
     try:
-        write_records(folder)
+        write(folder)
         if not SERVER:
-            sys.exit(not run(program, sys.argv[2:], folder, None))
+            sys.exit(not run(workloads, sys.argv[2:], lambda it: asked(program, folder, None, it)))
         if os.geteuid() == 0:
             shutil.chown(folder, "postgres")
-        with Postgres(folder) as cluster:
+        with server(folder) as cluster:
             cluster.fill()
-            sys.exit(not run(program, sys.argv[2:], folder, cluster))
+            sys.exit(not run(workloads, sys.argv[2:], lambda it: asked(program, folder, cluster, it)))
     finally:
         shutil.rmtree(folder, ignore_errors=True)
 
 
 if __name__ == "__main__":
-    main()
+    main(WORKLOADS, write_records, asked_of_all, Postgres)

@@ -8,15 +8,10 @@ shares of them that SUBQUERIES_SCALE says; ITEM has a tenth of BIG's rows, each 
 which is null in some.
 """
 import os
-import pathlib
 import random
-import shutil
-import sys
-import tempfile
 
-from groups import Postgres, Workload, line_of, rows_of, timed
-from joins import SERVER, SQLITE
-from load import PROGRAM as BUILT
+from groups import Postgres, Workload, main, rows_of, timed
+from joins import SQLITE
 
 ROWS = max(100, int(1_000_000 * float(os.environ.get("SUBQUERIES_SCALE", "1"))))
 TABLES = {
@@ -75,32 +70,5 @@ def asked_of_all(program, folder, cluster, workload):
     return told
 
 
-def run(program, words, folder, cluster):
-    same = True
-    print("workload  rows  sqlr/ms  sqlite3/ms  PostgreSQL/ms  ratios to them  target")
-    for workload in WORKLOADS:
-        if not words or workload.name.startswith(tuple(words)):
-            line, is_same = line_of(workload, asked_of_all(program, folder, cluster, workload))
-            print(line, flush=True)
-            same = same and is_same
-    return same
-
-
-def main():
-    program = pathlib.Path(sys.argv[1]).resolve() if len(sys.argv) > 1 else BUILT
-    folder = pathlib.Path(tempfile.mkdtemp())
-    try:
-        write_records(folder)
-        if not SERVER:
-            sys.exit(not run(program, sys.argv[2:], folder, None))
-        if os.geteuid() == 0:
-            shutil.chown(folder, "postgres")
-        with Server(folder) as cluster:
-            cluster.fill()
-            sys.exit(not run(program, sys.argv[2:], folder, cluster))
-    finally:
-        shutil.rmtree(folder, ignore_errors=True)
-
-
 if __name__ == "__main__":
-    main()
+    main(WORKLOADS, write_records, asked_of_all, Server)
