@@ -5,4 +5,7 @@ pub mod Faults
 pub mod Files
 pub mod Verdicts
 pub mod Passing
+mod Few
+mod PathsThere
+pub mod PlansSpelled
 pub mod Examples

@@ -12,6 +12,7 @@ pub mod Repeats
 pub mod Counting
 pub mod Changes
 pub mod FileLoads
+pub mod RecordsExist
 mod Quoting
 pub mod TextExamples
 mod TableExamples

@@ -1,5 +1,5 @@
 -- Statements as trees. Parentheses leave no trace in them, and the operands of one line stand in one list.
-use Rattle.std.specs.Prelude.{ℕ, Bool, List, [], ◌∷◌, Option, Some, None}
+use Rattle.std.specs.Prelude.{ℕ, Bool, List, [], ◌∷◌, Option}
 use Rattle.definitions.specs.Value.{SqlType}
 
 -- a name in upper case

@@ -25,5 +25,7 @@ pub mod PathsAsk
 pub mod Giving
 pub mod ScriptSteps
 mod Loads
+mod LoadsExist
+pub mod StepsExist
 pub mod Runs
 pub mod Headlines

@@ -1,6 +1,6 @@
 -- What holds of statements and scripts, for whatever a library may answer. The crate sqlr proves them as contracts over every library.
-use Rattle.std.specs.Prelude.{ℕ, ◌≡◌, List, [], ◌∷◌, ◌++◌, Option, Bool, IsSorted}
-use Rattle.std.specs.List.{count_by}
+use Rattle.std.specs.Prelude.{ℕ, ◌≡◌, ⊤, List, [], ◌∷◌, ◌++◌, Option, Bool, IsSorted}
+use Rattle.std.specs.List.{AllByRecursion, count_by}
 use Rattle.definitions.specs.Statement.{Name, Select, Statement, Query, Explain}
 use Rattle.definitions.specs.Table.{Row, Table, Database}
 use Rattle.definitions.specs.Loading.{Record, AreFileRecords}
@@ -11,6 +11,7 @@ use Rattle.definitions.specs.Queries.BoundBlock.{Blocks}
 use Rattle.definitions.specs.Queries.Answer.{answer}
 use Rattle.definitions.specs.Queries.Outcomes.{Told, AllowedOf, names_of, order_of, row_order, shown}
 use Rattle.definitions.specs.Binding.Faults.{Binds}
+use Rattle.definitions.specs.Binding.Formed.{AreWritten}
 use Rattle.definitions.specs.Invariant.{IsDatabase}
 use Rattle.definitions.specs.Estimates.Version.{current_version}
 use Rattle.definitions.specs.Certificates.Explaining.{certified_from, AreExplained}
@@ -61,6 +62,12 @@ pub data RunsAlike {L : Type 0} (answers : Answering L) (old : State L) (script 
   fault_lines : FaultLine script a → FaultLine script b → RunsAlike answers old script a b
   printed : (ss : List Statement) → AreStatements script ss → AllAlike answers old ss a b → RunsAlike answers old script a b
 
+-- the query of a statement is as it can be written: the parser gives no other
+abbrev pub QueriesAreWritten : Database → Statement → Type 0
+QueriesAreWritten db (Query q) = AreWritten db q
+QueriesAreWritten db (Explain q) = AreWritten db q
+QueriesAreWritten db _ = ⊤
+
 -- ---- laws
 
 -- a LOAD of given bytes has at most one outcome
@@ -88,7 +95,19 @@ module _ {L : Type 0} (answers : Answering L) where
   RunsEndAlike = AnswersOnce answers → (old new new' : State L) (script text text' : List ℕ) (ended ended' : Ended) → Run answers old script new text ended → Run answers old script new' text' ended'
       → AreOneButForWork new new' × (ended ≡ ended') × RunsAlike answers old script text text'
 
-  -- where each request has an answer, each script has a run (stated, and not proved)
-  abbrev pub EveryScriptRuns : Type 0
-  EveryScriptRuns = ((old : L) (name : List ℕ) → (answer : Option (List ℕ)) × (new : L) × answers old name answer new)
-      → (old : State L) (script : List ℕ) → IsDatabase old.database → (new : State L) × (text : List ℕ) × (ended : Ended) × Run answers old script new text ended
+  -- ---- something happens: that nothing does is refuted, since which plan is least and what a field means are not decided here
+
+  -- each request has an answer
+  abbrev pub AnswersAll : Type 0
+  AnswersAll = (old : L) (name : List ℕ) → (answer : Option (List ℕ)) × (new : L) × answers old name answer new
+
+  -- then no statement is without a step
+  abbrev pub NoneWithoutStep : Type 0
+  NoneWithoutStep = AnswersAll → (old : State L) (s : Statement) → IsDatabase old.database → QueriesAreWritten old.database s
+      → ((new : State L) (text : List ℕ) (ended : Ended) → Step answers old s new text ended → ⊥) → ⊥
+
+  -- and no script of statements without a run
+  abbrev pub NoneWithoutRun : Type 0
+  NoneWithoutRun = AnswersAll → (old : State L) (script : List ℕ) (statements : List Statement) → IsDatabase old.database
+      → AreStatements script statements → AllByRecursion (λ s. (db : Database) → QueriesAreWritten db s) statements
+      → ((new : State L) (text : List ℕ) (ended : Ended) → Run answers old script new text ended → ⊥) → ⊥

@@ -19,7 +19,7 @@ use Rattle.definitions.specs.Certificates.Form.{word_count}
 use Rattle.definitions.specs.Certificates.Spelling.{spelling}
 use Rattle.definitions.specs.Certificates.Explaining.{certified, certified_from, IsExplained, AreExplained}
 use Rattle.join_dp.specs.Words.{words_in}
-use Rattle.executor.proofs.PlansSpelled.{plans_are_spelled}
+use Rattle.definitions.proofs.CertificateTheory.PlansSpelled.{plans_are_spelled}
 
 same_words : (plan : Plan) → words_in plan ≡ word_count plan
 same_words (Access path) = refl

@@ -5,9 +5,6 @@ mod ToldValues
 pub mod Testing
 mod Planned
 mod Arranged
-mod Few
-mod PathsThere
-mod PlansSpelled
 mod Explained
 mod Keys
 mod Cuts

@@ -116,7 +116,8 @@ impl<'s> KeptRows<'s> {
         match rows.finish(alloc, source, block, around) {
             Ok(store) => {
                 let values = store.first_values(alloc)?;
-                Ok(Told::Values(FirstValues::new(values)))
+                let sorted = FirstValues::new(alloc, values)?;
+                Ok(Told::Values(sorted))
             }
             Err(AnswerFault::Raised(raise)) => Ok(Told::Raised(raise)),
             Err(AnswerFault::Memory) => Err(AllocError),

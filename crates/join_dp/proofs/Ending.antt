@@ -26,7 +26,8 @@ use Rattle.join_dp.specs.Steps.{Loop, Merge, Step, AccessOf, JoinOn, Candidate}
 use Rattle.join_dp.proofs.Entries.{entries_count}
 use Rattle.join_dp.proofs.Found.{filled_within}
 use Rattle.join_dp.proofs.Growing.{all_told, told_each, all_made, starts_grow}
-use Rattle.join_dp.proofs.Planning.{planned, state_over}
+use Rattle.definitions.proofs.PlanTheory.Orders.{state_over}
+use Rattle.join_dp.proofs.Planning.{planned}
 use Rattle.join_dp.proofs.RowSteps.{listed_at, none_solved, row_step_told}
 
 -- as many steps as states

@@ -1,7 +1,7 @@
 //! What holds of statements and scripts over every library (the laws of `definitions_execution/specs/RunLaws`, and worked examples of scripts), each
 //! proved as the contract of a function that does nothing.
 
-ghost use Rattle.definitions_execution.specs.RunLaws.{StepKeepsDatabase, FaultsChangeNothing, SelectPrintsAnswer, RunsEndAlike};
+ghost use Rattle.definitions_execution.specs.RunLaws.{StepKeepsDatabase, FaultsChangeNothing, SelectPrintsAnswer, RunsEndAlike, NoneWithoutStep, NoneWithoutRun};
 ghost use Rattle.definitions_execution.specs.ScriptExamples.{ScriptsRun};
 
 use crate::library::Library;
@@ -24,6 +24,12 @@ pub fn runs_end_alike<L: Library>()
 {
     definitions_execution::load_has_one_outcome();
 }
+
+/// Over a library that answers each request no statement is without a step, and no script of statements without a run.
+pub fn each_script_runs<L: Library>()
+    ensures step { NoneWithoutStep L.answers }
+    ensures run { NoneWithoutRun L.answers }
+{}
 
 /// Small scripts and what they print.
 pub fn scripts_run<L: Library>()

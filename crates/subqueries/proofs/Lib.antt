@@ -1,6 +1,7 @@
 pub mod Lists
 pub mod Answering
 pub mod OrderedValues
+mod NumberKeys
 pub mod ToldValues
 pub mod Nearest
 pub mod Appending

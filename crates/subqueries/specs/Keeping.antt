@@ -33,16 +33,26 @@ AllKept P r = AllByRecursion (λ place. IfSome place P) (places_in r)
 abbrev pub Replaces : List (Option Kept) → List (Option Kept) → Kept → Type 0
 Replaces old new kept = (place : ℕ) × (new ≡ set old place (Some kept))
 
+-- in a place
+abbrev pub kept_at : KeptResults → ℕ → Option Kept
+kept_at r place = get_or (places_in r) place None
+
+abbrev pub key_at : KeptResults → ℕ → Option (List Value)
+key_at r place = option_map (λ (k : Kept). k.key) (kept_at r place)
+
+abbrev pub total_in : KeptResults → ℕ → Option ℕ
+total_in r place = option_map (λ (k : Kept). k.total) (kept_at r place)
+
 -- ---- the latest
 
 abbrev pub latest_in : KeptResults → Option Kept
-latest_in r = get_or (places_in r) r.latest None
+latest_in r = kept_at r r.latest
 
 abbrev pub latest_key : KeptResults → Option (List Value)
-latest_key r = option_map (λ (k : Kept). k.key) (latest_in r)
+latest_key r = key_at r r.latest
 
 abbrev pub latest_total : KeptResults → Option ℕ
-latest_total r = option_map (λ (k : Kept). k.total) (latest_in r)
+latest_total r = total_in r r.latest
 
 abbrev pub told_of_option : Option Kept → Result (List Value) Raise
 told_of_option None = Ok []

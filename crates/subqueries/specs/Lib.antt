@@ -1,3 +1,4 @@
+pub mod NumberKeys
 pub mod FirstValues
 pub mod Telling
 pub mod Found

@@ -1,8 +1,9 @@
 //! The first values of rows, in order.
 
-ghost use Rattle.std.specs.Prelude.{◌≡◌, All, IsPermutation, IsSome, IsSortedByKey, Some, false, is_some, map, true};
+ghost use Rattle.std.specs.Prelude.{◌≡◌, All, IfOk, IsPermutation, IsSome, IsSortedByKey, Some, false, is_some, map, true};
 ghost use Rattle.std.specs.Bool.{Decides};
 ghost use Rattle.std.specs.List.Sorted.{IsPartitionPoint};
+ghost use Rattle.std.specs.Option.{ForSome};
 ghost use Rattle.std.specs.Ordering.{is_lt};
 ghost use Rattle.std.specs.declared.cmp.Ordering.TheVariants.{Equal};
 ghost use Rattle.definitions.specs.Statement.{Equals};
@@ -11,26 +12,39 @@ ghost use Rattle.definitions.specs.Value as spec;
 ghost use Rattle.sqlvalue.specs.Meaning.{value_of};
 ghost use Rattle.sqlvalue.specs.Owned.{owned_value};
 ghost use Rattle.sqlvalue.specs.Truths.{truth_of};
+ghost use Rattle.subqueries.specs.NumberKeys.{AreKeys};
 
 use sqlvalue::{OwnedValue, Tri, Value, compare, rank};
+use std::alloc::{AllocError, Global};
 use std::cmp::Ordering;
+use tuple_sort::number_key;
 
-/// The first values of rows, by their rank: nulls first, then numbers, then texts (own).
+/// Whole numbers that rank as values do, which are nulls and numbers of one scale (own).
+#[derive(Drop)]
+struct NumberKeys {
+    scale: u8,
+    keys: Vec<i64>,
+}
+
+/// The first values of rows, by their rank: nulls first, then numbers, then texts; and their keys, where they have them (own).
 #[derive(Drop)]
 pub struct FirstValues {
     values: Vec<OwnedValue>,
+    keys: Option<NumberKeys>,
     ghost sorted: { IsSortedByKey owned_value spec.rank values.items },
+    ghost keyed: { ForSome keys (λ k. AreKeys k.scale values.items k.keys.items) },
 }
 
 impl FirstValues {
     ghost use Rattle.subqueries.specs.FirstValues.{values_in};
 
-    /// Puts values in the order of their rank. Takes no memory.
-    pub fn new(mut values: Vec<OwnedValue>) -> FirstValues
-        ensures { IsPermutation (map owned_value values.items) (values_in result) }
+    /// Puts values in the order of their rank.
+    pub fn new(alloc: Global, mut values: Vec<OwnedValue>) -> Result<FirstValues, AllocError>
+        ensures { IfOk result (λ own. IsPermutation (map owned_value values.items) (values_in own)) }
     {
         values.sort_unstable_by(|a, b| rank(&a.value(), &b.value()));
-        FirstValues { values }
+        let keys = number_keys(alloc, values.as_slice())?;
+        Ok(FirstValues { values, keys })
     }
 
     /// Lends them.
@@ -68,6 +82,11 @@ impl FirstValues {
         ensures { IsPartitionPoint (λ own. is_lt (spec.rank (owned_value own) (value_of value.now)) ≡ true)
             (λ own. is_lt (spec.rank (owned_value own) (value_of value.now)) ≡ false) self.now.values.items result }
     {
+        if let Some(own) = &self.keys
+            && let Some(key) = number_key(value, own.scale)
+        {
+            return own.keys.partition_point(|other| *other < key);
+        }
         self.values
             .partition_point(|own| rank(&own.value(), value).is_lt())
     }
@@ -82,6 +101,24 @@ impl FirstValues {
         let last = self.values.len() - 1;
         is_comparable(&self.values[0], value) && is_comparable(&self.values[last], value)
     }
+}
+
+/// The keys of values, where all are nulls and numbers of one scale: that of the last, since they rank behind nulls.
+fn number_keys(alloc: Global, values: &[OwnedValue]) -> Result<Option<NumberKeys>, AllocError>
+    ensures { IfOk result (λ own. ForSome own (λ k. AreKeys k.scale values.now k.keys.items)) }
+{
+    let scale = match values.last() {
+        Some(OwnedValue::Num(number)) => number.scale,
+        _ => return Ok(None),
+    };
+    let mut keys = Vec::new(alloc);
+    'values: for value in values {
+        match number_key(&value.value(), scale) {
+            Some(key) => keys.push(key)?,
+            None => return Ok(None),
+        }
+    }
+    Ok(Some(NumberKeys { scale, keys }))
 }
 
 /// Whether a value compares as equal with a kept one: a null doesn't (ISO/IEC 9075:1992, 8.2).

@@ -1,6 +1,6 @@
 //! What was told of an inner block, kept by the values of its parameters.
 
-ghost use Rattle.std.specs.Prelude.{◌≡◌, ◌<◌, IfOk, length, map};
+ghost use Rattle.std.specs.Prelude.{◌≡◌, ◌≢◌, ◌<◌, IfOk, length, map};
 ghost use Rattle.std.specs.Bool.{Decides};
 ghost use Rattle.definitions_answers.specs.Parameters.{outer_values};
 ghost use Rattle.definitions.specs.Value.{Null, Text};
@@ -44,7 +44,7 @@ impl KeptResults {
     ghost use Rattle.definitions_answers.specs.Told.{meaning_told};
     ghost use Rattle.sqlvalue.specs.Truths.{truth_of};
     ghost use Rattle.expr.specs.Answers.{values_answer_of};
-    ghost use Rattle.subqueries.specs.Keeping.{kept_of, latest_in, latest_key, latest_total, places_in, told_last, Replaces};
+    ghost use Rattle.subqueries.specs.Keeping.{key_at, kept_of, latest_in, latest_key, latest_total, places_in, told_last, total_in, Replaces};
 
     /// So many empty places, and at least one.
     pub fn new(alloc: Global, count: usize) -> Result<KeptResults, AllocError>
@@ -59,20 +59,49 @@ impl KeptResults {
     }
 
     /// The total of the result for the values that the parameters have in the rows around, if it is kept; it is the latest then.
+    /// The latest is looked at first, so it is found again where they are the same.
     pub fn find<A: OuterRows>(&mut self, parameters: &[OuterColumn], around: &A) -> Option<u64>
         ensures key { OnSome result (latest_key self.new
             ≡ Some (outer_values (A.combinations around.now) (outer_columns_of parameters.now))) }
         ensures total { IfSome result (λ total. latest_total self.new ≡ Some total) }
         ensures kept { places_in self.new ≡ places_in self.old }
         ensures unchanged { IfNone result (self.new ≡ self.old) }
+        ensures missing { IfNone result (latest_key self.old
+            ≢ Some (outer_values (A.combinations around.now) (outer_columns_of parameters.now))) }
     {
+        if let Some(total) = self.total_at(self.latest, parameters, around) {
+            return Some(total);
+        }
         let place = place_of(parameters, around, self.places.len());
-        let total = match &self.places[place] {
-            Some(kept) if is_key(&kept.key, parameters, around) => kept.total,
-            _ => return None,
-        };
+        let total = self.total_at(place, parameters, around)?;
         self.latest = place;
         Some(total)
+    }
+
+    /// The total of the result in a place, where it is for the values that the parameters have in the rows around.
+    fn total_at<A: OuterRows>(
+        &self,
+        place: usize,
+        parameters: &[OuterColumn],
+        around: &A,
+    ) -> Option<u64>
+        requires { place < length self.now.places.items }
+        ensures key { OnSome result (key_at self.now place
+            ≡ Some (outer_values (A.combinations around.now) (outer_columns_of parameters.now))) }
+        ensures total { IfSome result (λ total. total_in self.now place ≡ Some total) }
+        ensures missing { IfNone result (key_at self.now place
+            ≢ Some (outer_values (A.combinations around.now) (outer_columns_of parameters.now))) }
+    {
+        match &self.places[place] {
+            Some(kept) => {
+                if is_key(&kept.key, parameters, around) {
+                    Some(kept.total)
+                } else {
+                    None
+                }
+            }
+            None => None,
+        }
     }
 
     /// Keeps a result in place of another; it is the latest.

@@ -11,3 +11,4 @@ mod sorting;
 
 pub use list::Composites;
 pub use rows::sort_rows;
+pub use sort_tuple::number_key;

@@ -4,7 +4,7 @@ ghost use Rattle.std.specs.Prelude.{◌≡◌, ◌<◌, IfSome, map};
 ghost use Rattle.std.specs.List.{All};
 ghost use Rattle.query_tree.specs.Bound.{column_of};
 ghost use Rattle.sqlvalue.specs.Meaning.{value_of};
-ghost use Rattle.tuple_sort.specs.Keys.{packed_in, text_number, HasKey, HaveKeys};
+ghost use Rattle.tuple_sort.specs.Keys.{packed_in, text_number, HasKey, HasNumberKey, HaveKeys};
 
 use crate::packing::row_in;
 use query_tree::BlockColumn;
@@ -86,6 +86,13 @@ fn form_in<const WIDTH: usize>(
         }
     }
     KeyForm::Prefix
+}
+
+/// A whole number that ranks as a null or a number of a scale does among such, if its units are not too many (own).
+pub fn number_key(value: &Value, scale: u8) -> Option<i64>
+    ensures { IfSome result (HasNumberKey scale (value_of value.now)) }
+{
+    key_of(value, KeyForm::Units(scale))
 }
 
 /// The key of a null, which is before all others, of a number of a scale, whose units are not too many, or of a text.

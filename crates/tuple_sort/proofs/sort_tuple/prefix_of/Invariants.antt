@@ -1,4 +1,4 @@
-use Rattle.std.proofs.Common.{◌≡◌, ◌-◌, ◌<◌, ◌≤◌, ◌^◌, drop}
+use Rattle.std.proofs.Common.{◌≡◌, ◌-◌, ◌<◌, ◌^◌, drop}
 use Rattle.tuple_sort.specs.Keys.{text_number}
 use Rattle.tuple_sort.proofs.sort_tuple.prefix_of.Given as goal
 

@@ -33,12 +33,12 @@ in_other_order : (m : Meaning (List Row)) (values ordered : List Value) → IsPe
 in_other_order (Is rows) values ordered same told = IsPermutation-trans (column_values rows) values ordered told same
 in_other_order (Raises r rs) values ordered same told = absurd told
 
-pub returns-in_ok-values-in-Ok : goal.returns-in_ok-values-in-Ok
-returns-in_ok-values-in-Ok g c inner all ready told =
+pub returns-in_ok-sorted-in-Ok : goal.returns-in_ok-sorted-in-Ok
+returns-in_ok-sorted-in-Ok g c inner all ready told =
     let s = c.args.source.now in
     let outer = g.A.OuterRows.combinations c.args.around.now in
     let have = not_late s outer inner _ c.args.self.late c.args.self.rows c.in_default.not-Some told in
-    in_other_order (block_answer (context_with s outer inner) (block_in s)) (map owned_value c.in_ok-values-in-Ok.values.items) (values_in c.new.result) c.new.ensures
+    in_other_order (block_answer (context_with s outer inner) (block_in s)) (map owned_value c.in_ok-values-in-Ok.values.items) (values_in c.in_ok-sorted-in-Ok.sorted) c.in_ok-sorted-in-Ok.ensures
     (values_told s outer inner all ready c.args.self.rows have c.in-Ok.store _ c.in-Ok.ensures.rows (c.in-Ok.ensures.distinct ∙ c.requires.distinct) c.in_ok-values-in-Ok.ensures)
 
 pub returns-in-Err-Raised : goal.returns-in-Err-Raised

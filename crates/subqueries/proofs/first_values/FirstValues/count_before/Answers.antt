@@ -1,17 +1,33 @@
 use Rattle.std.proofs.Common.{rules}
+use Rattle.std.specs.Prelude.{ℤ, int_lt}
 use Rattle.std.specs.Ordering.{is_lt}
 use Rattle.std.proofs.lemmas.List.Sorted.{IsPartitionPoint-from_clause}
 use Rattle.definitions.specs.Value.{rank}
 use Rattle.sqlvalue.specs.Meaning.{value_of}
 use Rattle.sqlvalue.specs.Owned.{owned_value}
 use Rattle.sqlvalue.specs.declared.owned_value.OwnedValue.{OwnedValue}
+use Rattle.tuple_sort.specs.Keys.{HasNumberKey}
+use Rattle.subqueries.specs.NumberKeys.{AreKeys}
+use Rattle.subqueries.proofs.NumberKeys.{keys_parted, values_parted}
 use Rattle.subqueries.proofs.OrderedValues.{parted}
 use Rattle.subqueries.proofs.first_values.FirstValues.count_before.Goals as goal
 
 pub returns : goal.returns
 returns c =
     let v = value_of c.args.value.now in
-    rw c.deref.ensures.value at (
-    IsPartitionPoint-from_clause (λ (own : OwnedValue). is_lt (rank (owned_value own) v)) c.deref.result.now c.partition_point.result c.partition_point.ensures.partitioned
-    (rw c.deref.ensures.value (parted v owned_value c.args.self.now.values.items c.args.self.now.sorted)) (λ a r q k. search rules)
+    let xs = c.args.self.now.values.items in
+    let own = c.in-Some.own in
+    let has : HasNumberKey own.scale v c.in-Some-number_key.key = c.in-Some-number_key.ensures in
+    let are : AreKeys own.scale xs own.keys.items = c.args.self.now.keyed own c.in-Some.is in
+    let point = IsPartitionPoint-from_clause (λ (k : ℤ). int_lt k c.in-Some-number_key.key) c.deref.result.now c.partition_point.result c.partition_point.ensures.partitioned
+    (rw c.deref.ensures.value (keys_parted own.scale v c.in-Some-number_key.key has xs own.keys.items are c.args.self.now.sorted)) (λ a r q k. search rules) in
+    values_parted own.scale v c.in-Some-number_key.key has xs own.keys.items are c.partition_point.result (rw c.deref.ensures.value at c.partition_point.ensures.bound)
+    (rw c.deref.ensures.value at point)
+
+pub returns-2 : goal.returns-2
+returns-2 c =
+    let v = value_of c.args.value.now in
+    rw c.deref-2.ensures.value at (
+    IsPartitionPoint-from_clause (λ (own : OwnedValue). is_lt (rank (owned_value own) v)) c.deref-2.result.now c.partition_point-2.result c.partition_point-2.ensures.partitioned
+    (rw c.deref-2.ensures.value (parted v owned_value c.args.self.now.values.items c.args.self.now.sorted)) (λ a r q k. search rules)
     )

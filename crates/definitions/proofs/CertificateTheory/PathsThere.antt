@@ -18,7 +18,7 @@ use Rattle.definitions.specs.Estimates.Paths.{equals_at, matches_at, matching, m
 use Rattle.definitions.specs.Certificates.Explaining.{indexes_at}
 use Rattle.definitions.proofs.PlanTheory.Elements.{first_or_rest, filter_had, not_in_empty}
 use Rattle.definitions.proofs.EstimateTheory.Members.{was_mapped, was_flattened}
-use Rattle.executor.proofs.Few.{at_place}
+use Rattle.definitions.proofs.CertificateTheory.Few.{at_place}
 
 was_in_range : (from count n : ℕ) → Contains (range_with_len from count) n → (from ≤ n) × (n < from + count)
 was_in_range from zero n there = absurd (not_in_empty n there)

@@ -26,8 +26,8 @@ use Rattle.definitions.specs.Certificates.Form.{is_number, is_match, is_path, is
 use Rattle.definitions.specs.Certificates.CertifiedBlock.{CertifiedBlock}
 use Rattle.definitions.specs.Certificates.Spelling.{IsOneOf, path_written, plan_written, path_meant, plan_meant, PathIsThere, PlanIsThere, IsConjunct, StateIsThere, IsSpellable}
 use Rattle.definitions.specs.Certificates.Explaining.{certified}
-use Rattle.executor.proofs.Few.{orders_few}
-use Rattle.executor.proofs.PathsThere.{AreMatched, NamesParts, parts_there}
+use Rattle.definitions.proofs.CertificateTheory.Few.{orders_few}
+use Rattle.definitions.proofs.CertificateTheory.PathsThere.{AreMatched, NamesParts, parts_there}
 
 number_is : (n : ℕ) → n ≤ limit → is_number n ≡ true
 number_is n h = grind (arith, nat_tests, h)
