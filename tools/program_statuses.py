@@ -137,7 +137,9 @@ SELECT B FROM T;
 
 def cases(folder, full, closed):
     not_text = folder / "not_text.sql"
-    not_text.write_bytes(b"SELECT A FROM \xff;\n")
+    not_text.write_bytes(b"-- \xc3\xbc\nSELECT A FROM \xff;\n")
+    utf16 = folder / "utf16.sql"
+    utf16.write_bytes("SELECT A FROM T;\n".encode("utf-16"))
     device = folder / "device.sql"
     device.write_text("CREATE TABLE T (A INTEGER);\nLOAD T FROM 'examples';\nSELECT A FROM T;\n")
     parts, missing = "examples/parts.sql", "examples/missing.sql"
@@ -158,6 +160,9 @@ def cases(folder, full, closed):
     yield Case("certificate", ["check", join, certificates], 0, b"block 1 pass\n")
     yield Case("certificate on a script from standard input", ["check", "-", certificates], 0, b"block 1 pass\n", typed=(ROOT / join).read_bytes())
     yield Case("refused certificate", ["check", join, str(lower)], 3, b"block 1 refused K2\n", told)
+    yield Case("certificate from standard input", ["check", join, "-"], 0, b"block 1 pass\n", typed=(ROOT / certificates).read_bytes())
+    twice = b"sqlr: only one of script and certificates can be standard input\n"
+    yield Case("all from standard input", ["check", "-", "-"], 2, complaint=twice)
     yield Case("nothing to check", ["check", "-", certificates], 1, b"nothing to check\n")
     yield Case("no certificates", ["check", join], 2, complaint=b"error: the following required arguments were not provided:\n  <CERTIFICATES>\n")
     absent = b"sqlr: examples/missing.certificates: No such file or directory\n"
@@ -171,12 +176,21 @@ def cases(folder, full, closed):
     yield Case("wrong subcommand", ["walk", parts], 2, complaint=b"error: unrecognized subcommand 'walk'\n")
     tip = b"error: unrecognized subcommand 'first.sql'\n\n  tip: to run this script, use 'sqlr run first.sql'\n"
     yield Case("script without a subcommand", ["first.sql"], 2, complaint=tip)
+    tip = b"error: unrecognized subcommand 'explain'\n\n  tip: EXPLAIN is a statement, which stands before a SELECT in a script\n"
+    yield Case("explain as a subcommand", ["explain", parts], 2, complaint=tip)
+    tip = b"error: unrecognized subcommand 'version'\n\n  tip: the version is told by 'sqlr --version'\n"
+    yield Case("version as a subcommand", ["version"], 2, complaint=tip)
+    tip = b"error: unrecognized subcommand 'RUN'\n\n  tip: subcommands are written in small letters\n"
+    yield Case("subcommand in capital letters", ["RUN", parts], 2, complaint=tip)
+    yield Case("no such option", ["run", "--timing", parts], 2, complaint=b"error: there is no option '--timing'\n")
     yield Case("no script", ["run"], 2, complaint=b"error: the following required arguments were not provided:\n  <SCRIPT>\n")
     yield Case("two scripts", ["run", parts, parts], 2, complaint=b"error: unexpected argument 'examples/parts.sql' found\n")
     yield Case("missing script", ["run", missing], 2, complaint=b"sqlr: examples/missing.sql: No such file or directory\n")
     yield Case("script that is a folder", ["run", "examples"], 2, complaint=b"sqlr: examples: Is a directory\n")
-    no_text = f"sqlr: {not_text}: stream did not contain valid UTF-8\n".encode()
+    no_text = f"sqlr: {not_text}:2:15: byte FF is not UTF-8: save the script in UTF-8\n".encode()
     yield Case("script that is no text", ["run", str(not_text)], 2, complaint=no_text)
+    wide = f"sqlr: {utf16}: this is UTF-16: save it in UTF-8\n".encode()
+    yield Case("script in UTF-16", ["run", str(utf16)], 2, complaint=wide)
     no_file = f"sqlr: {device}:2:13: examples: Is a directory\n".encode()
     yield Case("file that is a folder", ["run", str(device)], 2, b"OK\n", no_file)
     no_room = b"sqlr: standard output: No space left on device\n"

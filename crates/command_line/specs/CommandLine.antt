@@ -27,26 +27,25 @@ program = record (new_app (codes "sqlr")) { top = record (new_app (codes "sqlr")
 abbrev pub line : App
 line = with_subcommand (with_subcommand program run.top) check.top
 
--- where a script stands
+-- where a script, or certificates, stand
 pub data Source : Type 0 where
   file : Text → Source
   standard_input : Source
 
--- a script is named by its file, or - for standard input
+-- a word names a file, or standard input where it is -
 abbrev pub source_named : Text → Source
 source_named word = if bytes_eq word (codes "-") then standard_input else file word
 
--- what is asked: a script to be run, or the certificates in the file of a name to be checked against
--- a script's last query
+-- what is asked: a script to be run, or certificates to be checked against a script's last query
 pub data Asked : Type 0 where
   runs : Source → Asked
-  checks : Source → Text → Asked
+  checks : Source → Source → Asked
 
 abbrev pub run_of : Option Text → Option Asked
 run_of = option_map (λ script. runs (source_named script))
 
 abbrev pub check_of : Option Text → Option Text → Option Asked
-check_of (Some script) (Some certificates) = Some (checks (source_named script) certificates)
+check_of (Some script) (Some certificates) = Some (checks (source_named script) (source_named certificates))
 check_of _ _ = None
 
 -- what a subcommand with the rows of its matches asks

@@ -6,18 +6,17 @@ pub use clap::Error as LineFault;
 #[derive(Debug, Drop)]
 pub enum Request {
     /// A script is to be run.
-    Run(Script),
+    Run(Source),
     /// Certificates are to be checked against a script's last query.
     Check {
-        script: Script,
-        /// The name of the file that the certificates stand in.
-        certificates: String,
+        script: Source,
+        certificates: Source,
     },
 }
 
-/// Where a script stands.
+/// Where a script, or certificates, stand.
 #[derive(Debug, Drop)]
-pub enum Script {
+pub enum Source {
     /// In the file of this name.
     File(String),
     StandardInput,

@@ -1,15 +1,15 @@
 //! From the words of a command line to what they ask for.
 
-ghost use Rattle.std.specs.Prelude.{◌≡◌, Some, false, codes, map, option_map, IfOk, IsErr};
+ghost use Rattle.std.specs.Prelude.{◌≡◌, Some, false, codes, map, option_map, IfOk, IfSome, IsErr};
 ghost use Rattle.clap.specs.Simple.{subcommand_rows_of};
 ghost use Rattle.clap.specs.Words.{FailsBy, app_of, fault_of, first_value, found_of, rule_of, kind_of};
 ghost use Rattle.clap.specs.declared.error.kind.ErrorKind.TheVariants as kind;
 ghost use Rattle.command_line.specs.CommandLine as spec;
-ghost use Rattle.command_line.specs.Request.{asked, script_source};
+ghost use Rattle.command_line.specs.Request.{asked, source_of};
 ghost use Rattle.clap.specs.declared.builder.Command.TheViews.{out-Command};
 ghost use Rattle.command_line.specs.CommandLine.{line, run, check, word_rule};
 
-use crate::requests::{LineFault, Request, Script};
+use crate::requests::{LineFault, Request, Source};
 use clap::error::ErrorKind;
 use clap::{Arg, ArgAction, ArgMatches, Command};
 use std::alloc::{AllocError, Global};
@@ -64,7 +64,7 @@ fn run_request(alloc: Global, run: &ArgMatches<'_>) -> Result<Option<Request>, A
     let Some(script) = run.get_str("SCRIPT") else {
         return Ok(None);
     };
-    Ok(Some(Request::Run(script_named(alloc, script)?)))
+    Ok(Some(Request::Run(source_named(alloc, script)?)))
 }
 
 fn check_request(alloc: Global, check: &ArgMatches<'_>) -> Result<Option<Request>, AllocError>
@@ -77,48 +77,87 @@ fn check_request(alloc: Global, check: &ArgMatches<'_>) -> Result<Option<Request
     let Some(certificates) = check.get_str("CERTIFICATES") else {
         return Ok(None);
     };
-    let script = script_named(alloc, script)?;
-    let certificates = String::from_str(alloc, certificates)?;
+    let script = source_named(alloc, script)?;
+    let certificates = source_named(alloc, certificates)?;
     Ok(Some(Request::Check {
         script,
         certificates,
     }))
 }
 
-/// The script that a word names: `-` is standard input.
-fn script_named(alloc: Global, word: &str) -> Result<Script, AllocError>
-    ensures { IfOk result (λ script. script_source script ≡ spec.source_named word.now) }
+/// The source that a word names: `-` is standard input.
+fn source_named(alloc: Global, word: &str) -> Result<Source, AllocError>
+    ensures { IfOk result (λ source. source_of source ≡ spec.source_named word.now) }
 {
     if word == "-" {
-        return Ok(Script::StandardInput);
+        return Ok(Source::StandardInput);
     }
-    Ok(Script::File(String::from_str(alloc, word)?))
+    Ok(Source::File(String::from_str(alloc, word)?))
 }
 
-/// The fault, or one that tells how a script is run where the first word looks like one.
+/// The fault, or one of its kind whose words say what may have been meant.
 fn with_hint(alloc: Global, command: &mut Command, words: &[&str], fault: LineFault) -> LineFault
     ensures { kind_of result ≡ kind_of fault }
 {
-    let Some(word) = words.get(1) else {
-        return fault;
+    let hint = match fault.kind() {
+        ErrorKind::InvalidSubcommand => subcommand_hint(alloc, command, words),
+        ErrorKind::UnknownArgument => option_hint(alloc, command, words),
+        _ => return fault,
     };
-    if !matches!(fault.kind(), ErrorKind::InvalidSubcommand) || !word.ends_with(".sql") {
-        return fault;
-    }
-    match lone_script(alloc, command, word) {
-        Ok(hint) => hint,
-        Err(_) => fault,
+    match hint {
+        Ok(Some(hint)) => hint,
+        _ => fault,
     }
 }
 
-/// The fault of a script's name in the place of a subcommand.
-fn lone_script(alloc: Global, command: &mut Command, name: &str) -> Result<LineFault, AllocError>
-    ensures { IfOk result (λ f. kind_of f ≡ kind.InvalidSubcommand) }
+/// The fault of a word that is no subcommand, where it is known what was meant.
+fn subcommand_hint(
+    alloc: Global,
+    command: &mut Command,
+    words: &[&str],
+) -> Result<Option<LineFault>, AllocError>
+    ensures { IfOk result (λ hint. IfSome hint (λ f. kind_of f ≡ kind.InvalidSubcommand)) }
 {
-    let message = format!(in alloc;
-        "unrecognized subcommand '{name}'\n\n  tip: to run this script, use 'sqlr run {name}'"
-    )?;
-    command.error(ErrorKind::InvalidSubcommand, &message)
+    let Some(word) = words.get(1) else {
+        return Ok(None);
+    };
+    let message = if word.ends_with(".sql") {
+        format!(in alloc;
+            "unrecognized subcommand '{word}'\n\n  tip: to run this script, use 'sqlr run {word}'"
+        )?
+    } else if word.eq_ignore_ascii_case("explain") {
+        format!(in alloc;
+            "unrecognized subcommand '{word}'\n\n  tip: EXPLAIN is a statement, which stands before a SELECT in a script"
+        )?
+    } else if word.eq_ignore_ascii_case("run") || word.eq_ignore_ascii_case("check") {
+        format!(in alloc;
+            "unrecognized subcommand '{word}'\n\n  tip: subcommands are written in small letters"
+        )?
+    } else if word.eq_ignore_ascii_case("version") {
+        format!(in alloc;
+            "unrecognized subcommand '{word}'\n\n  tip: the version is told by 'sqlr --version'"
+        )?
+    } else {
+        return Ok(None);
+    };
+    Ok(Some(command.error(ErrorKind::InvalidSubcommand, &message)?))
+}
+
+/// The fault of an option that there is not, without clap's tip on how to pass it as a value.
+fn option_hint(
+    alloc: Global,
+    command: &mut Command,
+    words: &[&str],
+) -> Result<Option<LineFault>, AllocError>
+    ensures { IfOk result (λ hint. IfSome hint (λ f. kind_of f ≡ kind.UnknownArgument)) }
+{
+    for word in words {
+        if word.starts_with("-") && word.len() > 1 && !word.ends_with(".sql") {
+            let message = format!(in alloc; "there is no option '{word}'")?;
+            return Ok(Some(command.error(ErrorKind::UnknownArgument, &message)?));
+        }
+    }
+    Ok(None)
 }
 
 /// The fault of words that ask for nothing.
@@ -160,7 +199,7 @@ fn check_command<'a>(alloc: Global) -> Result<Command<'a>, AllocError>
 {
     let about = "Checks certificates of a script's last query, and prints what they show";
     let command = on_script(alloc, "check", about)?;
-    command.arg(word(alloc, "CERTIFICATES").help("A file of certificates"))
+    command.arg(word(alloc, "CERTIFICATES").help("A file of certificates, or - for standard input"))
 }
 
 /// The subcommand of this name, whose first word is a script.

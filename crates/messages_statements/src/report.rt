@@ -9,22 +9,22 @@ use crate::create::write_create;
 use crate::index::write_index;
 use crate::list::write_list_hint;
 use crate::places::offset_of;
-use crate::record::{FileRecord, write_record, write_record_hint};
-use crate::repeated::write_repeated;
 use crate::statistics::{write_statistics, write_table_statistics};
-use crate::suggestions::write_near_table;
-use crate::text::{write_lexical, write_lexical_hint};
-use crate::wanted::{write_too_deep, write_unexpected, write_unexpected_hint};
 use catalog::{
     Database, IndexFault, ListFault, MAX_ROWS, RefusedRecord, RepeatedRecord, StatisticsFault,
     TableStatisticsFault,
 };
 use messages_certificates::FileReport;
 use messages_excerpts::{LineColumn, Lines, write_excerpt};
+use messages_files::{FileRecord, write_record, write_record_hint, write_repeated};
+use messages_queries::{QueryWords, write_near_table};
+use messages_syntax::{
+    write_lexical, write_lexical_hint, write_too_deep, write_unexpected, write_unexpected_hint,
+};
 use sqlr::{Cause, CheckedFile, ColumnList, FileLoad, Refused};
 use std::alloc::Global;
 use std::fmt::{self, Display, Formatter};
-use syntax::Name;
+use syntax::{Name, Select};
 
 /// Makes the messages on a script, one after another.
 #[derive(Drop)]
@@ -146,7 +146,7 @@ impl Report<'_> {
             Cause::NoTable(name) => write!(f, "there is no table {}", name.text),
             Cause::NoFile(file) => write!(f, "there is no file '{}'", file.text),
             Cause::ManyRows(_) => write!(f, "a table has at most {MAX_ROWS} rows"),
-            Cause::Query(cause) => crate::words::write_fault(f, cause.query, cause.fault),
+            Cause::Query(cause) => self.query_words(cause.query).write_fault(f, cause.fault),
             Cause::Record { .. } | Cause::Repeated { .. } => Ok(()),
         }
     }
@@ -170,10 +170,17 @@ impl Report<'_> {
                 _ => Ok(()),
             },
             Cause::NoTable(name) => self.write_table_hint(f, name),
-            Cause::Query(cause) => {
-                crate::words::write_hint(f, self.alloc, self.database, cause.query, cause.fault)
-            },
+            Cause::Query(cause) => self.query_words(cause.query).write_hint(f, cause.fault),
             _ => Ok(()),
+        }
+    }
+
+    /// The words on a query of the script.
+    fn query_words<'w>(&'w self, query: &'w Select) -> QueryWords<'w> {
+        QueryWords {
+            alloc: self.alloc,
+            database: self.database,
+            query,
         }
     }
 

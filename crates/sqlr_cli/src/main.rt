@@ -2,24 +2,26 @@
 #![tactic(auto)]
 
 mod folder;
+mod given;
 mod output;
 mod standard_error;
 
 ghost use Rattle.std.specs.Prelude.{◌≡◌, ◌<◌};
 
 use folder::{FileFault, Folder};
+use given::Given;
 use messages_statements::{LineColumn, Lines, Reporter};
 use output::Output;
-use sqlr::requests::{Request, Script};
+use sqlr::requests::Request;
 use sqlr::{Failures, RunFault, Session, request, status};
 use standard_error::StandardError;
 use std::alloc::AllocError;
+use std::env;
 use std::io::{self, ErrorKind, IsTerminal};
 use std::marker::Brand;
 use std::process::ExitCode;
 use std::rt::Runtime;
 use std::sync::ledger::{Blank, Ledger};
-use std::{env, fs};
 
 /// The exit status of a run that breaks off before its script is read.
 const BROKEN_OFF: u8 = 2;
@@ -29,17 +31,19 @@ fn main(rt: HostRuntime) -> io::Result<ExitCode> {
     let status = exit_status::<Brand, Brand, HostRuntime>(
         &rt,
         &standard_error,
+        rt.stdin().is_terminal(),
         Blank::new(1),
         Blank::new(1),
     );
     Ok(ExitCode::from(status))
 }
 
-/// Does what the command line asks for, and gives the exit status: 0 well, 1 a statement refused,
+/// Does what the command line asks for, where standard input may be typed at a terminal, and gives the exit status: 0 well, 1 a statement refused,
 /// 2 broken off, 3 a certificate refused, with words on standard error.
 fn exit_status<'a, F: Ledger, P: Ledger, R: Runtime + AllocGlobal>(
     rt: &'a R,
     standard_error: &'a StandardError<'a, R>,
+    is_typed: bool,
     fetches: Blank,
     puts: Blank,
 ) -> u8
@@ -55,7 +59,10 @@ fn exit_status<'a, F: Ledger, P: Ledger, R: Runtime + AllocGlobal>(
     let (book, share) = puts.open::<P>();
     let put_failures = Failures::new(book, share);
     match read_request(rt, standard_error) {
-        Ok(request) => do_request(rt, standard_error, &request, fetch_failures, put_failures),
+        Ok(request) => match Given::read(rt, standard_error, is_typed, &request) {
+            Ok(given) => do_request(rt, standard_error, given, fetch_failures, put_failures),
+            Err(status) => status,
+        },
         Err(status) => status,
     }
 }
@@ -98,18 +105,16 @@ fn command_line<R: Runtime + AllocGlobal>(rt: &R) -> io::Result<Vec<String>> {
 fn do_request<'a, F: Ledger, P: Ledger, R: Runtime + AllocGlobal>(
     rt: &'a R,
     standard_error: &'a StandardError<'a, R>,
-    request: &Request,
+    given: Given<'_>,
     fetch_failures: Failures<F>,
     put_failures: Failures<P>,
 ) -> u8 {
     let Given {
         script_name,
         script,
+        certificates_name,
         certificates,
-    } = match Given::read(rt, standard_error, request) {
-        Ok(given) => given,
-        Err(status) => return status,
-    };
+    } = given;
     let folder = Folder {
         rt,
         standard_error,
@@ -120,7 +125,7 @@ fn do_request<'a, F: Ledger, P: Ledger, R: Runtime + AllocGlobal>(
         writer: io::writer(rt),
         standard_error,
         reporter: Reporter::new(rt.alloc(), script_name, &script),
-        certificates_name: certificates_name(request),
+        certificates_name,
         refused: 0,
         failures: put_failures,
         fault: None,
@@ -143,67 +148,6 @@ fn do_request<'a, F: Ledger, P: Ledger, R: Runtime + AllocGlobal>(
         );
     }
     status(&run)
-}
-
-/// What messages call a file of certificates, where there is one.
-fn certificates_name(request: &Request) -> &str {
-    match request {
-        Request::Run(_) => "",
-        Request::Check { certificates, .. } => certificates.as_str(),
-    }
-}
-
-/// What a request names, read.
-#[derive(Drop)]
-struct Given<'r> {
-    script_name: &'r str,
-    script: String,
-    /// The bytes of a file of certificates, if they are to be checked.
-    certificates: Option<Vec<u8>>,
-}
-
-impl<'r> Given<'r> {
-    /// Reads the script first, and then the certificates; or gives the status to end with where one of
-    /// them can't be read.
-    fn read<R: Runtime + AllocGlobal>(
-        rt: &R,
-        standard_error: &StandardError<R>,
-        request: &'r Request,
-    ) -> Result<Given<'r>, u8> {
-        let (Request::Run(script) | Request::Check { script, .. }) = request;
-        let script_name = name_of(script);
-        let script = match read(rt, script) {
-            Ok(text) => text,
-            Err(reason) => return Err(broken_off(standard_error, script_name, reason)),
-        };
-        let certificates = match request {
-            Request::Run(_) => None,
-            Request::Check { certificates, .. } => match fs::read(rt, certificates) {
-                Ok(bytes) => Some(bytes),
-                Err(reason) => return Err(broken_off(standard_error, certificates, reason)),
-            },
-        };
-        Ok(Given {
-            script_name,
-            script,
-            certificates,
-        })
-    }
-}
-
-/// What messages call a script: standard input is called as other programs of SQL call it.
-fn name_of(script: &Script) -> &str {
-    match script {
-        Script::File(name) => name.as_str(),
-        Script::StandardInput => "<stdin>",
-    }
-}
-
-fn read<R: Runtime + AllocGlobal>(rt: &R, script: &Script) -> io::Result<String> {
-    match script {
-        Script::File(name) => fs::read_to_string(rt, name),
-        Script::StandardInput => io::read_to_string(rt.alloc(), rt.reader()),
-    }
 }
 
 /// Says how many messages were left out, if any were.

@@ -50,6 +50,13 @@ impl<'a, R: Runtime + AllocGlobal> StandardError<'a, R> {
         self.print(format_args!("sqlr: {words}\n"));
     }
 
+    /// Prints such a line where someone looks on.
+    pub fn tell_person<D: Display + Drop>(&self, words: D) {
+        if self.is_terminal {
+            self.tell(words);
+        }
+    }
+
     /// Tells what has failed, and the system's reason.
     pub fn tell_failed<D: Display + Drop>(&self, what: D, reason: io::Error) {
         match reason.to_string(self.rt.alloc()) {

@@ -1,5 +1,6 @@
 //! Where the faults of queries stand in the script.
 
+use crate::limits::{start_of_conjunct, start_of_group, start_of_item, start_of_member};
 use binder::QueryFault;
 use syntax::{Block, ColumnReference, Expr, Key, KeyName, SelectList};
 
@@ -22,15 +23,15 @@ pub fn offset_of_fault(fault: QueryFault) -> usize {
         | QueryFault::TextWithNumber(expr)
         | QueryFault::ConditionForValue(expr)
         | QueryFault::ValueForCondition(expr)
-        | QueryFault::MisplacedFunction(expr)
-        | QueryFault::ManyConjuncts(expr)
-        | QueryFault::ManyMembers(expr) => start_of(expr),
+        | QueryFault::MisplacedFunction(expr) => start_of(expr),
+        QueryFault::ManyConjuncts(condition) => start_of_conjunct(condition),
+        QueryFault::ManyMembers(list) => start_of_member(list),
         QueryFault::StarOfGroups(block) => start_of_list(block),
         QueryFault::NotOneColumn(block)
         | QueryFault::ManyBlocks(block)
-        | QueryFault::MisplacedQuery(block)
-        | QueryFault::ManyGroups(block) => block.start,
-        QueryFault::ManyItems(block) => start_of_from(block),
+        | QueryFault::MisplacedQuery(block) => block.start,
+        QueryFault::ManyGroups(block) => start_of_group(block),
+        QueryFault::ManyItems(block) => start_of_item(block),
         QueryFault::UnknownKey(key) | QueryFault::ManyKeys(key) => start_of_key(key),
     }
 }
@@ -42,14 +43,6 @@ fn start_of_list(block: &Block) -> usize {
     }
 }
 
-/// Where the first table of FROM stands.
-fn start_of_from(block: &Block) -> usize {
-    match block.sources.tables.first() {
-        Some(source) => source.table.start,
-        None => block.start,
-    }
-}
-
 fn start_of_key(key: &Key) -> usize {
     match &key.name {
         KeyName::Name(name) => name.start,
@@ -58,7 +51,7 @@ fn start_of_key(key: &Key) -> usize {
 }
 
 /// Where an expression begins, by the name, the literal or the word that stands first in it.
-fn start_of(expr: &Expr) -> usize {
+pub(crate) fn start_of(expr: &Expr) -> usize {
     match expr {
         Expr::Column(reference) => start_of_column(reference),
         Expr::Numeral(numeral) => numeral.start,
@@ -81,7 +74,7 @@ fn start_of(expr: &Expr) -> usize {
 }
 
 /// Where a column reference begins.
-fn start_of_column(reference: &ColumnReference) -> usize {
+pub(crate) fn start_of_column(reference: &ColumnReference) -> usize {
     match &reference.qualifier {
         Some(qualifier) => qualifier.start,
         None => reference.name.start,

@@ -12,19 +12,21 @@ use std::fmt::{self, Formatter};
 
 /// A record that is refused, as the file has it.
 #[derive(Drop)]
-pub(crate) struct FileRecord<'a> {
+pub struct FileRecord<'a> {
     /// The line of the file that it begins in, from 1.
     pub line: u64,
     fields: Option<ByteRecord>,
     /// The bytes of the file from the record on, and how many of them are its own.
     rest: &'a [u8],
     length: usize,
+    /// Whether the file begins with a mark of UTF-16.
+    is_utf16: bool,
 }
 
 impl<'a> FileRecord<'a> {
     /// Reads a record again, from the byte behind the one before it and that byte's line. Where memory is wanting
     /// it has no fields.
-    pub(crate) fn new(alloc: Global, bytes: &'a [u8], start: u64, line: u64) -> FileRecord<'a> {
+    pub fn new(alloc: Global, bytes: &'a [u8], start: u64, line: u64) -> FileRecord<'a> {
         let behind = bytes.get(start as usize..).unwrap_or(b"");
         let ends = behind
             .iter()
@@ -41,10 +43,12 @@ impl<'a> FileRecord<'a> {
             fields,
             rest,
             length,
+            is_utf16: matches!(bytes, [0xff, 0xfe, ..] | [0xfe, 0xff, ..]),
         }
     }
 
-    fn field(&self, place: usize) -> &[u8] {
+    /// The bytes of a field; none where there is no such one.
+    pub(crate) fn field(&self, place: usize) -> &[u8] {
         match &self.fields {
             Some(fields) => fields.get(place).unwrap_or(b""),
             None => b"",
@@ -52,7 +56,7 @@ impl<'a> FileRecord<'a> {
     }
 
     /// Whether a quote that is not closed made it run on over line ends to the end of the file.
-    fn runs_on(&self) -> bool {
+    pub(crate) fn runs_on(&self) -> bool {
         if self.length < self.rest.len() || !self.rest.contains(&b'\n') {
             return false;
         }
@@ -60,9 +64,14 @@ impl<'a> FileRecord<'a> {
         quotes % 2 == 1
     }
 
-    /// Whether its only field holds a byte.
-    fn is_parted_by(&self, byte: u8) -> bool {
+    /// Whether its first field holds a byte.
+    pub(crate) fn is_parted_by(&self, byte: u8) -> bool {
         self.field(0).contains(&byte)
+    }
+
+    /// Whether the file begins with a mark of UTF-16.
+    pub(crate) fn is_utf16(&self) -> bool {
+        self.is_utf16
     }
 }
 
@@ -80,7 +89,7 @@ fn fields_at(alloc: Global, bytes: &[u8]) -> Result<(ByteRecord, usize), AllocEr
 }
 
 /// `record 2, field 3 (M NUMERIC(5,2)): 8.251 has more than 2 digits behind the point`.
-pub(crate) fn write_record<W: fmt::Write>(
+pub fn write_record<W: fmt::Write>(
     f: &mut Formatter<W>,
     table: &Table,
     refused: &RefusedRecord,
@@ -196,60 +205,4 @@ fn write_too_long<W: fmt::Write>(f: &mut Formatter<W>, sql_type: SqlType) -> fmt
         SqlType::Char { length } => write!(f, "is longer than {length} characters"),
         _ => Ok(()),
     }
-}
-
-/// A hint for what may be wrong with the file.
-pub(crate) fn write_record_hint<W: fmt::Write>(
-    f: &mut Formatter<W>,
-    table: &Table,
-    refused: &RefusedRecord,
-    record: &FileRecord,
-) -> fmt::Result {
-    match hint_of(table, refused, record) {
-        Some(hint) => writeln!(f, "hint: {hint}"),
-        None => Ok(()),
-    }
-}
-
-fn hint_of(table: &Table, refused: &RefusedRecord, record: &FileRecord) -> Option<&'static str> {
-    if record.runs_on() {
-        return Some(
-            "a quote in this record is not closed, and so it runs on to the end of the file",
-        );
-    }
-    match refused.fault {
-        RecordFault::FieldCount { fields: 1 } if record.is_parted_by(b';') => {
-            Some("fields are parted by commas, and here semicolons stand")
-        }
-        RecordFault::FieldCount { fields: 1 } if record.is_parted_by(b'\t') => {
-            Some("fields are parted by commas, and here tabs stand")
-        }
-        RecordFault::Field {
-            fault: FieldFault::NoNumber,
-            column,
-        } => number_hint(table, refused, record.field(column), column),
-        _ => None,
-    }
-}
-
-/// A hint for a field that is no number.
-fn number_hint(
-    table: &Table,
-    refused: &RefusedRecord,
-    field: &[u8],
-    column: usize,
-) -> Option<&'static str> {
-    if field.is_empty() {
-        return Some("write \\N for null");
-    }
-    if refused.number != 1 || column >= table.width() {
-        return None;
-    }
-    let is_heading = table
-        .column_name(column)
-        .as_bytes()
-        .eq_ignore_ascii_case(field);
-    is_heading.then_some(
-        "this looks like a line of headings: every line of a file is loaded, so take it out",
-    )
 }

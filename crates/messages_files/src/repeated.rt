@@ -4,7 +4,7 @@ use catalog::{EarlierRow, Index, RepeatedRecord, Table};
 use std::fmt::{self, Formatter};
 
 /// `record 3 repeats the key (A, B) of record 1`.
-pub(crate) fn write_repeated<W: fmt::Write>(
+pub fn write_repeated<W: fmt::Write>(
     f: &mut Formatter<W>,
     table: &Table,
     record: &RepeatedRecord,

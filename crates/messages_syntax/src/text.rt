@@ -6,7 +6,7 @@ use lexer::{
 use std::fmt::{self, Formatter};
 
 /// What is wrong with the text.
-pub(crate) fn write_lexical<W: fmt::Write>(
+pub fn write_lexical<W: fmt::Write>(
     f: &mut Formatter<W>,
     script: &str,
     fault: LexFault,
@@ -51,7 +51,7 @@ fn stray_problem(place: StrayPlace, character: char) -> &'static str {
 }
 
 /// A hint for what was meant.
-pub(crate) fn write_lexical_hint<W: fmt::Write>(
+pub fn write_lexical_hint<W: fmt::Write>(
     f: &mut Formatter<W>,
     script: &str,
     fault: LexFault,
@@ -70,9 +70,24 @@ fn stray_hint(place: StrayPlace, character: char) -> Option<&'static str> {
         (StrayPlace::InString, _) => {
             Some("strings hold printable ASCII: A to Z, a to z, 0 to 9, punctuation and spaces")
         }
-        (StrayPlace::Apart, '"' | '\u{2018}' | '\u{2019}' | '\u{201c}' | '\u{201d}' | '\u{201e}') =>
-            { Some("strings stand in straight single quotes, as in 'Ada'") }
-        (StrayPlace::Apart, '!') => Some("not equal is <>"),
+        (StrayPlace::Apart, '"') => {
+            Some("strings stand in straight single quotes, as in 'Ada', and names without quotes")
+        }
+        (StrayPlace::Apart, '\u{2018}' | '\u{2019}' | '\u{201c}' | '\u{201d}' | '\u{201e}') => {
+            Some("strings stand in straight single quotes, as in 'Ada'")
+        }
+        (StrayPlace::Apart, '`' | '[') => Some("names stand without quotes and brackets"),
+        (StrayPlace::Apart, '#') => Some("a remark begins with -- and ends with its line"),
+        (StrayPlace::Apart, '%') => Some("the operators are + - * and /"),
+        (StrayPlace::Apart, '|') => Some("there is no ||: texts can't be put together"),
+        (StrayPlace::Apart, '&') => Some("and is AND"),
+        (StrayPlace::Apart, '!' | '\u{2260}') => Some("not equal is <>"),
+        (StrayPlace::Apart, '\u{2264}') => Some("less or equal is <="),
+        (StrayPlace::Apart, '\u{2265}') => Some("greater or equal is >="),
+        (StrayPlace::Apart, '\u{2212}' | '\u{2013}') => Some("minus is the - of the keyboard"),
+        (StrayPlace::Apart, '\u{a0}') => Some(
+            "this is a space that doesn't break; type a plain one",
+        ),
         (StrayPlace::Apart, '\u{feff}') => Some("save the script without a byte order mark"),
         (StrayPlace::Apart, _) if character.is_alphabetic() => {
             Some("names are of the letters A to Z and a to z, digits and underscores")

@@ -1,6 +1,7 @@
 //! What could have stood where a script goes wrong.
 
-use crate::suggestions::Nearest;
+use crate::dialects::hint_for;
+use crate::nearest::Nearest;
 use lexer::{TokenKind, Word};
 use messages_excerpts::Visible;
 use std::alloc::Global;
@@ -45,7 +46,7 @@ impl Display for Called {
 }
 
 /// `expected ")" or ",", found NOT`.
-pub(crate) fn write_unexpected<W: fmt::Write>(
+pub fn write_unexpected<W: fmt::Write>(
     f: &mut Formatter<W>,
     script: &str,
     unexpected: &Unexpected,
@@ -79,22 +80,26 @@ fn is_taken_in(class: TokenClass, classes: &[TokenClass]) -> bool {
 }
 
 /// That too many levels are open.
-pub(crate) fn write_too_deep<W: fmt::Write>(f: &mut Formatter<W>) -> fmt::Result {
+pub fn write_too_deep<W: fmt::Write>(f: &mut Formatter<W>) -> fmt::Result {
     write!(
         f,
         "more than {MAX_LEVELS} levels of parentheses, signs and NOTs are open here"
     )
 }
 
-/// That a reserved word is no name, or a word that is near the one that stands there.
-pub(crate) fn write_unexpected_hint<W: fmt::Write>(
+/// What was meant by a word or a sign of another dialect; or that a reserved word is no name; or a word that is near the one that stands there;
+/// or what stands between result columns.
+pub fn write_unexpected_hint<W: fmt::Write>(
     f: &mut Formatter<W>,
     alloc: Global,
     script: &str,
     unexpected: &Unexpected,
 ) -> fmt::Result {
+    if let Some(hint) = hint_for(script, unexpected) {
+        return writeln!(f, "hint: {hint}");
+    }
     match unexpected.found {
-        Some(TokenKind::Reserved(word)) if wants_name(unexpected) => {
+        Some(TokenKind::Reserved(word)) if wants_name(unexpected, word) => {
             let word = word.as_str();
             writeln!(f, "hint: {word} is a reserved word and can't be a name")
         }
@@ -105,10 +110,35 @@ pub(crate) fn write_unexpected_hint<W: fmt::Write>(
     }
 }
 
-/// Whether a name could have stood there, be it as a value.
-fn wants_name(unexpected: &Unexpected) -> bool {
+/// Whether a name could have stood there and may have been meant: where a value is wanted, words that go on with a query are no names.
+fn wants_name(unexpected: &Unexpected, word: Word) -> bool {
     let classes = unexpected.wanted.classes();
-    classes.contains(&TokenClass::Name) || classes.contains(&TokenClass::Value)
+    if classes.contains(&TokenClass::Value) {
+        return !goes_on(word);
+    }
+    classes.contains(&TokenClass::Name)
+}
+
+/// Whether a word goes on with a query.
+fn goes_on(word: Word) -> bool {
+    matches!(
+        word,
+        Word::From
+            | Word::Where
+            | Word::Group
+            | Word::Having
+            | Word::Order
+            | Word::By
+            | Word::And
+            | Word::Or
+            | Word::As
+            | Word::Is
+            | Word::In
+            | Word::Like
+            | Word::Between
+            | Word::Null
+            | Word::Select
+    )
 }
 
 /// The words that begin types.
@@ -151,7 +181,7 @@ fn write_near_word<W: fmt::Write>(
     let mut nearest = Nearest::new(alloc, found.as_str());
     for class in unexpected.wanted.classes() {
         match class {
-            TokenClass::Word(word) => nearest.offer(word.as_str()),
+            TokenClass::Word(word) => nearest.offer_word(word.as_str()),
             TokenClass::Type => offer(&mut nearest, &TYPE_WORDS),
             TokenClass::Value => offer(&mut nearest, &VALUE_WORDS),
             TokenClass::Operator => offer(&mut nearest, &OPERATOR_WORDS),
@@ -159,12 +189,20 @@ fn write_near_word<W: fmt::Write>(
             _ => {}
         }
     }
+    if nearest.name().is_none()
+        && unexpected
+            .wanted
+            .classes()
+            .contains(&TokenClass::Word(Word::As))
+    {
+        return f.write_str("hint: a comma stands between two columns, and AS before a new name\n");
+    }
     nearest.write_hint(f)
 }
 
 fn offer(nearest: &mut Nearest, words: &[Word]) {
     for word in words {
-        nearest.offer(word.as_str());
+        nearest.offer_word(word.as_str());
     }
 }
 

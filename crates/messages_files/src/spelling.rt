@@ -1,0 +1,60 @@
+//! How other programs write what is no number here.
+
+/// How a field is written that is no number.
+#[derive(Clone, Copy, PartialEq, Eq)]
+pub(crate) enum Spelling {
+    Empty,
+    /// A word that says that nothing is there.
+    Missing,
+    /// A number with a space before or behind it.
+    Spaced,
+    WithComma,
+    /// A number with a sign of a currency or %.
+    WithSign,
+    WithExponent,
+    Other,
+}
+
+pub(crate) fn spelling_of(field: &[u8]) -> Spelling {
+    if field.is_empty() {
+        return Spelling::Empty;
+    }
+    if is_missing(field) {
+        return Spelling::Missing;
+    }
+    if !has_digit(field) {
+        return Spelling::Other;
+    }
+    if matches!(field, [b' ', ..] | [.., b' ']) {
+        Spelling::Spaced
+    } else if field.contains(&b',') {
+        Spelling::WithComma
+    } else if has_sign(field) {
+        Spelling::WithSign
+    } else if field.contains(&b'e') || field.contains(&b'E') {
+        Spelling::WithExponent
+    } else {
+        Spelling::Other
+    }
+}
+
+/// Whether a sign of a currency or % stands in a field.
+fn has_sign(field: &[u8]) -> bool {
+    match str::from_utf8(field) {
+        Ok(text) => text.chars().any(|character| matches!(
+            character,
+            '$' | '%' | '\u{a3}' | '\u{a5}' | '\u{20ac}'
+        )),
+        Err(_) => false,
+    }
+}
+
+pub(crate) fn has_digit(field: &[u8]) -> bool {
+    field.iter().any(|byte| byte.is_ascii_digit())
+}
+
+/// Whether a field says that nothing is there, as other programs write it.
+fn is_missing(field: &[u8]) -> bool {
+    let words: [&[u8]; 6] = [b"\\N", b"NULL", b"NONE", b"NA", b"N/A", b"NAN"];
+    words.iter().any(|word| field.eq_ignore_ascii_case(word))
+}

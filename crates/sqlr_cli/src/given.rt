@@ -1,0 +1,126 @@
+//! What the command line names, read.
+
+use crate::standard_error::StandardError;
+use crate::{BROKEN_OFF, broken_off};
+use messages_statements::{LineColumn, Lines};
+use sqlr::requests::{Request, Source};
+use std::fs;
+use std::io::{self, Read};
+use std::rt::Runtime;
+
+/// A script, and certificates if they are to be checked.
+#[derive(Drop)]
+pub(crate) struct Given<'r> {
+    pub script_name: &'r str,
+    pub script: String,
+    pub certificates_name: &'r str,
+    pub certificates: Option<Vec<u8>>,
+}
+
+impl<'r> Given<'r> {
+    /// Reads the script first, and then the certificates, where standard input may be typed at a terminal; or gives the status to end with where one of
+    /// them can't be read.
+    pub(crate) fn read<R: Runtime + AllocGlobal>(
+        rt: &R,
+        standard_error: &StandardError<R>,
+        is_typed: bool,
+        request: &'r Request,
+    ) -> Result<Given<'r>, u8> {
+        let (Request::Run(script) | Request::Check { script, .. }) = request;
+        let script_name = name_of(script);
+        let script_bytes = read(rt, standard_error, is_typed, script)?;
+        let script = text_of(standard_error, script_name, script_bytes)?;
+        let (certificates_name, certificates) = match request {
+            Request::Run(_) => ("", None),
+            Request::Check {
+                script: Source::StandardInput,
+                certificates: Source::StandardInput,
+            } => {
+                standard_error.tell("only one of script and certificates can be standard input");
+                return Err(BROKEN_OFF);
+            }
+            Request::Check { certificates, .. } => (
+                name_of(certificates),
+                Some(read(rt, standard_error, is_typed, certificates)?),
+            ),
+        };
+        Ok(Given {
+            script_name,
+            script,
+            certificates_name,
+            certificates,
+        })
+    }
+}
+
+/// What messages call a source: standard input is called as other programs of SQL call it.
+fn name_of(source: &Source) -> &str {
+    match source {
+        Source::File(name) => name.as_str(),
+        Source::StandardInput => "<stdin>",
+    }
+}
+
+/// The bytes of a source, or the status to end with where it can't be read.
+fn read<R: Runtime + AllocGlobal>(
+    rt: &R,
+    standard_error: &StandardError<R>,
+    is_typed: bool,
+    source: &Source,
+) -> Result<Vec<u8>, u8> {
+    let bytes = match source {
+        Source::File(name) => fs::read(rt, name),
+        Source::StandardInput => read_standard_input(rt, standard_error, is_typed),
+    };
+    bytes.map_err(|reason| broken_off(standard_error, name_of(source), reason))
+}
+
+/// The bytes of standard input; where someone types them, a line says what is waited for.
+fn read_standard_input<R: Runtime + AllocGlobal>(
+    rt: &R,
+    standard_error: &StandardError<R>,
+    is_typed: bool,
+) -> io::Result<Vec<u8>> {
+    if is_typed {
+        standard_error.tell_person("reading standard input up to its end, which Ctrl-D gives");
+    }
+    let mut bytes = Vec::new(rt.alloc());
+    rt.reader().read_to_end(&mut bytes)?;
+    Ok(bytes)
+}
+
+/// The text of a script, or the status to end with where it is none.
+fn text_of<R: Runtime + AllocGlobal>(
+    standard_error: &StandardError<R>,
+    name: &str,
+    bytes: Vec<u8>,
+) -> Result<String, u8> {
+    match String::from_utf8(bytes) {
+        Ok(text) => Ok(text),
+        Err(fault) => {
+            let valid = fault.utf8_error().valid_up_to();
+            tell_not_text(standard_error, name, &fault.into_bytes(), valid);
+            Err(BROKEN_OFF)
+        }
+    }
+}
+
+/// Says which byte of a script isn't UTF-8, and in which encoding it seems to be.
+fn tell_not_text<R: Runtime + AllocGlobal>(
+    standard_error: &StandardError<R>,
+    name: &str,
+    bytes: &[u8],
+    valid: usize,
+) {
+    if let [0xff, 0xfe, ..] | [0xfe, 0xff, ..] = bytes {
+        standard_error.tell(format_args!("{name}: this is UTF-16: save it in UTF-8"));
+        return;
+    }
+    let (before, behind) = bytes.split_at(valid.min(bytes.len()));
+    let text = str::from_utf8(before).unwrap_or("");
+    let LineColumn { line, column } = Lines::new(text).locate(before.len());
+    let byte = behind.first().copied().unwrap_or(0);
+    standard_error.tell(format_args!(
+        "{name}:{line}:{column}: byte {byte:02X} is not UTF-8: save the script in UTF-8"
+    ));
+}
