@@ -5,6 +5,8 @@
    their place: the difference is what refusing and telling 1,000 times costs. It is to be at most 0.1 s.
 2. A statement of 5 MB with a fault behind it, and the same without the fault: the fault is to cost no more
    than the parse, in time and in memory at the peak. sqlite3 reads a statement of the same kind beside.
+3. A file of 300 MB that is refused, and what is wrong with all of it told, at its first record and at its last; and the same
+   file loaded. A refusal is to cost at most twice what loading takes.
 
 Processor seconds are counted, and the peak of memory as the system tells it. All output goes to files.
 """
@@ -20,6 +22,7 @@ ROUNDS = 3
 REFUSALS = 1000
 PADDING = 10_000_000 // REFUSALS
 ITEMS = 1_700_000
+RECORDS = 6_000_000
 
 
 def used(command, folder, script=None, statuses=(0,)):
@@ -48,6 +51,24 @@ def write_scripts(folder):
     (folder / "theirs.sql").write_text(f"SELECT {items}A FORM T;\n")
 
 
+def write_file(path, first, last):
+    """A file of records of four fields, of which the first and the last may be faulty."""
+    with open(path, "w") as file:
+        file.write(first)
+        for start in range(1, RECORDS, 1000):
+            file.writelines(f"{number},name of {number % 997},{number % 9973}.25,some more words on it\n" for number in range(start, start + 1000))
+        file.write(last)
+
+
+def refused_files(folder):
+    """What the same file costs where it is loaded, and where it is refused at its first or its last record."""
+    for name, first, last in (("whole", "", ""), ("first", "x,a,1.5,b\n", "y,a,1.5,b\n"), ("last", "", "x,a,1.5,b\n")):
+        write_file(folder / "rows.csv", first, last)
+        size = (folder / "rows.csv").stat().st_size / 1e6
+        (folder / "load.sql").write_text("CREATE TABLE T (A INTEGER, B CHAR(20), C NUMERIC(9,2), D CHAR(30));\nLOAD T FROM 'rows.csv';\n")
+        yield name, size, *best([PROGRAM, "run", "load.sql"], folder, statuses=(0, 1))
+
+
 def main():
     with tempfile.TemporaryDirectory() as room:
         folder = pathlib.Path(room)
@@ -59,6 +80,11 @@ def main():
         parsed, parsed_peak = best([PROGRAM, "run", "long.sql"], folder, statuses=(1,))
         faulty, faulty_peak = best([PROGRAM, "run", "faulty.sql"], folder, statuses=(1,))
         print(f"a statement of 5 MB: {parsed:.3f} s and {parsed_peak:.0f} MB; with a fault behind it {faulty:.3f} s and {faulty_peak:.0f} MB")
+        loaded = None
+        for name, size, seconds, peak in refused_files(folder):
+            loaded = loaded or seconds
+            told = "loaded" if name == "whole" else f"refused at its {name} record"
+            print(f"a file of {size:.0f} MB {told}: {seconds:.2f} s and {peak:.0f} MB, {seconds / loaded:.2f} times the first")
         theirs, theirs_peak = best(["sqlite3", ":memory:"], folder, "theirs.sql", statuses=(0, 1))
         print(f"sqlite3 on the faulty one: {theirs:.3f} s and {theirs_peak:.0f} MB; ratio {faulty / theirs:.2f}")
 

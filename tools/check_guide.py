@@ -19,9 +19,9 @@ PAGE = ROOT / "docs/FIRST_STEPS.md"
 CASES = ROOT / "cases/first_steps"
 
 # Where a message begins, as "script.sql:3:15: error E14 42000: ..", and where a line of output does that
-# says that something is refused; both with the label, which is the same in both.
-MESSAGE = re.compile(r"^(?=.+?:\d+: (error E\d\d \d{5}): )", re.MULTILINE)
-REFUSED = re.compile(r"^(?=(error E\d\d \d{5})\b)", re.MULTILINE)
+# says that something is refused or raises an exception; both with the label, which is the same in both.
+MESSAGE = re.compile(r"^(?=.+?:\d+: (error E\d\d \d{5}|exception \d{5}): )", re.MULTILINE)
+REFUSED = re.compile(r"^(?=(error E\d\d \d{5}|exception \d{5})\b)", re.MULTILINE)
 
 
 def blocks(text, faults):

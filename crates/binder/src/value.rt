@@ -52,10 +52,14 @@ pub(crate) fn value<'d, 'q: 'd>(
             })
         }
         Expr::Line { others, .. } if !are_logical(others) => chain(clause, blocks, functions, expr),
-        Expr::Scalar { query, .. } => {
+        Expr::Scalar { start, query } => {
             let (block, value_type) = column_of_query(clause, blocks, query)?;
             Ok(Typed {
-                value: ValueExpr::Subquery { block, value_type },
+                value: ValueExpr::Subquery {
+                    block,
+                    value_type,
+                    start: *start,
+                },
                 value_type,
             })
         }
@@ -65,13 +69,13 @@ pub(crate) fn value<'d, 'q: 'd>(
             Ok(aggregate_value(functions, Aggregate::CountRows, value_type)?)
         }
         Expr::Function {
+            start,
             function,
             distinct,
             argument,
-            ..
         } => {
             judge_function(clause.place, expr)?;
-            set_function(clause, functions, *function, *distinct, argument)
+            set_function(clause, functions, *function, *distinct, *start, argument)
         }
         _ => Err(BindFault::Refused(QueryFault::ConditionForValue(expr))),
     }
@@ -104,6 +108,7 @@ fn chain<'d, 'q: 'd>(
         scale = joined_scale(scale, operand, right)?;
         joined.push(BoundOperand {
             operator: operator(operand.operator),
+            start: operand.start,
             value: typed.value,
         })?;
     }
@@ -123,6 +128,7 @@ fn set_function<'d, 'q: 'd>(
     functions: &mut Vec<Aggregate>,
     function: SetFunction,
     distinct: bool,
+    start: usize,
     argument: &'q Expr,
 ) -> Result<Typed, BindFault<'q>>
     requires sight { InSight clause.now.database.now clause.now.scopes.now }
@@ -143,6 +149,7 @@ fn set_function<'d, 'q: 'd>(
     let bound = Aggregate::OfValues {
         function,
         distinct,
+        start,
         argument: typed.value,
     };
     Ok(aggregate_value(functions, bound, value_type)?)

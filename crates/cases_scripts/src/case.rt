@@ -24,6 +24,8 @@ pub struct Run {
     pub script: String,
     pub certificates: Option<Vec<u8>>,
     pub output: Vec<u8>,
+    /// Whether all messages are compared, those on exceptions too; else no statement is refused.
+    pub has_messages: bool,
     pub messages: Vec<u8>,
     /// The line of the session's work behind it, where that is compared.
     pub work: Option<String>,
@@ -200,6 +202,7 @@ impl Draft {
             script,
             certificates,
             output,
+            has_messages: messages.is_some(),
             messages: messages.unwrap_or(Vec::new(alloc)),
             work,
             status,

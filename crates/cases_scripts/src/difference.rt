@@ -4,7 +4,7 @@ use crate::case::{Case, Run};
 use sqlr::{Library, Session, status};
 use std::alloc::{AllocError, Global};
 use std::fmt::{self, Display, Formatter};
-use tests_devices::{File, Part, Shelf, check, run};
+use tests_devices::{File, Part, Ran, Shelf, check, run};
 
 /// What differs.
 #[derive(Clone, Copy, Debug)]
@@ -83,21 +83,27 @@ fn compare<L: Library>(
 ) -> Result<(), AllocError> {
     let part = Part::whole(&expected.script);
     let tape = Vec::new(alloc);
-    let ran = match &expected.certificates {
+    let Ran {
+        end,
+        printed,
+        messages,
+        refusals,
+    } = match &expected.certificates {
         Some(bytes) => check(alloc, session, tape, part, bytes),
         None => run(alloc, session, tape, part),
     };
+    let messages = if expected.has_messages {
+        messages
+    } else {
+        refusals
+    };
     let worked = format!(in alloc; "{}\n", session.work())?;
     let texts = [
-        (
-            What::Output,
-            expected.output.as_slice(),
-            ran.printed.as_slice(),
-        ),
+        (What::Output, expected.output.as_slice(), printed.as_slice()),
         (
             What::Messages,
             expected.messages.as_slice(),
-            ran.messages.as_bytes(),
+            messages.as_bytes(),
         ),
         (
             What::Work,
@@ -115,7 +121,7 @@ fn compare<L: Library>(
             })?;
         }
     }
-    let ended = status(&ran.end);
+    let ended = status(&end);
     if ended != expected.status {
         found.push(Difference {
             script,

@@ -1,5 +1,5 @@
 -- A table's rows are those across its columns.
-use Rattle.std.proofs.Common.{◌≡◌, ◌∙◌, refl, sym, ap, ℕ, zero, suc, ◌+◌, ◌<◌, ◌≤◌, List, [], ◌∷◌, Option, Some, None, Bool, true, false, cond, length, map, drop, get_or, arith}
+use Rattle.std.proofs.Common.{◌≡◌, ◌∙◌, refl, sym, ap, ℕ, zero, suc, ◌+◌, ◌<◌, ◌≤◌, List, [], ◌∷◌, Option, Some, None, Bool, true, false, cond, length, map, drop, get_or, slice_get, IfSome, arith}
 use Rattle.std.specs.List.{AllByRecursion, position_from}
 use Rattle.std.proofs.lemmas.List.{length-map, drop_more, drop_all}
 use Rattle.definitions.specs.Value.{Null, IsType}
@@ -50,6 +50,11 @@ pub whole_in_table : (cs : List StoredColumn) (is : List StoredIndex) (n : ℕ) 
 whole_in_table cs is n t o = rw (o.columns, o.rows) (rows_as_long n cs)
 
 -- the type of each column is one that columns may have
+pub header_holds : (P : Column → Type 0) (cs : List StoredColumn) (i : ℕ) (x : StoredColumn) → i < length cs → x ≡ get_or cs i x → P x.header → IfSome (slice_get (headers cs) i) P
+header_holds P [] i x l e p = absurd (omega (arith, l))
+header_holds P (c ∷ cs) zero x l e p = let own = rw e at p in own
+header_holds P (c ∷ cs) (suc i) x l e p = header_holds P cs i x (omega (arith, l)) e p
+
 pub type_at : (cs : List StoredColumn) (i : ℕ) (x : StoredColumn) → AllByRecursion (λ (c : Column). IsType c.type) (headers cs) → i < length cs → x ≡ get_or cs i x → IsType x.header.type
 type_at [] i x h l e = absurd (omega (arith, l))
 type_at (c ∷ cs) zero x h l e = rw e h.0

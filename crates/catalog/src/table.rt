@@ -1,13 +1,16 @@
 //! A table: its columns, rows, indexes and statistics, and how rows are read and loaded.
 
-ghost use Rattle.std.specs.Prelude.{Bool, ◌≡◌, ◌<◌, ◌≤◌, ◌+◌, ◌↔◌, Some, None, IsNone, IfOk, IfErr, OnOk, OnErr, IfSome, length, map, bytes_eq, option_map, slice_get};
+ghost use Rattle.std.specs.Prelude.{Bool, ◌≡◌, ◌<◌, ◌≤◌, ◌+◌, ◌↔◌, Some, None, Ok, Err, IsNone, IfOk, IfErr, OnOk, OnErr, IfSome, length, map, bytes_eq, option_map, slice_get};
 ghost use Rattle.std.specs.List.{AllByRecursion, position_from};
 ghost use Rattle.definitions.specs.Limits.{most_index_columns, most_rows};
 ghost use Rattle.definitions.specs.Table as spec;
 ghost use Rattle.definitions.specs.Change as change;
+ghost use Rattle.definitions.specs.Loading.{ColumnLoads};
 ghost use Rattle.definitions.specs.Statistics.{row_width};
 ghost use Rattle.definitions.specs.Invariant.{IsCount, IsPageCount, IsTable};
+ghost use Rattle.definitions.specs.Value as values;
 ghost use Rattle.definitions.specs.Value.{IsType};
+ghost use Rattle.loading.specs.Meaning.{record_refusal};
 ghost use Rattle.catalog.specs.Places.{IsColumnPlace};
 ghost use Rattle.definitions.specs.Scanning.{true_word, unknown_word};
 ghost use Rattle.sqlvalue.specs.Meaning.{op_of, type_of, value_of};
@@ -20,7 +23,7 @@ use crate::fault::{
 use crate::growth::{Grown, grow};
 use crate::naming::{Named, Names, second_twin};
 use indexes::{Index, TableStatistics, UniqueFault, row_width};
-use loading::{TableColumn, cut_columns};
+use loading::{RecordFault, TableColumn, cut_columns};
 use parse_tree::{ColumnDefinition, Constraint, Name};
 use sqlvalue::{ComparisonOperator, SqlType, Value};
 use std::alloc::Global;
@@ -165,6 +168,17 @@ impl Table {
             ≡ Some (constraint_of result) }
     {
         self.columns[column].constraint()
+    }
+
+    /// Why a field does not load into a column, if it does not: what LOAD tells of its record, if the fields before it load (own).
+    pub fn judge_field(&self, column: usize, field: &[u8]) -> Option<RecordFault>
+        requires { column < length self.now.columns }
+        ensures refused { IfSome result (λ f. IfSome (slice_get self.now.columns column)
+            (λ c. ColumnLoads c field.now (Err (record_refusal f)))) }
+        ensures loads { IfSome (slice_get self.now.columns column)
+            (λ c. IsNone result → (v : values.Value) × ColumnLoads c field.now (Ok v)) }
+    {
+        self.columns[column].judge(column, field)
     }
 
     /// The value in a row and a column.

@@ -32,7 +32,7 @@ use Rattle.plan_tree.specs.Plans.{plan_of}
 use Rattle.scans.specs.Composites.{numbers_in}
 use Rattle.scans.specs.declared.composite.Composite as code
 use Rattle.scans.specs.Sources.{block_in, stored_in, BlockSource, IsSurrounded}
-use Rattle.sqlvalue.specs.declared.arithmetic.Raise.{Raise}
+use Rattle.sqlvalue.specs.declared.raise.Raise.{Raise}
 use Rattle.subqueries.specs.Found.{said_in}
 use Rattle.subqueries.specs.Framed.{combination_in}
 use Rattle.executor.specs.Groups.{seen, AreTyped}

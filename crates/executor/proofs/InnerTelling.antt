@@ -37,7 +37,7 @@ use Rattle.scans.specs.Composites.{numbers_in}
 use Rattle.scans.specs.Sources.{block_in, context_in}
 use Rattle.scans.specs.declared.composite.Composite.{Composite}
 use Rattle.sqlvalue.specs.Raises.{raise_of}
-use Rattle.sqlvalue.specs.declared.arithmetic.Raise.{Raise}
+use Rattle.sqlvalue.specs.declared.raise.Raise.{Raise}
 use Rattle.subqueries.specs.Found.{said_in}
 use Rattle.subqueries.specs.Framed.{combination_in}
 use Rattle.subqueries.specs.Keeping.{told_by}

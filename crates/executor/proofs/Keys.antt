@@ -10,7 +10,7 @@ use Rattle.definitions.specs.Queries.BoundBlock as b
 use Rattle.definitions.specs.Queries.Conjuncts.{is_empty}
 use Rattle.query_tree.specs.Bound.{key_of}
 use Rattle.query_tree.specs.declared.block.Key.{Key}
-use Rattle.sqlvalue.specs.declared.arithmetic.Raise.{Raise}
+use Rattle.sqlvalue.specs.declared.raise.Raise.{Raise}
 use Rattle.executor.specs.Telling.{Holds, TellsBy}
 use Rattle.executor.specs.declared.result_rows.ResultRows.{ResultRows}
 

@@ -23,7 +23,7 @@ use Rattle.scans.specs.Composites.{numbers_in}
 use Rattle.scans.specs.declared.composite.Composite as code
 use Rattle.scans.specs.Sources.{block_in}
 use Rattle.sqlvalue.specs.Raises.{raise_of}
-use Rattle.sqlvalue.specs.declared.arithmetic.Raise.{Raise}
+use Rattle.sqlvalue.specs.declared.raise.Raise.{Raise}
 use Rattle.grouping.specs.Faults.{IfRaised}
 use Rattle.grouping.specs.declared.fault.AnswerFault.{AnswerFault}
 use Rattle.grouping.proofs.Faults.{raised_weaker}

@@ -10,7 +10,7 @@ use Rattle.definitions_execution.specs.TypedCombinations.{IsTypedCombination}
 use Rattle.definitions_answers.specs.Groups.{in_one_group}
 use Rattle.definitions_answers.specs.GroupRows.{group_raises, group_rows}
 use Rattle.sqlvalue.specs.Raises.{raise_of}
-use Rattle.sqlvalue.specs.declared.arithmetic.Raise.{Raise}
+use Rattle.sqlvalue.specs.declared.raise.Raise.{Raise}
 use Rattle.scans.specs.Composites.{numbers_in}
 use Rattle.scans.specs.declared.composite.Composite as code
 use Rattle.scans.specs.Sources.{BlockSource, block_in, context_in}

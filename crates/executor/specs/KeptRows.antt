@@ -5,7 +5,7 @@ use Rattle.definitions.specs.Table.{Row}
 use Rattle.definitions.specs.Queries.Evaluation.{Combination}
 use Rattle.definitions_answers.specs.Plain.{late_raises}
 use Rattle.sqlvalue.specs.Raises.{raise_of}
-use Rattle.sqlvalue.specs.declared.arithmetic.Raise.{Raise}
+use Rattle.sqlvalue.specs.declared.raise.Raise.{Raise}
 use Rattle.scans.specs.Sources.{BlockSource, block_in}
 use Rattle.executor.specs.BlockRows.{HaveTaken}
 use Rattle.executor.specs.Telling.{context_with}

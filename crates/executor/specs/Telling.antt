@@ -9,7 +9,7 @@ use Rattle.definitions.specs.Queries.Combinations.{Context, passing}
 use Rattle.definitions.specs.Queries.Answer.{block_answer, distinct_rows}
 use Rattle.definitions.specs.Queries.Outcomes.{Allowed, Told}
 use Rattle.sqlvalue.specs.Raises.{raise_of}
-use Rattle.sqlvalue.specs.declared.arithmetic.Raise.{Raise}
+use Rattle.sqlvalue.specs.declared.raise.Raise.{Raise}
 use Rattle.definitions_execution.specs.Stored.{Composite}
 use Rattle.definitions_execution.specs.OfBlock.{combination_of}
 use Rattle.scans.specs.Sources.{BlockSource, block_in, context_in}

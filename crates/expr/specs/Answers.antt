@@ -13,7 +13,7 @@ use Rattle.sqlvalue.specs.Truths.{truth_of}
 use Rattle.sqlvalue.specs.declared.truth.Tri.{Tri}
 use Rattle.definitions.specs.Truth.{Truth}
 use Rattle.sqlvalue.specs.declared.value.Value.{Value}
-use Rattle.sqlvalue.specs.declared.arithmetic.Raise.{Raise}
+use Rattle.sqlvalue.specs.declared.raise.Raise.{Raise}
 use Rattle.definitions.specs.ValueType.{ValueType}
 use Rattle.definitions.specs.Queries.BoundBlock as b
 use Rattle.definitions.specs.Queries.BoundTypes.{value_type}

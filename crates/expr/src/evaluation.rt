@@ -46,11 +46,16 @@ fn evaluate<'a, S: Environment>(expr: &'a ValueExpr, env: &'a S) -> Result<Value
         ValueExpr::Chain { first, others } => {
             let mut left = evaluate(first, env);
             for operand in others {
-                left = apply_operator(operand.operator, left, evaluate(&operand.value, env));
+                left = apply_operator(
+                    operand.operator,
+                    operand.start,
+                    left,
+                    evaluate(&operand.value, env),
+                );
             }
             left
         }
         ValueExpr::AggregateValue { number, .. } => env.aggregate_value(*number),
-        ValueExpr::Subquery { block, .. } => only_value(env.first_values(*block)),
+        ValueExpr::Subquery { block, start, .. } => only_value(env.first_values(*block), *start),
     }
 }

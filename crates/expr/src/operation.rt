@@ -13,7 +13,7 @@ ghost use Rattle.query_tree.specs.Bound.{operator_of};
 ghost use Rattle.expr.specs.Answers.{answer_of, values_answer_of, FitsOperator, FitsBoth};
 
 use query_tree::Operator;
-use sqlvalue::{Num, OwnedValue, Raise, Value, add, div, mul, sub};
+use sqlvalue::{Exception, Num, OwnedValue, Raise, Value, add, div, mul, sub};
 
 /// A value under a sign: minus, or else plus (ISO/IEC 9075:1992, 6.12).
 pub(crate) fn apply_sign<'a>(
@@ -30,9 +30,10 @@ pub(crate) fn apply_sign<'a>(
 }
 
 /// Two operands with an operator between them: null where one is null (ISO/IEC 9075:1992, 6.12). Of two that raise, the
-/// left one is told.
+/// left one is told; where the operation itself raises, the operator's place is.
 pub(crate) fn apply_operator<'a>(
     operator: Operator,
+    place: usize,
     left: Result<Value<'a>, Raise>,
     right: Result<Value<'a>, Raise>,
 ) -> Result<Value<'a>, Raise>
@@ -43,14 +44,14 @@ pub(crate) fn apply_operator<'a>(
     match (left, right) {
         (Ok(Value::Num(a)), Ok(Value::Num(b))) => match calculate(operator, a, b) {
             Ok(number) => Ok(Value::Num(number)),
-            Err(raise) => Err(raise),
+            Err(exception) => Err(Raise { exception, place }),
         },
         (Ok(_), Ok(_)) => Ok(Value::Null),
         (Err(raise), _) | (Ok(_), Err(raise)) => Err(raise),
     }
 }
 
-fn calculate(operator: Operator, a: Num, b: Num) -> Result<Num, Raise>
+fn calculate(operator: Operator, a: Num, b: Num) -> Result<Num, Exception>
     requires { FitsOperator (operator_of operator) (value_of (v.Num a)) (value_of (v.Num b)) }
     ensures { meaning_of result ≡ meaning.operation (operator_of operator) (number_of a) (number_of b) }
 {
@@ -62,16 +63,22 @@ fn calculate(operator: Operator, a: Num, b: Num) -> Result<Num, Raise>
     }
 }
 
-/// A subquery as a value, by the first values of its rows: null of no row, an exception of more than one
+/// A subquery at a place as a value, by the first values of its rows: null of no row, an exception of more than one
 /// (ISO/IEC 9075:1992, 7.11).
-pub(crate) fn only_value<'a>(rows: Result<&'a [OwnedValue], Raise>) -> Result<Value<'a>, Raise>
+pub(crate) fn only_value<'a>(
+    rows: Result<&'a [OwnedValue], Raise>,
+    place: usize,
+) -> Result<Value<'a>, Raise>
     ensures { (m : Meaning (List Row)) → MayAnswer (meaning.on_one meaning.column_values m)
         (values_answer_of rows.entry) → MayAnswer (meaning.and_then meaning.only_value m) (answer_of result) }
 {
     match rows {
         Ok([]) => Ok(Value::Null),
         Ok([own]) => Ok(own.value()),
-        Ok(_) => Err(Raise::Cardinality),
+        Ok(_) => Err(Raise {
+            exception: Exception::Cardinality,
+            place,
+        }),
         Err(raise) => Err(raise),
     }
 }

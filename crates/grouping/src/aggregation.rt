@@ -79,12 +79,12 @@ impl Aggregation {
         }
     }
 
-    /// The function's value, or what it raises.
-    pub fn end(&self) -> Result<Value<'_>, Raise>
+    /// The function's value, or what it raises at its place.
+    pub fn end(&self, place: usize) -> Result<Value<'_>, Raise>
         ensures { (shape : Shape) (vs : List spec.Value) → Sums (function_of self.now.running.function) shape →
             AllByRecursion (IsThere shape) vs → Aggregates shape vs self.now →
             MayEnd (aggregate (function_of self.now.running.function) (chosen (is_some self.now.seen) vs)) result }
     {
-        self.running.end()
+        self.running.end(place)
     }
 }

@@ -1,18 +1,20 @@
 //! A column of a table: its name, its type, its constraint and its values.
 
-ghost use Rattle.std.specs.Prelude.{◌≡◌, ◌<◌, ◌≤◌, ◌+◌, [], Ok, Err, IfOk, IfErr, OnOk, OnErr, length, slice_index_or};
+ghost use Rattle.std.specs.Prelude.{◌≡◌, ◌<◌, ◌≤◌, ◌+◌, [], Ok, Err, IfOk, IfErr, IfSome, IsNone, OnOk, OnErr, length, slice_index_or};
 ghost use Rattle.columns.specs.Columns.{cells_of};
 ghost use Rattle.definitions.specs.Value as spec;
-ghost use Rattle.definitions.specs.Loading.{FieldLoads};
+ghost use Rattle.definitions.specs.Loading.{ColumnLoads, FieldLoads};
 ghost use Rattle.definitions.specs.Scanning.{part_of, true_word, unknown_word};
 ghost use Rattle.definitions.specs.Table.{may_be_null};
 ghost use Rattle.sqlvalue.specs.RefusalMeaning.{field_error_of};
 ghost use Rattle.sqlvalue.specs.Meaning.{op_of, type_of, value_of};
 ghost use Rattle.parse_tree.specs.Trees.{constraint_of};
+ghost use Rattle.loading.specs.Meaning.{record_refusal};
 ghost use Rattle.loading.specs.Stored.{named, with_value, cut_to};
 
 use crate::cells;
-use crate::fault::PushFault;
+use crate::fault::{PushFault, RecordFault};
+use crate::field::is_null;
 use parse_tree::Constraint;
 use sqlvalue::{ComparisonOperator, FieldFault, SqlType, Value};
 use std::alloc::{AllocError, Global};
@@ -128,6 +130,32 @@ impl TableColumn {
         ensures err { OnErr result (self.new ≡ self.old) }
     {
         cells::push_field(&mut self.cells, field)
+    }
+
+    /// Why a field does not load into the column, which has this number, if it does not: what is told of its record, if the fields
+    /// before it load (own).
+    pub fn judge(&self, number: usize, field: &[u8]) -> Option<RecordFault>
+        ensures refused { IfSome result (λ f. ColumnLoads self.now.header field.now (Err (record_refusal f))) }
+        ensures loads { IsNone result → (v : spec.Value) × ColumnLoads self.now.header field.now (Ok v) }
+    {
+        if !self.may_be_null() && is_null(field) {
+            return Some(RecordFault::Null { column: number });
+        }
+        match self.field_fault(field) {
+            Some(fault) => Some(RecordFault::Field {
+                fault,
+                column: number,
+            }),
+            None => None,
+        }
+    }
+
+    /// Why a field is stored as no value of the column's type, if it isn't.
+    fn field_fault(&self, field: &[u8]) -> Option<FieldFault>
+        ensures refused { IfSome result (λ f. FieldLoads self.now.header.type field.now (Err (field_error_of f))) }
+        ensures loads { IsNone result → (v : spec.Value) × FieldLoads self.now.header.type field.now (Ok v) }
+    {
+        cells::field_fault(&self.cells, field)
     }
 
     /// Keeps the first values alone, as many as `rows`.

@@ -64,7 +64,7 @@ fn number_hint(
         Spelling::Empty | Spelling::Missing => Some("write \\N for null"),
         _ if refused.number == 1 && is_heading(table, record, column) => Some(HEADINGS),
         Spelling::Spaced => Some("no space stands before or behind a number"),
-        Spelling::WithComma => Some("a number has a point and no commas, as 1200.5"),
+        Spelling::WithComma => Some("a number is written without commas, as 1200 or 8.5"),
         Spelling::WithSign => Some("a number stands alone, with no sign of a currency and no %"),
         Spelling::WithExponent => Some("a number has no exponent: write it out"),
         Spelling::Other => None,

@@ -43,7 +43,7 @@ impl<'a> FileRecord<'a> {
             fields,
             rest,
             length,
-            is_utf16: matches!(bytes, [0xff, 0xfe, ..] | [0xfe, 0xff, ..]),
+            is_utf16: is_utf16(bytes),
         }
     }
 
@@ -73,6 +73,11 @@ impl<'a> FileRecord<'a> {
     pub(crate) fn is_utf16(&self) -> bool {
         self.is_utf16
     }
+}
+
+/// Whether bytes begin with a mark of UTF-16.
+pub(crate) fn is_utf16(bytes: &[u8]) -> bool {
+    matches!(bytes, [0xff, 0xfe, ..] | [0xfe, 0xff, ..])
 }
 
 /// The first record of some bytes, and how many bytes it takes.

@@ -4,12 +4,14 @@
 #![tactic(auto)]
 
 mod create;
+mod exceptions;
 mod index;
 mod list;
 mod places;
 mod report;
 mod statistics;
 
+pub use exceptions::ExceptionReport;
 pub use messages_certificates::FileReport;
 pub use messages_excerpts::{LineColumn, Lines};
 pub use report::{Report, Reporter};

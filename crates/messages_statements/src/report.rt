@@ -6,6 +6,7 @@ ghost use Rattle.definitions.specs.Binding.Formed.{IsFormedSomewhere};
 ghost use Rattle.query_tree.specs.Bound.{block_of};
 
 use crate::create::write_create;
+use crate::exceptions::ExceptionReport;
 use crate::index::write_index;
 use crate::list::write_list_hint;
 use crate::places::offset_of;
@@ -16,12 +17,13 @@ use catalog::{
 };
 use messages_certificates::FileReport;
 use messages_excerpts::{LineColumn, Lines, write_excerpt};
-use messages_files::{FileRecord, write_record, write_record_hint, write_repeated};
+use messages_files::{FileRecord, write_record, write_record_hint, write_repeated, write_survey};
 use messages_queries::{QueryWords, write_near_table};
 use messages_syntax::{
     write_lexical, write_lexical_hint, write_too_deep, write_unexpected, write_unexpected_hint,
 };
 use sqlr::{Cause, CheckedFile, ColumnList, FileLoad, Refused};
+use sqlvalue::Raise;
 use std::alloc::Global;
 use std::fmt::{self, Display, Formatter};
 use syntax::{Name, Select};
@@ -63,6 +65,20 @@ impl<'a> Reporter<'a> {
             place: self.lines.locate(offset),
             refused,
             database,
+        }
+    }
+
+    /// The message on an exception.
+    pub fn report_exception<'r>(&mut self, raise: Raise) -> ExceptionReport<'r>
+    where
+        'a: 'r,
+    {
+        ExceptionReport {
+            script_name: self.script_name,
+            script: self.lines.script(),
+            offset: raise.place,
+            place: self.lines.locate(raise.place),
+            exception: raise.exception,
         }
     }
 
@@ -210,7 +226,8 @@ impl Report<'_> {
         };
         write_record(f, table, refused, &record)?;
         self.write_load(f)?;
-        write_record_hint(f, table, refused, &record)
+        write_record_hint(f, table, refused, &record)?;
+        write_survey(f, self.alloc, table, &load.bytes)
     }
 
     fn write_repeated<W: fmt::Write>(

@@ -42,8 +42,8 @@ of_chain a xs = ap value_of (sym (w.rolls-Chain a xs)) ∙ folds.fold-roll-Value
 pub of_set_value : (n t : _) → value_of (e.AggregateValue n t) ≡ spec.AggregateValue n (value_type_of t)
 of_set_value n t = ap value_of (sym (w.rolls-AggregateValue n t)) ∙ folds.fold-roll-ValueExpr spec.ValueExpr OperandTree value_layer operand_layer (o.AggregateValue n t)
 
-pub of_subquery : (b t : _) → value_of (e.Subquery b t) ≡ spec.Subquery b (value_type_of t)
-of_subquery b t = ap value_of (sym (w.rolls-Subquery b t)) ∙ folds.fold-roll-ValueExpr spec.ValueExpr OperandTree value_layer operand_layer (o.Subquery b t)
+pub of_subquery : (b t s : _) → value_of (e.Subquery b t s) ≡ spec.Subquery b (value_type_of t)
+of_subquery b t s = ap value_of (sym (w.rolls-Subquery b t s)) ∙ folds.fold-roll-ValueExpr spec.ValueExpr OperandTree value_layer operand_layer (o.Subquery b t s)
 
 pub of_operand : (x : Operand) → operand_of x ≡ (operator_of x.operator, value_of x.value)
 of_operand x = folds.fold_out-Operand spec.ValueExpr OperandTree value_layer operand_layer x ∙ ap (λ z. operand_layer (folds.map-Operand _ _ _ _ value_of operand_of z)) (v.outs-struct-Operand x)

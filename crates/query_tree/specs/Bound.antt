@@ -59,7 +59,7 @@ value_layer (e.Text t) = spec.String (string_bytes t)
 value_layer (e.Signed minus a) = spec.Signed minus a.value
 value_layer (e.Chain first others) = spec.Chain first.value (operands others.items)
 value_layer (e.AggregateValue number type) = spec.AggregateValue number (value_type_of type)
-value_layer (e.Subquery block type) = spec.Subquery block (value_type_of type)
+value_layer (e.Subquery block type start) = spec.Subquery block (value_type_of type)
 
 abbrev pub operand_layer : Operand-F spec.ValueExpr OperandTree → OperandTree
 operand_layer x = (operator_of x.operator, x.value)
@@ -99,7 +99,7 @@ condition_of = fold-Condition spec.Condition condition_layer
 
 abbrev pub bound_function_of : Aggregate → spec.Aggregate
 bound_function_of f.CountRows = spec.CountRows
-bound_function_of (f.OfValues function distinct argument) = spec.OfValues (function_of function) distinct (value_of argument)
+bound_function_of (f.OfValues function distinct start argument) = spec.OfValues (function_of function) distinct (value_of argument)
 
 abbrev pub item_of : Item → spec.Item
 item_of i = record { name = string_bytes i.name; value = value_of i.value }

@@ -5,13 +5,14 @@ use crate::leaf::BlockColumn;
 use crate::value::ValueExpr;
 use parse_tree::SetFunction;
 
-/// `COUNT(*)`, or a set function of an argument's values (ISO/IEC 9075:1992, 6.5).
+/// `COUNT(*)`, or a set function of an argument's values, which stands at `start` in the script (ISO/IEC 9075:1992, 6.5).
 #[derive(Drop)]
 pub enum Aggregate {
     CountRows,
     OfValues {
         function: SetFunction,
         distinct: bool,
+        start: usize,
         argument: ValueExpr,
     },
 }

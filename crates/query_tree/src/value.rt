@@ -35,17 +35,19 @@ pub enum ValueExpr {
         number: usize,
         value_type: ValueType,
     },
-    /// A subquery as a value, by its block's number.
+    /// A subquery as a value, by its block's number; `start` is where it stands in the script.
     Subquery {
         block: usize,
         value_type: ValueType,
+        start: usize,
     },
 }
 
-/// An operand behind the first of a line, and the operator before it.
+/// An operand behind the first of a line, and the operator before it, which stands at `start` in the script.
 #[cycle(value)]
 #[derive(Drop)]
 pub struct Operand {
     pub operator: Operator,
+    pub start: usize,
     pub value: ValueExpr,
 }

@@ -5,7 +5,7 @@ use catalog::{
     CreateFault, IndexFault, RefusedRecord, RepeatedRecord, StatisticsFault, TableStatisticsFault,
 };
 use lexer::LexFault;
-use sqlvalue::Refusal;
+use sqlvalue::{Raise, Refusal};
 use syntax::{ColumnDefinition, Count, IndexStatistics, Name, Select, StringLiteral, Unexpected};
 
 /// A refusal and its cause.
@@ -13,6 +13,13 @@ use syntax::{ColumnDefinition, Count, IndexStatistics, Name, Select, StringLiter
 pub struct Refused<'a> {
     pub refusal: Refusal,
     pub cause: Cause<'a>,
+}
+
+/// What is told of a statement beside its line.
+#[derive(Drop)]
+pub(crate) enum Told<'a> {
+    Refused(Refused<'a>),
+    Raised(Raise),
 }
 
 /// Why a script, or one of its statements, is refused. Names and literals tell where they stand in the

@@ -173,7 +173,7 @@ fn put_refused<S: Sink>(
     ensures failed { OnErr result (S.failures sink.old < S.failures sink.new) }
     ensures unfailed { OnOk result (S.failures sink.new ≡ S.failures sink.old) }
 {
-    tell_cause(sink, &printed.refused, database);
+    tell_cause(sink, &printed.told, database);
     put_text(&printed.text, printed.ended, sink)
 }
 

@@ -9,17 +9,18 @@ ghost use Rattle.sqlr.specs.declared.ended.Ended.TheVariants as ended;
 ghost use Rattle.sqlr.specs.Outcomes.{Tells};
 ghost use Rattle.sqlr.specs.declared.outcome.StepFault.TheVariants as fault;
 
-use crate::cause::{Cause, Refused};
+use crate::cause::{Cause, Refused, Told};
 use crate::ended::Ended;
 use sqlvalue::{Raise, Refusal, write_exception, write_record_refusal, write_refusal};
 use std::alloc::{AllocError, Global};
 
-/// What a statement prints, how it ended, why it is refused, if it is, and the work of a SELECT that printed rows: how many it opened.
+/// What a statement prints, how it ended, what is told of it, if it is refused or raises an exception, and the work of a SELECT that
+/// printed rows: how many it opened.
 #[derive(Drop)]
 pub struct Printed<'a> {
     pub text: Vec<u8>,
     pub ended: Ended,
-    pub refused: Option<Refused<'a>>,
+    pub told: Option<Told<'a>>,
     pub work: Option<u64>,
 }
 
@@ -47,7 +48,7 @@ pub fn done<'a>(text: Vec<u8>) -> Printed<'a>
     Printed {
         text,
         ended: Ended::Well,
-        refused: None,
+        told: None,
         work: None,
     }
 }
@@ -64,7 +65,7 @@ pub fn exception_line<'a>(alloc: Global, raise: Raise) -> Result<Printed<'a>, St
     Ok(Printed {
         text,
         ended: Ended::Faulted,
-        refused: None,
+        told: Some(Told::Raised(raise)),
         work: None,
     })
 }
@@ -85,7 +86,7 @@ pub fn refusal_line<'a>(
     Ok(Printed {
         text,
         ended: Ended::Faulted,
-        refused: Some(Refused { refusal, cause }),
+        told: Some(Told::Refused(Refused { refusal, cause })),
         work: None,
     })
 }
@@ -121,7 +122,7 @@ pub fn refused_record<'a>(
     Ok(Printed {
         text,
         ended: Ended::Faulted,
-        refused: Some(Refused { refusal, cause }),
+        told: Some(Told::Refused(Refused { refusal, cause })),
         work: None,
     })
 }

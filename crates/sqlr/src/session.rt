@@ -12,7 +12,7 @@ ghost use Rattle.sqlr.specs.declared.outcome.StepFault.TheVariants as fault;
 ghost use Rattle.sqlr.specs.Devices.{Took};
 ghost use Rattle.sqlr.specs.Sessions.{BreaksAt, BreaksIn, BreaksLine, BreaksOff, IsBoth, IsLibraryBlamed, IsSinkBlamed, IsStepBlamed, Prints, Runs, RunsAll, Takes, TakesBytes};
 
-use crate::cause::{Cause, FileLoad, Refused};
+use crate::cause::{Cause, FileLoad, Told};
 use crate::changes::{create_index, create_table, set_index_statistics, set_table_statistics};
 use crate::ended::{Ended, RunFault};
 use crate::explaining::explain;
@@ -142,7 +142,7 @@ impl<L: Library> Session<L> {
                 Err(StepFault::Memory) => return Err(RunFault::Memory { offset }),
                 Err(StepFault::Library) => return Err(RunFault::Library { offset }),
             };
-            tell_cause(sink, &printed.refused, &self.database);
+            tell_cause(sink, &printed.told, &self.database);
             match sink.put(&printed.text) {
                 Ok(()) => {}
                 Err(_) => return Err(RunFault::Sink),
@@ -249,13 +249,15 @@ impl<L: Library> Session<L> {
     }
 }
 
-/// Tells a sink why a statement is refused, if it is.
-pub(crate) fn tell_cause<S: Sink>(sink: &mut S, refused: &Option<Refused>, database: &Database)
+/// Tells a sink why a statement is refused, or that it raises an exception, if it is or does.
+pub(crate) fn tell_cause<S: Sink>(sink: &mut S, told: &Option<Told>, database: &Database)
     ensures taken { S.taken sink.new ≡ S.taken sink.old }
     ensures counted { S.failures sink.new ≡ S.failures sink.old }
 {
-    if let Some(refused) = refused {
-        sink.report(refused, database);
+    match told {
+        Some(Told::Refused(refused)) => sink.report(refused, database),
+        Some(Told::Raised(raise)) => sink.report_exception(*raise),
+        None => {}
     }
 }
 

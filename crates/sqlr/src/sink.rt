@@ -9,6 +9,7 @@ ghost use Rattle.sqlr.specs.Devices.{Took, TookBeginning};
 use crate::cause::Refused;
 use crate::checked::CheckedFile;
 use catalog::Database;
+use sqlvalue::Raise;
 use thiserror::Error;
 
 /// Takes what is printed.
@@ -29,6 +30,12 @@ pub trait Sink {
     /// Is told why a script or a statement is refused, before its line is put, with the database that it
     /// was refused over (own). It does nothing, unless a sink has another body.
     fn report(&mut self, _refused: &Refused, _database: &Database)
+        ensures taken { taken self.new ≡ taken self.old }
+        ensures counted { failures self.new ≡ failures self.old }
+    {}
+
+    /// Is told of an exception that a query raises and of what raised it, before its line is put (own). It does nothing, unless a sink has another body.
+    fn report_exception(&mut self, _raise: Raise)
         ensures taken { taken self.new ≡ taken self.old }
         ensures counted { failures self.new ≡ failures self.old }
     {}

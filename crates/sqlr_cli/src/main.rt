@@ -126,7 +126,7 @@ fn do_request<'a, F: Ledger, P: Ledger, R: Runtime + AllocGlobal>(
         standard_error,
         reporter: Reporter::new(rt.alloc(), script_name, &script),
         certificates_name,
-        refused: 0,
+        messages: 0,
         failures: put_failures,
         fault: None,
     };

@@ -1,9 +1,12 @@
 //! Standard output as a sink.
 
+ghost use Rattle.std.specs.Prelude.{◌≡◌};
+
 use crate::standard_error::StandardError;
 use catalog::Database;
 use messages_statements::Reporter;
 use sqlr::{CheckedFile, Failures, Refused, Sink, SinkFault};
+use sqlvalue::Raise;
 use std::io::{self, Write};
 use std::rt::Runtime;
 use std::sync::ledger::Ledger;
@@ -20,8 +23,8 @@ pub struct Output<'a, 's, L: Ledger, R: Runtime + AllocGlobal, W: Write + Drop> 
     pub reporter: Reporter<'s>,
     /// What messages call the file of certificates, if there is one.
     pub certificates_name: &'s str,
-    /// How many statements were refused.
-    pub refused: u64,
+    /// How many messages on statements there were.
+    pub messages: u64,
     pub failures: Failures<L>,
     /// Why the writer failed last.
     pub fault: Option<io::Error>,
@@ -47,12 +50,17 @@ impl<L: Ledger, R: Runtime + AllocGlobal, W: Write + Drop> Sink for Output<'_, '
     }
 
     fn report(&mut self, refused: &Refused, database: &Database) {
-        self.refused = self.refused.saturating_add(1);
-        if self.refused > MAX_MESSAGES {
-            return;
+        if self.may_tell() {
+            let report = self.reporter.report(refused, database);
+            self.standard_error.print(report);
         }
-        let report = self.reporter.report(refused, database);
-        self.standard_error.print(report);
+    }
+
+    fn report_exception(&mut self, raise: Raise) {
+        if self.may_tell() {
+            let report = self.reporter.report_exception(raise);
+            self.standard_error.print(report);
+        }
     }
 
     fn report_certificates(&mut self, checked: &CheckedFile, database: &Database) {
@@ -63,9 +71,17 @@ impl<L: Ledger, R: Runtime + AllocGlobal, W: Write + Drop> Sink for Output<'_, '
 }
 
 impl<L: Ledger, R: Runtime + AllocGlobal, W: Write + Drop> Output<'_, '_, L, R, W> {
+    /// Counts a message, and tells whether it is printed.
+    fn may_tell(&mut self) -> bool
+        ensures { self.new.failures ≡ self.old.failures }
+    {
+        self.messages = self.messages.saturating_add(1);
+        self.messages <= MAX_MESSAGES
+    }
+
     /// How many messages were left out.
     pub fn left_out(&self) -> u64 {
-        self.refused.saturating_sub(MAX_MESSAGES)
+        self.messages.saturating_sub(MAX_MESSAGES)
     }
 }
 

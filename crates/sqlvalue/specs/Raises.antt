@@ -6,17 +6,21 @@ use Rattle.definitions.specs.Arithmetic as arithmetic
 use Rattle.definitions.specs.Arithmetic.{Meaning, Is, raised, is_in_bounds}
 use Rattle.sqlvalue.specs.Meaning.{number_of}
 use Rattle.sqlvalue.specs.declared.number.Num.{Num}
-use Rattle.sqlvalue.specs.declared.arithmetic.Raise.{Raise}
-use Rattle.sqlvalue.specs.declared.arithmetic.Raise.TheVariants as r
+use Rattle.sqlvalue.specs.declared.raise.Exception.{Exception}
+use Rattle.sqlvalue.specs.declared.raise.Exception.TheVariants as e
+use Rattle.sqlvalue.specs.declared.raise.Raise.{Raise}
+
+abbrev pub exception_of : Exception → arithmetic.Raise
+exception_of e.OutOfRange = arithmetic.OutOfRange
+exception_of e.DivisionByZero = arithmetic.DivisionByZero
+exception_of e.Cardinality = arithmetic.Cardinality
 
 abbrev pub raise_of : Raise → arithmetic.Raise
-raise_of r.OutOfRange = arithmetic.OutOfRange
-raise_of r.DivisionByZero = arithmetic.DivisionByZero
-raise_of r.Cardinality = arithmetic.Cardinality
+raise_of r = exception_of r.exception
 
-abbrev pub meaning_of : Result Num Raise → Meaning spec.Value
+abbrev pub meaning_of : Result Num Exception → Meaning spec.Value
 meaning_of (Ok n) = Is (number_of n)
-meaning_of (Err r) = raised (raise_of r)
+meaning_of (Err e) = raised (exception_of e)
 
 abbrev pub if_in_bounds : ℤ → Option ℤ
 if_in_bounds units = if is_in_bounds units then Some units else None

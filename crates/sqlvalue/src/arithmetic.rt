@@ -7,17 +7,7 @@ ghost use Rattle.sqlvalue.specs.Meaning.{number_of};
 ghost use Rattle.sqlvalue.specs.Raises.{IsWhole, if_in_bounds, meaning_of};
 
 use crate::number::Num;
-
-/// What evaluating an expression may raise (ISO/IEC 9075:1992, 22.1).
-#[derive(Clone, Copy, Debug, PartialEq, Eq)]
-pub enum Raise {
-    /// 22003: a number of more than 38 digits.
-    OutOfRange,
-    /// 22012: a division by zero.
-    DivisionByZero,
-    /// 21000: more than one row where one value is wanted.
-    Cardinality,
-}
+use crate::raise::Exception;
 
 /// The digits that a quotient has behind the point, at least (own).
 const QUOTIENT_SCALE: u8 = 6;
@@ -26,7 +16,7 @@ const QUOTIENT_SCALE: u8 = 6;
 const LIMIT: u128 = 100_000_000_000_000_000_000_000_000_000_000_000_000;
 
 /// The sum, at the greater scale of the two.
-pub fn add(a: Num, b: Num) -> Result<Num, Raise>
+pub fn add(a: Num, b: Num) -> Result<Num, Exception>
     ensures { meaning_of result ≡ spec.plus (number_of a) (number_of b) }
 {
     let scale = a.scale.max(b.scale);
@@ -34,20 +24,20 @@ pub fn add(a: Num, b: Num) -> Result<Num, Raise>
         scale_up(a.units, scale - a.scale),
         scale_up(b.units, scale - b.scale),
     ) else {
-        return Err(Raise::OutOfRange);
+        return Err(Exception::OutOfRange);
     };
     check_number(x.checked_add(y), scale)
 }
 
 /// The difference, at the greater scale of the two.
-pub fn sub(a: Num, b: Num) -> Result<Num, Raise>
+pub fn sub(a: Num, b: Num) -> Result<Num, Exception>
     ensures { meaning_of result ≡ spec.minus (number_of a) (number_of b) }
 {
     add(a, b.negate())
 }
 
 /// The product, whose scale is the sum of the scales.
-pub fn mul(a: Num, b: Num) -> Result<Num, Raise>
+pub fn mul(a: Num, b: Num) -> Result<Num, Exception>
     requires { a.scale + b.scale ≤ greatest_scale }
     ensures { meaning_of result ≡ spec.times (number_of a) (number_of b) }
 {
@@ -55,11 +45,11 @@ pub fn mul(a: Num, b: Num) -> Result<Num, Raise>
 }
 
 /// The quotient, cut towards zero, at the scale of `a` but with at least 6 digits behind the point (own).
-pub fn div(a: Num, b: Num) -> Result<Num, Raise>
+pub fn div(a: Num, b: Num) -> Result<Num, Exception>
     ensures { meaning_of result ≡ spec.over (number_of a) (number_of b) }
 {
     if b.units == 0 {
-        return Err(Raise::DivisionByZero);
+        return Err(Exception::DivisionByZero);
     }
     let scale = a.scale.max(QUOTIENT_SCALE);
     match scale_up(a.units, scale + b.scale - a.scale) {
@@ -67,7 +57,7 @@ pub fn div(a: Num, b: Num) -> Result<Num, Raise>
             units: numerator / b.units,
             scale,
         }),
-        None => Err(Raise::OutOfRange),
+        None => Err(Exception::OutOfRange),
     }
 }
 
@@ -81,13 +71,13 @@ fn scale_up(units: i128, digits: u8) -> Option<i128>
 }
 
 /// The number of so many units, where they are below 10^38 in size.
-fn check_number(units: Option<i128>, scale: u8) -> Result<Num, Raise>
+fn check_number(units: Option<i128>, scale: u8) -> Result<Num, Exception>
     requires { scale ≤ greatest_scale }
     ensures { (whole : ℤ) → IsWhole whole units → meaning_of result ≡ spec.judged whole scale }
 {
     match in_bounds(units) {
         Some(units) => Ok(Num { units, scale }),
-        None => Err(Raise::OutOfRange),
+        None => Err(Exception::OutOfRange),
     }
 }
 

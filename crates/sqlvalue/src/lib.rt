@@ -10,13 +10,14 @@ mod number;
 mod op;
 mod owned_value;
 mod pattern;
+mod raise;
 mod refusal;
 mod sql_type;
 mod truth;
 mod value;
 mod values;
 
-pub use arithmetic::{Raise, add, div, mul, sub};
+pub use arithmetic::{add, div, mul, sub};
 pub use comparison::{compare, rank};
 pub use field::FieldFault;
 pub use lines::{
@@ -26,6 +27,7 @@ pub use number::Num;
 pub use op::ComparisonOperator;
 pub use owned_value::OwnedValue;
 pub use pattern::like;
+pub use raise::{Exception, Raise};
 pub use refusal::Refusal;
 pub use sql_type::{DeclaredType, MAX_LENGTH, MAX_PRECISION, SqlType, TypeFault};
 pub use truth::Tri;

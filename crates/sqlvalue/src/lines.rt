@@ -2,11 +2,12 @@
 
 ghost use Rattle.std.specs.Prelude.{◌≡◌, ◌++◌, ◌+◌, ◌≤◌, [], OnOk, vec_capacity, vec_len};
 ghost use Rattle.definitions.specs.Printing as spec;
-ghost use Rattle.definitions.specs.Queries.Outcomes.{shown, Exception};
+ghost use Rattle.definitions.specs.Queries.Outcomes as outcome;
+ghost use Rattle.definitions.specs.Queries.Outcomes.{shown};
 ghost use Rattle.sqlvalue.specs.RefusalMeaning.{refusal_of};
 ghost use Rattle.sqlvalue.specs.Raises.{raise_of};
 
-use crate::arithmetic::Raise;
+use crate::raise::Raise;
 use crate::refusal::Refusal;
 use crate::values::write_decimal;
 use itoa::Buffer;
@@ -56,15 +57,10 @@ pub fn write_fault(out: &mut Vec<u8>, refusal: Refusal, offset: usize) -> Result
 
 /// The line of an exception that a query raises.
 pub fn write_exception(out: &mut Vec<u8>, raise: Raise) -> Result<(), AllocError>
-    ensures { OnOk result (out.new.items ≡ out.old.items ++ shown [] (Exception (raise_of raise))) }
+    ensures { OnOk result (out.new.items ≡ out.old.items ++ shown [] (outcome.Exception (raise_of raise))) }
 {
-    let state = match raise {
-        Raise::OutOfRange => "22003",
-        Raise::DivisionByZero => "22012",
-        Raise::Cardinality => "21000",
-    };
     out.extend_from_slice(b"exception ")?;
-    out.extend_from_slice(state.as_bytes())?;
+    out.extend_from_slice(raise.exception.state().as_bytes())?;
     out.extend_from_slice(b"\n")
 }
 

@@ -33,13 +33,14 @@ impl<'a> Part<'a> {
 /// The name that messages call a script by.
 const SCRIPT_NAME: &str = "script.sql";
 
-/// How a run ended, the bytes that its sink held then, and the messages on what was refused, which call
-/// the script `script.sql`.
+/// How a run ended, the bytes that its sink held then, and the messages, which call the script `script.sql`: all of them,
+/// and those on what was refused alone.
 #[derive(Drop)]
 pub struct Ran {
     pub end: Result<Ended, RunFault>,
     pub printed: Vec<u8>,
     pub messages: String,
+    pub refusals: String,
 }
 
 /// Runs a script in a session. What it prints goes behind the bytes of a tape, which fails where it
@@ -83,17 +84,20 @@ fn on_tape<L: Ledger, B: Library>(
         failures: Failures::new(book, share),
         reporter: Reporter::new(alloc, SCRIPT_NAME, part.script),
         messages: String::new(alloc),
+        refusals: String::new(alloc),
     };
     let end = session.run(part.script, &mut tape);
     let Tape {
         bytes,
         messages,
+        refusals,
         ..
     } = tape;
     Ran {
         end,
         printed: bytes,
         messages,
+        refusals,
     }
 }
 
@@ -118,16 +122,19 @@ fn check_on_tape<L: Ledger, B: Library>(
         failures: Failures::new(book, share),
         reporter: Reporter::new(alloc, SCRIPT_NAME, part.script),
         messages: String::new(alloc),
+        refusals: String::new(alloc),
     };
     let end = session.check(part.script, certificates, &mut tape);
     let Tape {
         bytes,
         messages,
+        refusals,
         ..
     } = tape;
     Ran {
         end,
         printed: bytes,
         messages,
+        refusals,
     }
 }

@@ -3,6 +3,7 @@
 use catalog::Database;
 use messages_statements::Reporter;
 use sqlr::{CheckedFile, Failures, Refused, Sink, SinkFault};
+use sqlvalue::Raise;
 use std::alloc::AllocError;
 use std::fmt::Display;
 use std::sync::ledger::Ledger;
@@ -18,8 +19,10 @@ pub struct Tape<'a, L: Ledger> {
     pub room: usize,
     pub failures: Failures<L>,
     pub reporter: Reporter<'a>,
-    /// The messages on what was refused, as far as there was memory for them.
+    /// The messages, as far as there was memory for them.
     pub messages: String,
+    /// Those on what was refused alone.
+    pub refusals: String,
 }
 
 impl<L: Ledger> Sink for Tape<'_, L> {
@@ -45,6 +48,12 @@ impl<L: Ledger> Sink for Tape<'_, L> {
 
     fn report(&mut self, refused: &Refused, database: &Database) {
         let report = self.reporter.report(refused, database);
+        let _ = push(&mut self.messages, &report);
+        let _ = push(&mut self.refusals, report);
+    }
+
+    fn report_exception(&mut self, raise: Raise) {
+        let report = self.reporter.report_exception(raise);
         let _ = push(&mut self.messages, report);
     }
 
@@ -52,7 +61,8 @@ impl<L: Ledger> Sink for Tape<'_, L> {
         let report = self
             .reporter
             .report_certificates(CERTIFICATES_NAME, checked, database);
-        let _ = push(&mut self.messages, report);
+        let _ = push(&mut self.messages, &report);
+        let _ = push(&mut self.refusals, report);
     }
 }
 

@@ -1,0 +1,239 @@
+//! What is wrong with the records of a file, counted by column and kind.
+
+use crate::record::is_utf16;
+use crate::spelling::{Spelling, spelling_of};
+use catalog::{RecordFault, Table};
+use csv::{ByteRecord, ReaderBuilder};
+use lexer::MAX_DIGITS;
+use messages_excerpts::VisibleBytes;
+use sqlvalue::{FieldFault, SqlType};
+use std::alloc::{AllocError, Global};
+use std::fmt::{self, Formatter};
+
+/// How many bytes of a field are shown as an example, at most.
+const EXAMPLE: usize = 40;
+
+/// What is wrong with a field.
+#[derive(Clone, Copy, PartialEq, Eq)]
+enum Kind {
+    /// Null in a column that is NOT NULL.
+    Null,
+    /// No number, by how it is written.
+    NoNumber(Spelling),
+    ManyDigits,
+    TooFine,
+    TooGreat,
+    TooLong,
+    LineBreak,
+    Unprintable,
+}
+
+impl Kind {
+    fn of(fault: RecordFault, field: &[u8]) -> Kind {
+        let RecordFault::Field { fault, .. } = fault else {
+            return Kind::Null;
+        };
+        match fault {
+            FieldFault::NoNumber => Kind::NoNumber(spelling_of(field)),
+            FieldFault::ManyDigits => Kind::ManyDigits,
+            FieldFault::TooFine => Kind::TooFine,
+            FieldFault::TooGreat => Kind::TooGreat,
+            FieldFault::TooLong => Kind::TooLong,
+            FieldFault::Unprintable if field.contains(&b'\n') || field.contains(&b'\r') => {
+                Kind::LineBreak
+            }
+            FieldFault::Unprintable => Kind::Unprintable,
+        }
+    }
+
+    /// What is told of fields of the kind, behind how many they are.
+    fn write<W: fmt::Write>(self, f: &mut Formatter<W>, sql_type: SqlType) -> fmt::Result {
+        match self {
+            Kind::Null => f.write_str("null"),
+            Kind::NoNumber(spelling) => f.write_str(words_of(spelling)),
+            Kind::ManyDigits => write!(f, "with more than {MAX_DIGITS} digits"),
+            Kind::TooFine => write!(f, "with too many digits behind the point for {sql_type}"),
+            Kind::TooGreat => write!(f, "out of the range of {sql_type}"),
+            Kind::TooLong => write!(f, "too long for {sql_type}"),
+            Kind::LineBreak => f.write_str("with a line break"),
+            Kind::Unprintable => f.write_str("with a character that is not printable ASCII"),
+        }
+    }
+
+    /// Whether an example tells more than the kind.
+    fn has_example(self) -> bool {
+        !matches!(self, Kind::Null | Kind::NoNumber(Spelling::Empty))
+    }
+}
+
+fn words_of(spelling: Spelling) -> &'static str {
+    match spelling {
+        Spelling::Empty => "empty",
+        Spelling::Missing => "with a word for null",
+        Spelling::Spaced => "with a space",
+        Spelling::WithComma => "with a comma",
+        Spelling::WithSign => "with a sign of a currency or %",
+        Spelling::WithExponent => "with an exponent",
+        Spelling::Other => "not a number",
+    }
+}
+
+/// How many fields of a column have a fault of a kind, and the first of them.
+#[derive(Drop)]
+struct Tally {
+    kind: Kind,
+    count: u64,
+    example: Vec<u8>,
+}
+
+/// The kinds of faults of a column, in the order in which they were met.
+#[derive(Drop)]
+struct ColumnFaults {
+    tallies: Vec<Tally>,
+}
+
+impl ColumnFaults {
+    fn count(&mut self, alloc: Global, kind: Kind, field: &[u8]) -> Result<(), AllocError> {
+        for tally in self.tallies.iter_mut() {
+            if tally.kind == kind {
+                tally.count = tally.count.saturating_add(1);
+                return Ok(());
+            }
+        }
+        let shown = field.get(..EXAMPLE).unwrap_or(field);
+        let mut example = Vec::new(alloc);
+        example.extend_from_slice(shown)?;
+        self.tallies.push(Tally {
+            kind,
+            count: 1,
+            example,
+        })?;
+        Ok(())
+    }
+}
+
+/// What is wrong with the records of a file for a table.
+#[derive(Drop)]
+struct Survey<'t> {
+    table: &'t Table,
+    records: u64,
+    faulty: u64,
+    /// How many records have another number of fields than the table has columns.
+    of_other_width: u64,
+    columns: Vec<ColumnFaults>,
+}
+
+impl<'t> Survey<'t> {
+    /// Goes through a file once. An `Err` is want of memory, of which it takes as much as a record and some for each column.
+    fn of(alloc: Global, table: &'t Table, bytes: &[u8]) -> Result<Survey<'t>, AllocError> {
+        let mut survey = Survey {
+            table,
+            records: 0,
+            faulty: 0,
+            of_other_width: 0,
+            columns: Vec::new(alloc),
+        };
+        for _ in 0..table.width() {
+            survey.columns.push(ColumnFaults {
+                tallies: Vec::new(alloc),
+            })?;
+        }
+        let mut reader = ReaderBuilder::new()
+            .has_headers(false)
+            .flexible(true)
+            .from_reader(alloc, bytes);
+        let mut record = ByteRecord::new(alloc);
+        // each record takes a byte at least
+        for _ in 0..bytes.len() {
+            match reader.read_byte_record(&mut record) {
+                Ok(true) => survey.count_record(alloc, &record)?,
+                Ok(false) => break,
+                Err(_) => return Err(AllocError),
+            }
+        }
+        Ok(survey)
+    }
+
+    fn count_record(&mut self, alloc: Global, record: &ByteRecord) -> Result<(), AllocError> {
+        self.records = self.records.saturating_add(1);
+        let table = self.table;
+        if record.len() != table.width() {
+            self.of_other_width = self.of_other_width.saturating_add(1);
+            self.faulty = self.faulty.saturating_add(1);
+            return Ok(());
+        }
+        let mut is_faulty = false;
+        for column in 0..table.width() {
+            let field = record.get(column).unwrap_or(b"");
+            let Some(fault) = table.judge_field(column, field) else {
+                continue;
+            };
+            is_faulty = true;
+            if let Some(faults) = self.columns.get_mut(column) {
+                faults.count(alloc, Kind::of(fault, field), field)?;
+            }
+        }
+        if is_faulty {
+            self.faulty = self.faulty.saturating_add(1);
+        }
+        Ok(())
+    }
+
+    fn write<W: fmt::Write>(&self, f: &mut Formatter<W>) -> fmt::Result {
+        writeln!(
+            f,
+            "note: {} of {} records have a fault",
+            self.faulty, self.records
+        )?;
+        if self.of_other_width > 0 {
+            let (count, width) = (self.of_other_width, self.table.width());
+            writeln!(f, "  {count} with another number of fields than {width}")?;
+        }
+        for (column, faults) in self.columns.iter().enumerate() {
+            if column < self.table.width() && !faults.tallies.is_empty() {
+                let (name, sql_type) = (
+                    self.table.column_name(column),
+                    self.table.sql_type(column),
+                );
+                write!(f, "  {name}: ")?;
+                write_faults(f, faults, sql_type)?;
+            }
+        }
+        Ok(())
+    }
+}
+
+/// `140 empty, 153 with a comma ('1,200')`.
+fn write_faults<W: fmt::Write>(
+    f: &mut Formatter<W>,
+    faults: &ColumnFaults,
+    sql_type: SqlType,
+) -> fmt::Result {
+    let mut separator = "";
+    for tally in &faults.tallies {
+        write!(f, "{separator}{} ", tally.count)?;
+        tally.kind.write(f, sql_type)?;
+        if tally.kind.has_example() {
+            write!(f, " ('{}')", VisibleBytes(&tally.example))?;
+        }
+        separator = ", ";
+    }
+    f.write_str("\n")
+}
+
+/// Writes how many of a file's records have a fault, and in each column how many of each kind, where more than one record has one and the
+/// file is in an encoding that is read. What is wrong with a field is judged as LOAD judges it.
+pub fn write_survey<W: fmt::Write>(
+    f: &mut Formatter<W>,
+    alloc: Global,
+    table: &Table,
+    bytes: &[u8],
+) -> fmt::Result {
+    if is_utf16(bytes) {
+        return Ok(());
+    }
+    match Survey::of(alloc, table, bytes) {
+        Ok(survey) if survey.faulty > 1 => survey.write(f),
+        _ => Ok(()),
+    }
+}
