@@ -4,9 +4,9 @@
 usage: mutated_hints.py PROGRAM [COUNT]
 
 Makes COUNT scripts (2,000, unless said), always the same ones: in a statement a letter is changed, a word is left out, or two words change
-places. A hint is plain where all words of the script that it names are those that the change touched, or stand beside the place of a word
-that was left out. Each other hint is printed with its script, for a person to judge, but for those that are known to be right: `KNOWN`
-says why. The last line counts the scripts, the hints, those that name the very word that was there before, and those that are to be judged;
+places. A hint is plain where it is the very word, or all words of the script that it names are those that the change touched, or stand beside
+the place of a word that was left out. Each other hint is printed with its script, for a person to judge, but for those that are known to be
+right where a certain word was changed (`KNOWN`). A hint that names no word of the script, but for those, is taken to be plain: it has to be read. The last line counts the scripts, the hints, those that name the very word that was there before, and those that are to be judged;
 the status is 1 where there is one.
 """
 import collections
@@ -105,20 +105,18 @@ def named(hint, words):
     return {word for word in WORD.findall(hint) if word in those and word.isupper()}
 
 
-# Hints that are right though they name words that stand elsewhere in the script too.
+# Hints without a word of the script, or with words that stand elsewhere in it too: each is right where one of these was changed.
 KNOWN = {
-    # a name before a parenthesis is no function, and these are all there are
-    "the functions here are COUNT, SUM, AVG, MIN and MAX",
-    # behind INDEX only ON can stand, whatever became of it
-    "an index has no name of its own: CREATE INDEX ON ..",
-    # a name behind a whole item can only be its name or the next item
-    "a comma stands between two columns, and AS before a new name",
+    "the functions here are COUNT, SUM, AVG, MIN and MAX": {"COUNT", "SUM", "AVG", "MIN", "MAX"},
+    "an index has no name of its own: CREATE INDEX ON ..": {"ON"},
 }
 
 
-def known(hint):
+def known(hint, changed, touched):
     """Whether a hint is known to be right: `write` says how a column is written that is there."""
-    return hint in KNOWN or hint.startswith("write ")
+    if hint.startswith("a comma stands between two columns"):
+        return "," in changed.change or "AS " in changed.change
+    return bool(KNOWN.get(hint, set()) & touched) or hint.startswith("write ")
 
 
 def main():
@@ -135,7 +133,7 @@ def main():
             touched = {word.upper() for it in changed.touched for word in WORD.findall(it)}
             if meant and touched & set(WORD.findall(meant[1])):
                 exact += 1
-            elif not named(hint, changed.words) <= touched and not known(hint):
+            elif not known(hint, changed, touched) and (meant or hint in KNOWN or not named(hint, changed.words) <= touched):
                 doubtful[hint].append((changed, message))
     for hint, those in sorted(doubtful.items(), key=lambda it: -len(it[1])):
         print(f"{len(those)} times: {hint}")
