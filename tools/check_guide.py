@@ -7,7 +7,7 @@ On the page a csv block is a file, whose name stands in the line before it, as "
 block is a script, and the text block that comes next is the screen of its run. An sh block with
 "run NAME.sql" names the scripts of the screens behind it. Each script of the page has to be that of a case,
 with the page's files and this screen, which is the case's output with each message directly before its error
-line; and each case that isn't of forms named in words has to be on the page. A line tells of each
+line, and with the case's notes on plans somewhere between, in their order; and each case that isn't of forms named in words has to be on the page. A line tells of each
 difference, and then the exit status is 1.
 """
 import pathlib
@@ -22,6 +22,10 @@ CASES = ROOT / "cases/first_steps"
 # says that something is refused or raises an exception; both with the label, which is the same in both.
 MESSAGE = re.compile(r"^(?=.+?:\d+: (error E\d\d \d{5}|exception \d{5}): )", re.MULTILINE)
 REFUSED = re.compile(r"^(?=(error E\d\d \d{5}|exception \d{5})\b)", re.MULTILINE)
+
+
+# A note on the plans of a statement, which stands before what the statement prints.
+NOTE = re.compile(r"^.+?:\d+:\d+: note: .*\n", re.MULTILINE)
 
 
 def blocks(text, faults):
@@ -98,7 +102,7 @@ def screen(case, output, messages, faults):
 
 
 def tested(faults):
-    """The files of the cases, and their scripts, each with its case and its screen."""
+    """The files of the cases, and their scripts, each with its case, its screen and its notes."""
     files, scripts = {}, {}
     for path in sorted(CASES.glob("*.case")):
         run = {}
@@ -108,8 +112,9 @@ def tested(faults):
                 if files.setdefault(name, body) != body:
                     faults.append(f"{path.name}: another case has another file {name}")
             elif heading.startswith("status "):
-                shown = screen(path.name, run["output"], run.get("messages", ""), faults)
-                scripts[run["script"]] = (path.name, shown)
+                messages = run.get("messages", "")
+                shown = screen(path.name, run["output"], NOTE.sub("", messages), faults)
+                scripts[run["script"]] = (path.name, shown, NOTE.findall(messages))
                 run = {}
             else:
                 run[heading] = body
@@ -133,16 +138,18 @@ def main():
         if tested_files.get(name) != body:
             faults.append(f"line {line}: the file {name} is none of the cases'")
     for script, (name, line, shown) in scripts.items():
-        case, expected = tested_scripts.get(script, (None, ""))
-        expected = re.sub(r"^script\.sql:", f"{name}:", expected, flags=re.MULTILINE)
+        case, *wanted = tested_scripts.get(script, (None, "", []))
+        expected, notes = (re.sub(r"^script\.sql:", f"{name}:", it, flags=re.MULTILINE) for it in [wanted[0], "".join(wanted[1])])
         if case is None:
             faults.append(f"line {line}: the script before this screen is that of no case")
-        elif shown != expected:
-            faults.append(difference(line, shown, case, expected))
+        elif NOTE.sub("", shown) != expected:
+            faults.append(difference(line, NOTE.sub("", shown), case, expected))
+        elif "".join(NOTE.findall(shown)) != notes:
+            faults.append(f"line {line}: the page has other notes than {case}")
     for name in tested_files:
         if name not in files:
             faults.append(f"the cases' file {name} is not on the page")
-    for script, (case, _) in tested_scripts.items():
+    for script, (case, *_) in tested_scripts.items():
         if script not in scripts and not case.endswith("_in_words.case"):
             faults.append(f"{case}: a script of it is not on the page")
     for fault in faults:

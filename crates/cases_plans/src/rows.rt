@@ -9,7 +9,7 @@ ghost use Rattle.query_tree.specs.Bound.{block_of};
 
 use crate::answers::{estimate_answer, space_answer, spelled_plan};
 use crate::runs::run_answer;
-use catalog::Database;
+use catalog::{Database, LoadProgress, LoadWatch};
 use certificate::BlockSpace;
 use estimate::Estimate;
 use plan_space::Version;
@@ -189,13 +189,24 @@ fn run_question(
     }
 }
 
+/// Nobody who would be told how far a LOAD is.
+#[derive(Drop)]
+struct Unwatched;
+
+impl LoadWatch for Unwatched {
+    fn loaded(&self, _progress: LoadProgress) {}
+}
+
 /// Whether each table that is named takes its records.
 fn fill(database: &mut Database, loads: &[String]) -> bool {
     for load in loads {
         let Some((table, records)) = load.as_str().split_once(' ') else {
             return false;
         };
-        if database.load(table, records.as_bytes()).is_err() {
+        if database
+            .load(table, records.as_bytes(), &Unwatched)
+            .is_err()
+        {
             return false;
         }
     }

@@ -19,6 +19,7 @@ use crate::fault::{
 };
 use crate::naming::Names;
 use crate::table::Table;
+use loading::LoadWatch;
 use parse_tree::{ColumnDefinition, Name};
 use std::alloc::Global;
 use std::marker::Model;
@@ -113,15 +114,20 @@ impl Database {
     }
 
     /// LOAD of the bytes of a file (own): a row for each record, or else what goes wrong first in the order of the
-    /// records. Tells how many rows came; an `Err` leaves the database as it was.
-    pub fn load(&mut self, table: &str, bytes: &[u8]) -> Result<u64, LoadFault>
+    /// records. Tells a watch how far it is, and how many rows came; an `Err` leaves the database as it was.
+    pub fn load<W: LoadWatch>(
+        &mut self,
+        table: &str,
+        bytes: &[u8],
+        watch: &W,
+    ) -> Result<u64, LoadFault>
         ensures ok { IfOk result (λ n. LoadsNamed table.now bytes.now self.old n self.new) }
         ensures refused { IfErr result (RefusesNamed table.now bytes.now self.old) }
         ensures err { OnErr result (self.new ≡ self.old) }
     {
         let alloc = self.alloc;
         match self.place(table) {
-            Some(place) => self.tables[place].load(alloc, bytes),
+            Some(place) => self.tables[place].load(alloc, bytes, watch),
             None => Err(LoadFault::NoTable),
         }
     }

@@ -11,7 +11,9 @@ ghost use Rattle.catalog.specs.Loads.{RefusesTable};
 use crate::fault::{EarlierRow, LoadFault, RepeatedRecord};
 use crate::table::MAX_ROWS;
 use indexes::{ExtendFault, Index, RepeatedRow, extend_indexes};
-use loading::{Pushed, RecordStart, StopReason, TableColumn, push_records, record_start};
+use loading::{
+    LoadWatch, Pushed, RecordStart, StopReason, TableColumn, push_records, record_start,
+};
 use std::alloc::Global;
 
 /// What LOAD makes of a table: how many rows came, and its indexes with them.
@@ -23,12 +25,13 @@ pub(crate) struct Grown {
 
 /// Adds a row for each record of a file to the columns of `len` rows, and extends the indexes by them. An `Err` tells
 /// what goes wrong first in the order of the records, and leaves the rows that were added.
-pub(crate) fn grow(
+pub(crate) fn grow<W: LoadWatch>(
     alloc: Global,
     columns: &mut [TableColumn],
     len: usize,
     indexes: &[Index],
     bytes: &[u8],
+    watch: &W,
 ) -> Result<Grown, LoadFault>
     requires filled { AreFilled len columns.old }
     requires few { len ≤ most_rows }
@@ -40,7 +43,7 @@ pub(crate) fn grow(
     ensures err { OnErr result (Extends columns.old columns.new) }
 {
     let room = (MAX_ROWS - len) as u64;
-    let Ok(Pushed { rows, stopped }) = push_records(alloc, columns, len, bytes, room) else {
+    let Ok(Pushed { rows, stopped }) = push_records(alloc, columns, len, bytes, room, watch) else {
         return Err(LoadFault::Memory);
     };
     let rows = rows as usize;

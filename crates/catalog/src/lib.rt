@@ -17,5 +17,5 @@ pub use fault::{
     StatisticsFault, TableStatisticsFault,
 };
 pub use indexes::{Index, IndexStatistics, KeyRange, RepeatedKey, TableStatistics};
-pub use loading::{RecordFault, RefusedRecord};
+pub use loading::{ColumnFault, LoadProgress, LoadWatch, RecordFault, RefusedRecord};
 pub use table::{MAX_INDEX_COLUMNS, MAX_INDEXES, MAX_ROWS, Table};

@@ -10,7 +10,7 @@ ghost use Rattle.definitions.specs.Statistics.{row_width};
 ghost use Rattle.definitions.specs.Invariant.{IsCount, IsPageCount, IsTable};
 ghost use Rattle.definitions.specs.Value as values;
 ghost use Rattle.definitions.specs.Value.{IsType};
-ghost use Rattle.loading.specs.Meaning.{record_refusal};
+ghost use Rattle.loading.specs.Meaning.{column_refusal};
 ghost use Rattle.catalog.specs.Places.{IsColumnPlace};
 ghost use Rattle.definitions.specs.Scanning.{true_word, unknown_word};
 ghost use Rattle.sqlvalue.specs.Meaning.{op_of, type_of, value_of};
@@ -23,7 +23,7 @@ use crate::fault::{
 use crate::growth::{Grown, grow};
 use crate::naming::{Named, Names, second_twin};
 use indexes::{Index, TableStatistics, UniqueFault, row_width};
-use loading::{RecordFault, TableColumn, cut_columns};
+use loading::{ColumnFault, LoadWatch, TableColumn, cut_columns};
 use parse_tree::{ColumnDefinition, Constraint, Name};
 use sqlvalue::{ComparisonOperator, SqlType, Value};
 use std::alloc::Global;
@@ -171,14 +171,14 @@ impl Table {
     }
 
     /// Why a field does not load into a column, if it does not: what LOAD tells of its record, if the fields before it load (own).
-    pub fn judge_field(&self, column: usize, field: &[u8]) -> Option<RecordFault>
+    pub fn judge_field(&self, column: usize, field: &[u8]) -> Option<ColumnFault>
         requires { column < length self.now.columns }
         ensures refused { IfSome result (λ f. IfSome (slice_get self.now.columns column)
-            (λ c. ColumnLoads c field.now (Err (record_refusal f)))) }
+            (λ c. ColumnLoads c field.now (Err (column_refusal f)))) }
         ensures loads { IfSome (slice_get self.now.columns column)
             (λ c. IsNone result → (v : values.Value) × ColumnLoads c field.now (Ok v)) }
     {
-        self.columns[column].judge(column, field)
+        self.columns[column].judge(field)
     }
 
     /// The value in a row and a column.
@@ -237,13 +237,25 @@ impl Table {
 
     /// LOAD of the bytes of a file (own): adds a row for each record, and says how many. An `Err`
     /// leaves the table as it was.
-    pub(crate) fn load(&mut self, alloc: Global, bytes: &[u8]) -> Result<u64, LoadFault>
+    pub(crate) fn load<W: LoadWatch>(
+        &mut self,
+        alloc: Global,
+        bytes: &[u8],
+        watch: &W,
+    ) -> Result<u64, LoadFault>
         ensures ok { IfOk result (λ n. LoadsTable self.old bytes.now n (λ rows. self.new
             ≡ change.with_rows self.old rows)) }
         ensures refused { IfErr result (RefusesTable self.old bytes.now) }
         ensures err { OnErr result (self.new ≡ self.old) }
     {
-        match grow(alloc, &mut self.columns, self.len, &self.indexes, bytes) {
+        match grow(
+            alloc,
+            &mut self.columns,
+            self.len,
+            &self.indexes,
+            bytes,
+            watch,
+        ) {
             Ok(Grown { rows, indexes }) => {
                 self.indexes = indexes;
                 self.len += rows;

@@ -17,6 +17,7 @@ use crate::lines::{write_block, write_rest};
 use crate::telling::{Told, block_told};
 use catalog::Database;
 use interesting_orders::Version;
+use plan_space::PlanNote;
 use query_tree::Block;
 use std::alloc::{AllocError, Global};
 
@@ -30,6 +31,8 @@ pub struct FileTold {
     pub blocks: Vec<BlockTold>,
     /// Where in the file what is left behind the last text begins.
     pub rest: Option<usize>,
+    /// What there is to know of the figures that the plans rest on which pass.
+    pub notes: Vec<PlanNote>,
 }
 
 /// Whether every certificate passed, and nothing is left behind the last (own).
@@ -65,6 +68,7 @@ pub fn check_file(
 {
     let mut text = Vec::new(alloc);
     let mut all = Vec::new(alloc);
+    let mut notes = Vec::new(alloc);
     let mut ended = FileEnded::Well;
     let mut start = 0;
     let mut number = 0;
@@ -72,7 +76,8 @@ pub fn check_file(
         let left = &file[start..];
         let end = text_end(left);
         let version = version_in(left);
-        let told = block_told(alloc, database, block, number, version, &left[..end])?;
+        let own = &left[..end];
+        let told = block_told(alloc, database, block, number, version, own, &mut notes)?;
         write_block(&mut text, number, version, told)?;
         all.push(BlockTold {
             version,
@@ -90,6 +95,7 @@ pub fn check_file(
         ended: with_rest(ended, left),
         blocks: all,
         rest: if left.is_empty() { None } else { Some(start) },
+        notes,
     })
 }
 

@@ -21,7 +21,7 @@ use catalog::Database;
 use cert_check::{Rule, StateKey, Verdict, check, check_outside};
 use certificate::{BlockSpace, Spelled, TextFault, read_text};
 use interesting_orders::Version;
-use plan_space::Space;
+use plan_space::{PlanNote, Space};
 use query_tree::Block;
 use std::alloc::{AllocError, Global};
 
@@ -36,7 +36,8 @@ pub enum Told {
     Faulty(TextFault),
 }
 
-/// What is told of the text of the block of a number, in a version of its plan space (own). It fails where memory runs out.
+/// What is told of the text of the block of a number, in a version of its plan space (own). Where it passes, what there is to know of it
+/// is added to the notes. It fails where memory runs out.
 pub(crate) fn block_told(
     alloc: Global,
     database: &Database,
@@ -44,6 +45,7 @@ pub(crate) fn block_told(
     number: u64,
     version: Version,
     bytes: &[u8],
+    notes: &mut Vec<PlanNote>,
 ) -> Result<Told, AllocError>
     requires valid { IsDatabase database.now }
     requires formed { IsFormedSomewhere database.now (block_of block.now) }
@@ -53,8 +55,30 @@ pub(crate) fn block_told(
 {
     let own = BlockSpace::new(alloc, database, block, number, version)?;
     match read_text(alloc, &own.certified_block(), bytes) {
-        Ok(spelled) => Ok(spelled_told(&own.space, &spelled)),
+        Ok(spelled) => {
+            let told = spelled_told(&own.space, &spelled);
+            add_notes(alloc, notes, &own, &spelled, told)?;
+            Ok(told)
+        }
         Err(fault) => fault_told(fault),
+    }
+}
+
+/// Adds what there is to know of the figures that a plan rests on, if its text passes.
+fn add_notes(
+    alloc: Global,
+    notes: &mut Vec<PlanNote>,
+    own: &BlockSpace<'_>,
+    spelled: &Spelled,
+    told: Told,
+) -> Result<(), AllocError> {
+    match told {
+        Told::Passes => {
+            let least = spelled.certificate.target;
+            own.space
+                .add_notes(alloc, notes, own.number as usize, least)
+        }
+        Told::Fails { .. } | Told::Faulty(_) => Ok(()),
     }
 }
 

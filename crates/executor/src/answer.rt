@@ -18,20 +18,24 @@ use crate::block_rows::BlockRows;
 use crate::nested::{sum_of, try_late};
 use crate::ready_block::{ReadyBlock, ready_blocks};
 use crate::running::run_plan;
+use crate::watch::{QueryWatch, pass};
 use catalog::Database;
 use grouping::AnswerFault;
+use plan_space::PlanNote;
 use query_tree::Block;
 use scans::TupleSource;
 use std::alloc::{AllocError, Global};
 use subqueries::{Frames, KeptResults};
 
-/// What a query prints, by least plans of its blocks; and its work, the total of these plans. It is the header, the rows
+/// What a query prints, by least plans of its blocks; and its work, the total of these plans. A watch is told of the plans and how far
+/// the query is. It is the header, the rows
 /// and how many there are, or an exception that the query raises (ISO/IEC 9075:1992, 7.6 to 7.11; Selinger et al. 1979,
 /// sections 4 to 6; the form is own).
-pub fn answer_text<'a>(
+pub fn answer_text<'a, W: QueryWatch>(
     alloc: Global,
     database: &'a Database,
     blocks: &'a [Block],
+    watch: &W,
 ) -> Result<(Vec<u8>, u64), AnswerFault>
     requires formed { AreFormed database.now (map block_of blocks.now) [] 0 }
     requires each { AllByRecursion (IsFormedSomewhere database.now) (map block_of blocks.now) }
@@ -45,14 +49,18 @@ pub fn answer_text<'a>(
         × AreCertified current_version database.now (map block_of blocks.now) plans)) }
 {
     let query = ready_blocks(alloc, database, blocks)?;
-    run_select(alloc, &query)
+    let notes = plan_notes(alloc, &query)?;
+    watch.planned(&notes, blocks, database);
+    run_select(alloc, &query, watch)
 }
 
 /// What a query prints by plans of its blocks, whatever they cost, if each gives the order that its block asks for; and the
-/// total of these plans (ISO/IEC 9075:1992, 7.6 to 7.11; Selinger et al. 1979, sections 5 and 6; the form is own).
-pub fn run_select<'s>(
+/// total of these plans; a watch is told how far it is (ISO/IEC 9075:1992, 7.6 to 7.11; Selinger et al. 1979, sections 5 and 6; the form
+/// is own).
+pub fn run_select<'s, W: QueryWatch>(
     alloc: Global,
     query: &'s [ReadyBlock<'_>],
+    watch: &W,
 ) -> Result<(Vec<u8>, u64), AnswerFault>
     requires query { AreReady query.now }
     requires outermost { 0 < length query.now }
@@ -76,9 +84,11 @@ pub fn run_select<'s>(
     )?;
     let mut rows = BlockRows::to_print(alloc, first.block)?;
     let mut inner = 0;
+    let mut passed = 0;
     'composites: while let Some(composite) = line.next(&frames) {
         let (late, work) = try_late(alloc, query, 0, &composite, &mut frames, results)?;
         inner = sum_of(inner, work);
+        passed = pass(watch, passed);
         if late? {
             rows.add(alloc, &first.source, first.block, &composite, &frames)?;
         }
@@ -86,6 +96,19 @@ pub fn run_select<'s>(
     let store = rows.finish(alloc, &first.source, first.block, &frames)?;
     let text = store.end(&first.block.order)?;
     Ok((text, sum_of(line.opened_rows(), inner)))
+}
+
+/// What there is to know of the figures that the plans of blocks rest on.
+fn plan_notes(alloc: Global, query: &[ReadyBlock<'_>]) -> Result<Vec<PlanNote>, AllocError> {
+    let mut notes = Vec::new(alloc);
+    for (number, block) in query.iter().enumerate() {
+        if let Some(summary) = block.space.summary(&block.plan) {
+            block
+                .space
+                .add_notes(alloc, &mut notes, number, summary.cost)?;
+        }
+    }
+    Ok(notes)
 }
 
 /// How many results are kept of a block that has parameters (own).

@@ -1,6 +1,6 @@
 -- What a number is stored as, or why it is not.
 use Rattle.std.proofs.Common.{◌≡◌, ◌≢◌, refl, ℕ, List, Ok, Err, true, false}
-use Rattle.std.specs.Prelude.{bytes_eq, IsTrue, not, ◌||◌, Bool, Result}
+use Rattle.std.specs.Prelude.{bytes_eq, IsTrue, not, ◌||◌, ◌&&◌, Bool, Result}
 use Rattle.std.proofs.lemmas.Slice.Eq.{bytes_eq-Decides}
 use Rattle.definitions.specs.Value.{Value, Null, Number, Text, SqlType, Numbers, kind_of, is_null}
 use Rattle.definitions.specs.Table.{Column, may_be_null}
@@ -53,8 +53,20 @@ kept false false h = refl
 pub column_loads : (c : Column) (field : List ℕ) (v : Value) → FieldLoads c.type field (Ok v) → ((may_be_null c.constraint ≡ false) → bytes_eq field null_field ≡ false) → ColumnLoads c field (Ok v)
 column_loads c field v l h = load.loaded v l (kept (may_be_null c.constraint) (is_null v) (λ n. loaded_is_not_null c.type field (Ok v) v l refl (not_null field (h n)))) refl
 
-pub null_refused : (c : Column) (field : List ℕ) → may_be_null c.constraint ≡ false → bytes_eq field null_field ≡ true → ColumnLoads c field (Err NullOrRepeated)
-null_refused c field n h = load.ColumnLoads.null (null_loads c.type field h) n refl
+both_hold : (m b : Bool) → (not m && b) ≡ true → (m ≡ false) × (b ≡ true)
+both_hold false true h = (refl, refl)
+both_hold false false h = absurd cc
+both_hold true b h = absurd cc
+
+pub not_null_where : (m b : Bool) → (not m && b) ≡ false → m ≡ false → b ≡ false
+not_null_where false false h n = refl
+not_null_where false true h n = absurd cc
+not_null_where true b h n = absurd cc
+
+pub null_refused : (c : Column) (field : List ℕ) → (not (may_be_null c.constraint) && bytes_eq field null_field) ≡ true → ColumnLoads c field (Err NullOrRepeated)
+null_refused c field h =
+    let (n, is) = both_hold (may_be_null c.constraint) (bytes_eq field null_field) h in
+    load.ColumnLoads.null (null_loads c.type field is) n refl
 
 pub column_faulty : (c : Column) (field : List ℕ) (e : FieldError) → FieldLoads c.type field (Err e) → ColumnLoads c field (Err (Field e))
 column_faulty c field e l = load.faulty e l refl

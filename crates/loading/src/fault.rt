@@ -2,20 +2,39 @@
 
 ghost use Rattle.std.specs.Prelude.{◌≡◌};
 ghost use Rattle.sqlvalue.specs.RefusalMeaning.{refusal_of};
-ghost use Rattle.loading.specs.Meaning.{record_refusal};
+ghost use Rattle.loading.specs.Meaning.{column_refusal, record_refusal};
 
 use sqlvalue::{FieldFault, Refusal};
 use thiserror::Error;
+
+/// Why a field does not load into a column.
+#[derive(Clone, Copy, Debug, PartialEq, Eq, Error)]
+pub enum ColumnFault {
+    #[error("the field is null, and the column is NOT NULL")]
+    Null,
+    #[error("the field is no value of the column's type")]
+    Value(FieldFault),
+}
+
+impl ColumnFault {
+    /// The refusal that it is.
+    pub fn refusal(self) -> Refusal
+        ensures { refusal_of result ≡ column_refusal self }
+    {
+        match self {
+            ColumnFault::Null => Refusal::NullOrRepeated,
+            ColumnFault::Value(fault) => Refusal::Field(fault),
+        }
+    }
+}
 
 /// Why a record is no row of a table. Columns are told by their numbers, from 0.
 #[derive(Clone, Copy, Debug, PartialEq, Eq, Error)]
 pub enum RecordFault {
     #[error("the record has {fields} fields, which are not as many as the table has columns")]
     FieldCount { fields: usize },
-    #[error("a field is null in a column that may not be null")]
-    Null { column: usize },
     #[error("a field does not load into its column")]
-    Field { fault: FieldFault, column: usize },
+    Field { fault: ColumnFault, column: usize },
 }
 
 impl RecordFault {
@@ -25,8 +44,7 @@ impl RecordFault {
     {
         match self {
             RecordFault::FieldCount { .. } => Refusal::FieldCount,
-            RecordFault::Null { .. } => Refusal::NullOrRepeated,
-            RecordFault::Field { fault, .. } => Refusal::Field(fault),
+            RecordFault::Field { fault, .. } => fault.refusal(),
         }
     }
 }

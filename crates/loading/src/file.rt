@@ -14,20 +14,21 @@ ghost use Rattle.loading.specs.Pushes.{Pushes};
 ghost use Rattle.loading.specs.Files.{HasRead};
 
 use crate::fault::{PushFault, RecordFault, RefusedRecord};
-use crate::field::is_null;
 use crate::pushed::{Pushed, StopReason};
 use crate::table_column::TableColumn;
+use crate::watch::{LoadProgress, LoadWatch};
 use csv::{ByteRecord, Position, Reader, ReaderBuilder};
 use std::alloc::{AllocError, Global};
 
 /// Adds a row for each record of a file (own) to columns of `len` values each, up to the first record that is no
-/// row, or for which there is no `room`. An `Err` is want of memory, and leaves the rows that were added.
-pub fn push_records(
+/// row, or for which there is no `room`, and tells a watch how far it is. An `Err` is want of memory, and leaves the rows that were added.
+pub fn push_records<W: LoadWatch>(
     alloc: Global,
     columns: &mut [TableColumn],
     len: usize,
     bytes: &[u8],
     room: u64,
+    watch: &W,
 ) -> Result<Pushed, AllocError>
     requires filled { AreFilled len columns.old }
     requires counted { len + room < 2 ^ 64 }
@@ -45,7 +46,10 @@ pub fn push_records(
             });
         }
         match push_record(columns, len + rows as usize, &record) {
-            Ok(()) => rows += 1,
+            Ok(()) => {
+                rows += 1;
+                tell(watch, rows, &record, bytes);
+            }
             Err(PushFault::Refused(fault)) => {
                 let refused = refused_record(fault, rows + 1, record.position());
                 return Ok(Pushed {
@@ -60,6 +64,21 @@ pub fn push_records(
         rows,
         stopped: None,
     })
+}
+
+/// How many records are loaded from one time that a watch is told to the next (own).
+const TOLD_EACH: u64 = 65_536;
+
+/// Tells a watch of the records loaded so far, now and then.
+fn tell<W: LoadWatch>(watch: &W, records: u64, last: &ByteRecord, file: &[u8]) {
+    if records % TOLD_EACH == 0 {
+        let RecordStart { start, .. } = start_at(last.position());
+        watch.loaded(LoadProgress {
+            records,
+            bytes: start,
+            of_bytes: file.len() as u64,
+        });
+    }
 }
 
 /// Where a record of a file begins, as `csv` says it.
@@ -186,9 +205,6 @@ fn push_field(
     ensures refused { IfErr result (IfRefused (λ f. ColumnLoads column.old.header field.now (Err (record_refusal f)))) }
     ensures err { OnErr result (column.new ≡ column.old) }
 {
-    if !column.may_be_null() && is_null(field) {
-        return Err(PushFault::Refused(RecordFault::Null { column: number }));
-    }
     match column.push_field(field) {
         Ok(()) => Ok(()),
         Err(PushFault::Refused(fault)) => Err(PushFault::Refused(RecordFault::Field {

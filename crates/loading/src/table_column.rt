@@ -1,19 +1,19 @@
 //! A column of a table: its name, its type, its constraint and its values.
 
-ghost use Rattle.std.specs.Prelude.{◌≡◌, ◌<◌, ◌≤◌, ◌+◌, [], Ok, Err, IfOk, IfErr, IfSome, IsNone, OnOk, OnErr, length, slice_index_or};
+ghost use Rattle.std.specs.Prelude.{◌≡◌, ◌<◌, ◌≤◌, ◌+◌, ◌&&◌, [], Ok, Err, IfOk, IfErr, IfSome, IsNone, OnOk, OnErr, bytes_eq, length, not, slice_index_or};
 ghost use Rattle.columns.specs.Columns.{cells_of};
 ghost use Rattle.definitions.specs.Value as spec;
-ghost use Rattle.definitions.specs.Loading.{ColumnLoads, FieldLoads};
+ghost use Rattle.definitions.specs.Loading.{ColumnLoads, FieldLoads, null_field};
 ghost use Rattle.definitions.specs.Scanning.{part_of, true_word, unknown_word};
 ghost use Rattle.definitions.specs.Table.{may_be_null};
 ghost use Rattle.sqlvalue.specs.RefusalMeaning.{field_error_of};
 ghost use Rattle.sqlvalue.specs.Meaning.{op_of, type_of, value_of};
 ghost use Rattle.parse_tree.specs.Trees.{constraint_of};
-ghost use Rattle.loading.specs.Meaning.{record_refusal};
+ghost use Rattle.loading.specs.Meaning.{column_refusal};
 ghost use Rattle.loading.specs.Stored.{named, with_value, cut_to};
 
 use crate::cells;
-use crate::fault::{PushFault, RecordFault};
+use crate::fault::{ColumnFault, PushFault};
 use crate::field::is_null;
 use parse_tree::Constraint;
 use sqlvalue::{ComparisonOperator, FieldFault, SqlType, Value};
@@ -82,7 +82,7 @@ impl TableColumn {
     }
 
     /// Whether a value may be null (ISO/IEC 9075:1992, 11.7 and 11.8).
-    pub(crate) fn may_be_null(&self) -> bool
+    fn may_be_null(&self) -> bool
         ensures { result ≡ may_be_null self.now.header.constraint }
     {
         matches!(self.constraint, Constraint::Nullable)
@@ -122,7 +122,25 @@ impl TableColumn {
     }
 
     /// Adds the value that a field is stored as. An `Err` leaves the column as it was.
-    pub(crate) fn push_field(&mut self, field: &[u8]) -> Result<(), PushFault<FieldFault>>
+    pub(crate) fn push_field(&mut self, field: &[u8]) -> Result<(), PushFault<ColumnFault>>
+        ensures ok { OnOk result ((v : spec.Value) × ColumnLoads self.old.header field.now (Ok v) ×
+            (self.new ≡ with_value self.old v)) }
+        ensures refused { IfErr result (IfRefused (λ f. ColumnLoads self.old.header field.now
+            (Err (column_refusal f)))) }
+        ensures err { OnErr result (self.new ≡ self.old) }
+    {
+        if self.refuses_null(field) {
+            return Err(PushFault::Refused(ColumnFault::Null));
+        }
+        match self.push_value(field) {
+            Ok(()) => Ok(()),
+            Err(PushFault::Refused(fault)) => Err(PushFault::Refused(ColumnFault::Value(fault))),
+            Err(PushFault::Memory) => Err(PushFault::Memory),
+        }
+    }
+
+    /// Adds the value that a field is stored as, whether or not it may be null. An `Err` leaves the column as it was.
+    fn push_value(&mut self, field: &[u8]) -> Result<(), PushFault<FieldFault>>
         ensures ok { OnOk result ((v : spec.Value) × FieldLoads self.old.header.type field.now (Ok v) ×
             (self.new ≡ with_value self.old v)) }
         ensures refused { IfErr result (IfRefused (λ f.
@@ -132,22 +150,25 @@ impl TableColumn {
         cells::push_field(&mut self.cells, field)
     }
 
-    /// Why a field does not load into the column, which has this number, if it does not: what is told of its record, if the fields
-    /// before it load (own).
-    pub fn judge(&self, number: usize, field: &[u8]) -> Option<RecordFault>
-        ensures refused { IfSome result (λ f. ColumnLoads self.now.header field.now (Err (record_refusal f))) }
+    /// Why a field does not load into the column, if it does not (own).
+    pub fn judge(&self, field: &[u8]) -> Option<ColumnFault>
+        ensures refused { IfSome result (λ f. ColumnLoads self.now.header field.now (Err (column_refusal f))) }
         ensures loads { IsNone result → (v : spec.Value) × ColumnLoads self.now.header field.now (Ok v) }
     {
-        if !self.may_be_null() && is_null(field) {
-            return Some(RecordFault::Null { column: number });
+        if self.refuses_null(field) {
+            return Some(ColumnFault::Null);
         }
         match self.field_fault(field) {
-            Some(fault) => Some(RecordFault::Field {
-                fault,
-                column: number,
-            }),
+            Some(fault) => Some(ColumnFault::Value(fault)),
             None => None,
         }
+    }
+
+    /// Whether a field is null and the column's values may not be.
+    fn refuses_null(&self, field: &[u8]) -> bool
+        ensures { result ≡ (not (may_be_null self.now.header.constraint) && bytes_eq field.now null_field) }
+    {
+        !self.may_be_null() && is_null(field)
     }
 
     /// Why a field is stored as no value of the column's type, if it isn't.

@@ -2,7 +2,7 @@
 
 use crate::record::FileRecord;
 use crate::spelling::{Spelling, has_digit, spelling_of};
-use catalog::{RecordFault, RefusedRecord, Table};
+use catalog::{ColumnFault, RecordFault, RefusedRecord, Table};
 use sqlvalue::{FieldFault, SqlType};
 use std::fmt::{self, Formatter};
 
@@ -21,7 +21,7 @@ pub fn write_record_hint<W: fmt::Write>(
     }
     match refused.fault {
         RecordFault::Field {
-            fault: FieldFault::Unprintable,
+            fault: ColumnFault::Value(FieldFault::Unprintable),
             column,
         } => write_character_hint(f, record.field(column)),
         _ => Ok(()),
@@ -45,7 +45,7 @@ fn hint_of(table: &Table, refused: &RefusedRecord, record: &FileRecord) -> Optio
             Some("fields are parted by commas, and here tabs stand")
         }
         RecordFault::Field {
-            fault: FieldFault::NoNumber,
+            fault: ColumnFault::Value(FieldFault::NoNumber),
             column,
         } => number_hint(table, refused, record, column),
         _ => None,

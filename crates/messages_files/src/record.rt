@@ -2,7 +2,7 @@
 
 ghost use Rattle.std.specs.Prelude.{◌<◌, length};
 
-use catalog::{RecordFault, RefusedRecord, Table};
+use catalog::{ColumnFault, RecordFault, RefusedRecord, Table};
 use csv::{ByteRecord, ReaderBuilder};
 use lexer::MAX_DIGITS;
 use messages_excerpts::VisibleBytes;
@@ -103,15 +103,16 @@ pub fn write_record<W: fmt::Write>(
     write!(f, "record {}", refused.number)?;
     match refused.fault {
         RecordFault::FieldCount { fields } => write_count(f, table, fields),
-        RecordFault::Null { column } if column < table.width() => {
-            write_column(f, table, column)?;
-            f.write_str("NULL in a column that is NOT NULL")
-        }
         RecordFault::Field { fault, column } if column < table.width() => {
             write_column(f, table, column)?;
-            write_field(f, fault, table.sql_type(column), record.field(column))
+            match fault {
+                ColumnFault::Null => f.write_str("NULL in a column that is NOT NULL"),
+                ColumnFault::Value(fault) => {
+                    write_field(f, fault, table.sql_type(column), record.field(column))
+                }
+            }
         }
-        RecordFault::Null { .. } | RecordFault::Field { .. } => Ok(()),
+        RecordFault::Field { .. } => Ok(()),
     }
 }
 

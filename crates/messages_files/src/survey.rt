@@ -2,7 +2,7 @@
 
 use crate::record::is_utf16;
 use crate::spelling::{Spelling, spelling_of};
-use catalog::{RecordFault, Table};
+use catalog::{ColumnFault, Table};
 use csv::{ByteRecord, ReaderBuilder};
 use lexer::MAX_DIGITS;
 use messages_excerpts::VisibleBytes;
@@ -29,8 +29,8 @@ enum Kind {
 }
 
 impl Kind {
-    fn of(fault: RecordFault, field: &[u8]) -> Kind {
-        let RecordFault::Field { fault, .. } = fault else {
+    fn of(fault: ColumnFault, field: &[u8]) -> Kind {
+        let ColumnFault::Value(fault) = fault else {
             return Kind::Null;
         };
         match fault {

@@ -15,6 +15,8 @@ pub(crate) fn blocks_around<'q>(
         offset,
         blocks: Vec::new(alloc),
         begun: 0,
+        wanted: usize::MAX,
+        found: None,
     };
     path.enter_block(&query.block)?;
     Ok(path.blocks)
@@ -26,9 +28,28 @@ pub(crate) fn count_blocks(alloc: Global, query: &Select) -> Result<usize, Alloc
         offset: usize::MAX,
         blocks: Vec::new(alloc),
         begun: 0,
+        wanted: usize::MAX,
+        found: None,
     };
     path.enter_block(&query.block)?;
     Ok(path.begun)
+}
+
+/// The query block of a number, from 0, if there is one: blocks are numbered as they begin. An `Err` is want of memory.
+pub fn block_of_number<'q>(
+    alloc: Global,
+    query: &'q Select,
+    number: usize,
+) -> Result<Option<&'q Block>, AllocError> {
+    let mut path = Path {
+        offset: usize::MAX,
+        blocks: Vec::new(alloc),
+        begun: 0,
+        wanted: number,
+        found: None,
+    };
+    path.enter_block(&query.block)?;
+    Ok(path.found)
 }
 
 /// A way from the outermost block to a place.
@@ -39,12 +60,18 @@ struct Path<'q> {
     blocks: Vec<&'q Block>,
     /// How many blocks begin before the place.
     begun: usize,
+    /// The number of a block that is looked for, and that block.
+    wanted: usize,
+    found: Option<&'q Block>,
 }
 
 impl<'q> Path<'q> {
     #[cycle(blocks)]
     fn enter_block(&mut self, block: &'q Block) -> Result<(), AllocError> {
         self.blocks.extend_from_slice(&[block])?;
+        if self.begun == self.wanted {
+            self.found = Some(block);
+        }
         self.begun = self.begun.saturating_add(1);
         let depth = self.blocks.len();
         if let SelectList::Items(items) = &block.list {

@@ -2,7 +2,8 @@
 
 use crate::query_places::{start_of, start_of_column};
 use binder::{MAX_CONJUNCTS, MAX_GROUP_COLUMNS, MAX_ITEMS, MAX_MEMBERS};
-use syntax::{Block, Expr, LineOperator, Operand, SelectList};
+use query_rules::is_conjunction;
+use syntax::{Block, Expr, SelectList};
 
 /// Where the first condition of a WHERE begins that is one too many.
 pub(crate) fn start_of_conjunct(condition: &Expr) -> usize {
@@ -39,13 +40,6 @@ fn conjunct_behind<'q>(condition: &'q Expr, before: &mut usize) -> Option<&'q Ex
             *before = before.saturating_sub(1);
             None
         }
-    }
-}
-
-fn is_conjunction(others: &[Operand]) -> bool {
-    match others.first() {
-        Some(operand) => matches!(operand.operator, LineOperator::And),
-        None => false,
     }
 }
 

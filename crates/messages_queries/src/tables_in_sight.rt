@@ -8,6 +8,14 @@ use std::alloc::{AllocError, Global};
 use std::fmt::{self, Display, Formatter};
 use syntax::{Block, ColumnReference, Select, Source};
 
+/// What the columns of a table of FROM are called by: its correlation name, where it has one.
+pub fn name_in_sight(source: &Source) -> &str {
+    match &source.correlation {
+        Some(name) => name.text.as_str(),
+        None => source.table.text.as_str(),
+    }
+}
+
 /// A table of a FROM.
 #[derive(Clone, Copy)]
 pub(crate) struct SeenTable<'s> {
@@ -25,10 +33,7 @@ impl<'s> SeenTable<'s> {
 
     /// What its columns are called by: its correlation name, where it has one.
     pub(crate) fn called(&self) -> &'s str {
-        match &self.source.correlation {
-            Some(name) => name.text.as_str(),
-            None => self.name(),
-        }
+        name_in_sight(self.source)
     }
 
     pub(crate) fn has_column(&self, name: &str) -> bool {

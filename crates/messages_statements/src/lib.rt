@@ -8,10 +8,13 @@ mod exceptions;
 mod index;
 mod list;
 mod places;
+mod plan_notes;
+mod refused_loads;
 mod report;
 mod statistics;
 
 pub use exceptions::ExceptionReport;
 pub use messages_certificates::FileReport;
 pub use messages_excerpts::{LineColumn, Lines};
+pub use plan_notes::PlanReport;
 pub use report::{Report, Reporter};

@@ -25,7 +25,7 @@ pub(crate) fn offset_of(cause: &Cause) -> usize {
         Cause::TableStatistics(cause) => offset_of_table_statistics(*cause),
         Cause::Statistics(cause) => offset_of_statistics(*cause),
         Cause::NoTable(name) | Cause::ManyRows(name) => name.start,
-        Cause::NoFile(file) => file.start,
+        Cause::NoFile { file, .. } => file.start,
         Cause::Record { load, .. } | Cause::Repeated { load, .. } => load.file.start,
         Cause::Query(cause) => offset_of_fault(cause.fault),
     }

@@ -10,6 +10,8 @@ use crate::exceptions::ExceptionReport;
 use crate::index::write_index;
 use crate::list::write_list_hint;
 use crate::places::offset_of;
+use crate::plan_notes::PlanReport;
+use crate::refused_loads::RefusedLoads;
 use crate::statistics::{write_statistics, write_table_statistics};
 use catalog::{
     Database, IndexFault, ListFault, MAX_ROWS, RefusedRecord, RepeatedRecord, StatisticsFault,
@@ -22,7 +24,7 @@ use messages_queries::{QueryWords, write_near_table};
 use messages_syntax::{
     write_lexical, write_lexical_hint, write_too_deep, write_unexpected, write_unexpected_hint,
 };
-use sqlr::{Cause, CheckedFile, ColumnList, FileLoad, Refused};
+use sqlr::{Cause, CheckedFile, ColumnList, FileLoad, Planned, Refused};
 use sqlvalue::Raise;
 use std::alloc::Global;
 use std::fmt::{self, Display, Formatter};
@@ -34,6 +36,7 @@ pub struct Reporter<'a> {
     alloc: Global,
     script_name: &'a str,
     lines: Lines<'a>,
+    refused_loads: RefusedLoads,
 }
 
 impl<'a> Reporter<'a> {
@@ -43,11 +46,12 @@ impl<'a> Reporter<'a> {
             alloc,
             script_name,
             lines: Lines::new(script),
+            refused_loads: RefusedLoads::new(alloc),
         }
     }
 
     /// The line and the column of a byte of the script.
-    pub fn locate(&mut self, offset: usize) -> LineColumn {
+    pub fn locate(&self, offset: usize) -> LineColumn {
         self.lines.locate(offset)
     }
 
@@ -57,19 +61,21 @@ impl<'a> Reporter<'a> {
         'a: 'r,
     {
         let offset = offset_of(&refused.cause);
+        let place = self.lines.locate(offset);
+        self.refused_loads.keep(database, &refused.cause, place);
         Report {
             alloc: self.alloc,
             script_name: self.script_name,
             script: self.lines.script(),
             offset,
-            place: self.lines.locate(offset),
+            place,
             refused,
             database,
         }
     }
 
     /// The message on an exception.
-    pub fn report_exception<'r>(&mut self, raise: Raise) -> ExceptionReport<'r>
+    pub fn report_exception<'r>(&self, raise: Raise) -> ExceptionReport<'r>
     where
         'a: 'r,
     {
@@ -79,6 +85,22 @@ impl<'a> Reporter<'a> {
             offset: raise.place,
             place: self.lines.locate(raise.place),
             exception: raise.exception,
+        }
+    }
+
+    /// The notes on the plans of a query over a database.
+    pub fn report_plans<'r>(
+        &'r self,
+        planned: Planned<'r>,
+        database: &'r Database,
+    ) -> PlanReport<'r> {
+        PlanReport {
+            alloc: self.alloc,
+            script_name: self.script_name,
+            lines: &self.lines,
+            planned,
+            database,
+            refused_loads: &self.refused_loads,
         }
     }
 
@@ -160,7 +182,7 @@ impl Report<'_> {
             Cause::TableStatistics(cause) => write_table_statistics(f, *cause),
             Cause::Statistics(cause) => write_statistics(f, self.script, self.database, *cause),
             Cause::NoTable(name) => write!(f, "there is no table {}", name.text),
-            Cause::NoFile(file) => write!(f, "there is no file '{}'", file.text),
+            Cause::NoFile { file, .. } => write!(f, "there is no file '{}'", file.text),
             Cause::ManyRows(_) => write!(f, "a table has at most {MAX_ROWS} rows"),
             Cause::Query(cause) => self.query_words(cause.query).write_fault(f, cause.fault),
             Cause::Record { .. } | Cause::Repeated { .. } => Ok(()),

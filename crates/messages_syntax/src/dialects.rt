@@ -12,8 +12,8 @@ struct Seen<'s> {
     before: &'s str,
     /// The last byte of the token before it; 0 where there is none.
     sign: u8,
-    /// The byte behind the token there; 0 where there is none.
-    next: u8,
+    /// What stands behind the token there.
+    rest: &'s str,
     unexpected: &'s Unexpected,
 }
 
@@ -25,7 +25,7 @@ impl<'s> Seen<'s> {
             found: script.get(unexpected.offset..end).unwrap_or(""),
             before: last_word(head),
             sign: head.as_bytes().last().copied().unwrap_or(0),
-            next: script.as_bytes().get(end).copied().unwrap_or(0),
+            rest: script.get(end..).unwrap_or(""),
             unexpected,
         }
     }
@@ -62,8 +62,26 @@ impl<'s> Seen<'s> {
     }
 }
 
+/// Whether a text begins with a word, behind blanks and in letters of whatever case.
+pub(crate) fn begins_with_word(text: &str, word: &str) -> bool {
+    first_word(text).eq_ignore_ascii_case(word)
+}
+
+/// The letters, digits and underscores at the beginning of a text, behind blanks.
+pub(crate) fn first_word(text: &str) -> &str {
+    let text = text.trim_start();
+    let mut end: usize = 0;
+    for byte in text.as_bytes() {
+        if !byte.is_ascii_alphanumeric() && *byte != b'_' {
+            break;
+        }
+        end = end.saturating_add(1);
+    }
+    text.get(..end).unwrap_or("")
+}
+
 /// The letters, digits and underscores at the end of a text.
-fn last_word(text: &str) -> &str {
+pub(crate) fn last_word(text: &str) -> &str {
     let mut start = text.len();
     for byte in text.as_bytes().iter().rev() {
         if !byte.is_ascii_alphanumeric() && *byte != b'_' {
@@ -94,9 +112,12 @@ fn sign_hint(seen: &Seen) -> Option<&'static str> {
     let joined = seen.is_joined();
     match (seen.sign, seen.found) {
         (b'/', "*") if joined => Some(REMARK),
-        (_, "/") if seen.next == b'*' => Some(REMARK),
+        (_, "/") if seen.rest.starts_with("*") => Some(REMARK),
         (b'=', "=") if joined => Some("equal is a single ="),
         (b'.', "*") => Some("there is no .* here: name the columns, or write * alone"),
+        (b'*', ",") if seen.wants(TokenClass::Word(Word::From)) => {
+            Some("* stands alone: name the columns, or leave out the others")
+        }
         (b'=' | b'>', _) if seen.is_word(Word::Null) => {
             Some("IS NULL asks whether a value is missing, and IS NOT NULL whether it is there")
         }
@@ -147,6 +168,9 @@ fn end_hint(seen: &Seen) -> Option<&'static str> {
     if seen.finds("LIMIT") || (seen.follows("LIMIT") && seen.is_number()) {
         return Some("there is no LIMIT: all rows are printed");
     }
+    if seen.follows("FETCH") && (seen.finds("FIRST") || seen.finds("NEXT")) {
+        return Some("there is no FETCH: all rows are printed");
+    }
     if seen.is_word(Word::Select) && is_set_word(seen) {
         return Some("there is no UNION, EXCEPT or INTERSECT: a query is one SELECT");
     }
@@ -160,8 +184,11 @@ fn is_outer(seen: &Seen) -> bool {
     seen.follows("LEFT") || seen.follows("RIGHT") || seen.follows("FULL") || seen.follows("OUTER")
 }
 
-/// Of a parenthesis behind a word that is no function.
+/// Of a parenthesis right behind a word that is no function. Where no argument stands behind it, another word or sign was meant.
 fn call_hint(seen: &Seen) -> Option<&'static str> {
+    if !seen.is_joined() || !begins_argument(seen.rest) {
+        return None;
+    }
     let is_behind_value = seen.wants(TokenClass::Operator) || seen.wants(TokenClass::Arithmetic);
     let is_behind_name =
         matches!(seen.before.as_bytes(), [first, ..] if first.is_ascii_alphabetic());
@@ -171,6 +198,31 @@ fn call_hint(seen: &Seen) -> Option<&'static str> {
         None
     }
 }
+
+/// Whether a function's arguments may begin with a text: it begins with no sign of a comparison and with no word that goes on with a condition or
+/// begins a subquery.
+fn begins_argument(text: &str) -> bool {
+    let has_sign = matches!(
+        text.trim_start().as_bytes(),
+        [b'=' | b'<' | b'>' | b',' | b';', ..]
+    );
+    let word = first_word(text);
+    !has_sign
+        && !NO_ARGUMENTS
+            .iter()
+            .any(|it| it.as_str().eq_ignore_ascii_case(word))
+}
+
+static NO_ARGUMENTS: [Word; 8] = [
+    Word::Select,
+    Word::In,
+    Word::Is,
+    Word::Like,
+    Word::Between,
+    Word::And,
+    Word::Or,
+    Word::Not,
+];
 
 fn is_set_word(seen: &Seen) -> bool {
     seen.follows("UNION") || seen.follows("EXCEPT") || seen.follows("INTERSECT")
@@ -188,6 +240,9 @@ fn definition_hint(seen: &Seen) -> Option<&'static str> {
     if seen.found == "(" && is_whole {
         return Some("INTEGER and SMALLINT take no number of digits");
     }
+    if seen.follows("NUMERIC") || seen.follows("DECIMAL") || seen.follows("DEC") {
+        return digits_hint(seen);
+    }
     if seen.follows("INDEX") && seen.is_name() {
         return Some("an index has no name of its own: CREATE INDEX ON ..");
     }
@@ -195,6 +250,15 @@ fn definition_hint(seen: &Seen) -> Option<&'static str> {
         return Some("there is no IF NOT EXISTS: no table is there when a script begins");
     }
     None
+}
+
+/// Of types of numbers without their digits.
+fn digits_hint(seen: &Seen) -> Option<&'static str> {
+    if seen.wants(TokenClass::Symbol(Symbol::OpenParen)) {
+        Some("its digits belong to the type, as in NUMERIC(7,2): 7 in all, 2 behind the point")
+    } else {
+        None
+    }
 }
 
 /// Of keys: a column's key wants NOT NULL before it, and one of several columns is an index.

@@ -13,6 +13,8 @@ pub struct Nearest<'w, 'a> {
     alloc: Global,
     wanted: &'w str,
     found: Option<(&'a str, usize)>,
+    /// How near a short word is, if one is an edit away.
+    short: Option<usize>,
 }
 
 impl<'w, 'a> Nearest<'w, 'a> {
@@ -22,6 +24,7 @@ impl<'w, 'a> Nearest<'w, 'a> {
             alloc,
             wanted,
             found: None,
+            short: None,
         }
     }
 
@@ -41,18 +44,25 @@ impl<'w, 'a> Nearest<'w, 'a> {
         }
     }
 
-    /// Offers a reserved word. One of up to three letters is near too much to be sure, and the first letters of a word are sure from three on.
+    /// Offers a reserved word. One of up to three letters is near too much to be sure, so none is told where such a one is nearer; the first
+    /// letters of a word are sure from three on.
     pub fn offer_word(&mut self, word: &'a str) {
         if word.len() > SHORT {
             self.offer(word);
+        } else if let Ok(edits) = self.edits(word) {
+            let least = self.short.unwrap_or(1);
+            if edits <= least {
+                self.short = Some(edits);
+            }
         }
     }
 
-    /// The nearest name, if one was near.
+    /// The nearest name, if one was near, and no short word nearer.
     pub fn name(&self) -> Option<&'a str> {
-        match self.found {
-            Some((name, _)) => Some(name),
-            None => None,
+        match (self.found, self.short) {
+            (Some((_, edits)), Some(short)) if short < edits => None,
+            (Some((name, _)), _) => Some(name),
+            (None, _) => None,
         }
     }
 

@@ -1,8 +1,8 @@
 //! What could have stood where a script goes wrong.
 
-use crate::dialects::hint_for;
+use crate::dialects::{begins_with_word, first_word, hint_for, last_word};
 use crate::nearest::Nearest;
-use lexer::{TokenKind, Word};
+use lexer::{Symbol, TokenKind, Word};
 use messages_excerpts::Visible;
 use std::alloc::Global;
 use std::fmt::{self, Display, Formatter};
@@ -103,11 +103,32 @@ pub fn write_unexpected_hint<W: fmt::Write>(
             let word = word.as_str();
             writeln!(f, "hint: {word} is a reserved word and can't be a name")
         }
-        Some(TokenKind::Name) => {
-            write_near_word(f, alloc, token_text(script, unexpected), unexpected)
+        Some(TokenKind::Name) => write_near_word(f, alloc, script, unexpected),
+        Some(TokenKind::Mark(Symbol::OpenParen)) => {
+            write_subquery_word(f, alloc, script, unexpected)
         }
         _ => Ok(()),
     }
+}
+
+/// Before a subquery in parentheses, a word that is near the one that stands there.
+fn write_subquery_word<W: fmt::Write>(
+    f: &mut Formatter<W>,
+    alloc: Global,
+    script: &str,
+    unexpected: &Unexpected,
+) -> fmt::Result {
+    if !begins_with_word(text_behind(script, unexpected), "SELECT") {
+        return Ok(());
+    }
+    let before = last_word(script.get(..unexpected.behind).unwrap_or(""));
+    let Ok(before) = before.to_ascii_uppercase(alloc) else {
+        return Ok(());
+    };
+    let mut nearest = Nearest::new(alloc, before.as_str());
+    nearest.offer_word(Word::Exists.as_str());
+    offer(&mut nearest, &QUANTIFIER_WORDS);
+    nearest.write_hint(f)
 }
 
 /// Whether a name could have stood there and may have been meant: where a value is wanted, words that go on with a query are no names.
@@ -172,10 +193,10 @@ static QUANTIFIER_WORDS: [Word; 3] = [Word::All, Word::Any, Word::Some];
 fn write_near_word<W: fmt::Write>(
     f: &mut Formatter<W>,
     alloc: Global,
-    found: &str,
+    script: &str,
     unexpected: &Unexpected,
 ) -> fmt::Result {
-    let Ok(found) = found.to_ascii_uppercase(alloc) else {
+    let Ok(found) = token_text(script, unexpected).to_ascii_uppercase(alloc) else {
         return Ok(());
     };
     let mut nearest = Nearest::new(alloc, found.as_str());
@@ -189,21 +210,50 @@ fn write_near_word<W: fmt::Write>(
             _ => {}
         }
     }
-    if nearest.name().is_none()
-        && unexpected
-            .wanted
-            .classes()
-            .contains(&TokenClass::Word(Word::As))
-    {
+    if nearest.name().is_none() && is_behind_item(script, unexpected) {
         return f.write_str("hint: a comma stands between two columns, and AS before a new name\n");
     }
     nearest.write_hint(f)
 }
 
+/// Whether a result column is whole before the name that stands there, and the list or the query goes on behind it.
+fn is_behind_item(script: &str, unexpected: &Unexpected) -> bool {
+    let wants_name = unexpected
+        .wanted
+        .classes()
+        .contains(&TokenClass::Word(Word::As));
+    let rest = text_behind(script, unexpected);
+    wants_name && (rest.trim_start().starts_with(",") || begins_from(rest))
+}
+
+/// Whether a text begins with FROM and a name.
+fn begins_from(text: &str) -> bool {
+    let text = text.trim_start();
+    let is_from = begins_with_word(text, "FROM");
+    let table = first_word(text.get("FROM".len()..).unwrap_or(""));
+    is_from && !table.is_empty() && !goes_on_with(table)
+}
+
+/// Whether a word, in letters of whatever case, goes on with a query behind FROM.
+fn goes_on_with(word: &str) -> bool {
+    BEHIND_FROM
+        .iter()
+        .any(|it| it.as_str().eq_ignore_ascii_case(word))
+}
+
+/// The words that come behind the tables of FROM.
+static BEHIND_FROM: [Word; 4] = [Word::Where, Word::Group, Word::Having, Word::Order];
+
 fn offer(nearest: &mut Nearest, words: &[Word]) {
     for word in words {
         nearest.offer_word(word.as_str());
     }
+}
+
+/// What stands behind that token.
+fn text_behind<'a>(script: &'a str, unexpected: &Unexpected) -> &'a str {
+    let end = unexpected.offset.saturating_add(unexpected.length);
+    script.get(end..).unwrap_or("")
 }
 
 /// The token that stands at the place, as it is written.

@@ -27,6 +27,7 @@ ghost use Rattle.plan_space.specs.Measures.{Measures};
 use crate::join_graph::JoinGraph;
 use crate::merge_joins::Merges;
 use crate::merge_lists::BlockMerges;
+use crate::notes::{PlanNote, add_notes};
 use crate::path_lists::BlockPaths;
 use crate::paths::Paths;
 use crate::plan_summary::PlanSummary;
@@ -256,6 +257,18 @@ impl<'a> Space<'a> {
         ensures below { result ≤ limit }
     {
         self.estimates.sort_cost(tables)
+    }
+
+    /// Adds what a reader should know of the figures that the block's plans rest on, where the block has this number and its least plan
+    /// costs so much (own).
+    pub fn add_notes(
+        &self,
+        alloc: Global,
+        notes: &mut Vec<PlanNote>,
+        block: usize,
+        least: u64,
+    ) -> Result<(), AllocError> {
+        add_notes(alloc, notes, block, &self.estimate, least)
     }
 
     /// What a plan comes to, or none where it is no plan of the block, on whichever of its tables. It looks at all paths or merges of

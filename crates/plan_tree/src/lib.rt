@@ -9,7 +9,7 @@ mod plan;
 mod states;
 mod table_set;
 
-pub use limits::saturate;
+pub use limits::{LIMIT, saturate};
 pub use order::SortKey;
 pub use path::{MAX_MATCHED, Path};
 pub use plan::{Inner, Plan};

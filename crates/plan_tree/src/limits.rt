@@ -4,7 +4,7 @@ ghost use Rattle.std.specs.Prelude.{◌≡◌, ◌≤◌};
 ghost use Rattle.definitions.specs.Plans.Cost as cost;
 
 /// No number of rows or pages and no cost is above it (own).
-const LIMIT: u64 = 1_000_000_000_000_000_000;
+pub const LIMIT: u64 = 1_000_000_000_000_000_000;
 
 /// A sum or a product, which stops at the limit (own).
 pub fn saturate(number: u128) -> u64

@@ -21,7 +21,7 @@ pub use fault::{BindFault, QueryFault};
 pub use group::{group_columns, is_grouped, shown_place};
 pub use key::{MAX_KEYS, bound_order};
 pub use leaf::{MAX_SCALE, Typed, column, number, string};
-pub use limit::{MAX_CONJUNCTS, MAX_GROUP_COLUMNS, MAX_ITEMS, judge_limits};
+pub use limit::{MAX_CONJUNCTS, MAX_GROUP_COLUMNS, MAX_ITEMS, is_conjunction, judge_limits};
 pub use named_table::NamedTable;
 pub use operand::{are_logical, function_type, joined_scale, judge_kinds, number_scale, operator};
 pub use resolution::{Found, Resolution};

@@ -62,7 +62,7 @@ fn conjuncts_left(condition: &Expr, room: usize) -> Option<usize>
 }
 
 /// Whether operands behind the first stand under AND.
-fn is_conjunction(others: &[Operand]) -> bool
+pub fn is_conjunction(others: &[Operand]) -> bool
     ensures { result ≡ is_conjunction (operands (map operand_of others.now)) }
 {
     match others.first() {

@@ -49,8 +49,11 @@ pub enum Cause<'a> {
     Statistics(StatisticsCause<'a>),
     /// There is no table to load.
     NoTable(&'a Name),
-    /// There is no file of a name.
-    NoFile(&'a StringLiteral),
+    /// There is no file of a name to load into a table.
+    NoFile {
+        table: &'a Name,
+        file: &'a StringLiteral,
+    },
     /// A table would have too many rows.
     ManyRows(&'a Name),
     /// A record of a file is no row of a table.

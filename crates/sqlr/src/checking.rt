@@ -15,6 +15,7 @@ use crate::checked::{Checked, check_query, end_of, query_of};
 use crate::ended::{Ended, RunFault};
 use crate::library::Library;
 use crate::outcome::{Printed, StepFault};
+use crate::progress::Planned;
 use crate::script::{ScriptFault, parse_script};
 use crate::session::{Session, place_of, tell_cause};
 use crate::sink::Sink;
@@ -73,7 +74,7 @@ impl<L: Library> Session<L> {
         let Some((last, before)) = statements.split_last() else {
             return put_text(NOTHING, Ended::Faulted, sink);
         };
-        match self.prepare(before) {
+        match self.prepare(before, sink) {
             Ok(None) => self.check_last(last, certificates, sink),
             Ok(Some(printed)) => put_refused(&printed, &self.database, sink),
             Err(fault) => Err(fault),
@@ -81,7 +82,11 @@ impl<L: Library> Session<L> {
     }
 
     /// The statements before the last: what the first of them prints that is refused, if one is.
-    fn prepare<'a>(&mut self, statements: &'a [Statement]) -> Result<Option<Printed<'a>>, RunFault>
+    fn prepare<'a, S: Sink>(
+        &mut self,
+        statements: &'a [Statement],
+        sink: &S,
+    ) -> Result<Option<Printed<'a>>, RunFault>
         ensures prepared { IfOk result (ArePrepared L.answers self.old (statements_of statements.entry.now) self.new) }
         ensures breaks { IfErr result (BreaksPreparing L.answers L.fails self.old (statements_of statements.entry.now)
             self.new) }
@@ -90,7 +95,7 @@ impl<L: Library> Session<L> {
     {
         'statements: for statement in statements {
             let offset = place_of(statement);
-            match self.prepare_statement(statement) {
+            match self.prepare_statement(statement, sink) {
                 Ok(None) => {}
                 Ok(Some(printed)) => return Ok(Some(printed)),
                 Err(StepFault::Memory) => return Err(RunFault::Memory { offset }),
@@ -101,9 +106,10 @@ impl<L: Library> Session<L> {
     }
 
     /// Runs a statement, unless it has a query, and gives what it prints if it is refused.
-    fn prepare_statement<'a>(
+    fn prepare_statement<'a, S: Sink>(
         &mut self,
         statement: &'a Statement,
+        sink: &S,
     ) -> Result<Option<Printed<'a>>, StepFault>
         ensures prepared { IfOk result (IsPrepared L.answers self.old (statement_of statement.entry.now) self.new) }
         ensures breaks { IfErr result (BreaksPrepared L.answers L.fails self.old (statement_of statement.entry.now)
@@ -113,7 +119,7 @@ impl<L: Library> Session<L> {
         if query_of(statement).is_some() {
             return Ok(None);
         }
-        match self.step(statement) {
+        match self.step(statement, sink) {
             Ok(printed) => Ok(if_refused(printed)),
             Err(fault) => Err(fault),
         }
@@ -140,6 +146,12 @@ impl<L: Library> Session<L> {
         match check_query(self.alloc, &self.database, query, certificates) {
             Ok(Checked::Refused(printed)) => put_refused(&printed, &self.database, sink),
             Ok(Checked::Told(checked)) => {
+                let planned = Planned {
+                    query,
+                    blocks: &checked.blocks,
+                    notes: &checked.told.notes,
+                };
+                sink.report_plans(planned, &self.database);
                 sink.report_certificates(&checked, &self.database);
                 put_text(&checked.told.text, end_of(checked.told.ended), sink)
             }

@@ -7,17 +7,20 @@ ghost use Rattle.sqlr.specs.Explaining.{Explains};
 
 use crate::cause::{Cause, QueryCause};
 use crate::outcome::{Printed, StepFault, done, refusal_line};
+use crate::progress::WatchedQuery;
+use crate::sink::Sink;
 use binder::{BindFault, bind};
 use catalog::Database;
 use executor::explain_text;
 use std::alloc::Global;
 use syntax::Select;
 
-/// Tells the least plans of a query's blocks, or refuses the query.
-pub(crate) fn explain<'q>(
+/// Tells the least plans of a query's blocks, or refuses the query. A sink is told what the plans rest on.
+pub(crate) fn explain<'q, S: Sink>(
     alloc: Global,
     database: &Database,
     query: &'q Select,
+    sink: &S,
 ) -> Result<Printed<'q>, StepFault>
     ensures explains { IfOk result (Explains database.now (select_of query.now)) }
     ensures memory { IfErr result (λ f. f ≡ fault.Memory) }
@@ -32,6 +35,7 @@ pub(crate) fn explain<'q>(
         }
         Err(BindFault::Memory) => return Err(StepFault::Memory),
     };
-    let text = explain_text(alloc, database, &blocks)?;
+    let watch = WatchedQuery { sink, query };
+    let text = explain_text(alloc, database, &blocks, &watch)?;
     Ok(done(text))
 }

@@ -7,17 +7,20 @@ ghost use Rattle.sqlr.specs.Selecting.{Answers};
 
 use crate::cause::{Cause, QueryCause};
 use crate::outcome::{Printed, StepFault, done, exception_line, refusal_line};
+use crate::progress::WatchedQuery;
+use crate::sink::Sink;
 use binder::{BindFault, bind};
 use catalog::Database;
 use executor::{AnswerFault, answer_text};
 use std::alloc::Global;
 use syntax::Select;
 
-/// Answers a query by least plans of its blocks, or refuses it.
-pub(crate) fn select<'q>(
+/// Answers a query by least plans of its blocks, or refuses it. A sink is told of the plans and how far it is.
+pub(crate) fn select<'q, S: Sink>(
     alloc: Global,
     database: &Database,
     query: &'q Select,
+    sink: &S,
 ) -> Result<Printed<'q>, StepFault>
     ensures answers { IfOk result (Answers database.now (select_of query.now)) }
     ensures memory { IfErr result (λ f. f ≡ fault.Memory) }
@@ -32,7 +35,8 @@ pub(crate) fn select<'q>(
         }
         Err(BindFault::Memory) => return Err(StepFault::Memory),
     };
-    match answer_text(alloc, database, &blocks) {
+    let watch = WatchedQuery { sink, query };
+    match answer_text(alloc, database, &blocks, &watch) {
         Ok((text, work)) => Ok(Printed {
             work: Some(work),
             ..done(text)

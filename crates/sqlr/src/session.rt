@@ -18,6 +18,7 @@ use crate::ended::{Ended, RunFault};
 use crate::explaining::explain;
 use crate::library::{FetchFault, Fetched, Library};
 use crate::outcome::{Printed, StepFault, done, refusal_line, refused_record};
+use crate::progress::WatchedLoad;
 use crate::script::{ScriptFault, parse_script};
 use crate::select::select;
 use crate::sink::Sink;
@@ -137,7 +138,7 @@ impl<L: Library> Session<L> {
         let mut ended = Ended::Well;
         'statements: for statement in statements {
             let offset = place_of(statement);
-            let printed = match self.step(statement) {
+            let printed = match self.step(statement, sink) {
                 Ok(printed) => printed,
                 Err(StepFault::Memory) => return Err(RunFault::Memory { offset }),
                 Err(StepFault::Library) => return Err(RunFault::Library { offset }),
@@ -152,9 +153,13 @@ impl<L: Library> Session<L> {
         Ok(ended)
     }
 
-    /// Runs a statement. One that breaks off has changed nothing in the database; a LOAD may have asked
+    /// Runs a statement, and tells a sink how far it is. One that breaks off has changed nothing in the database; a LOAD may have asked
     /// the library for its file.
-    pub(crate) fn step<'a>(&mut self, statement: &'a Statement) -> Result<Printed<'a>, StepFault>
+    pub(crate) fn step<'a, S: Sink>(
+        &mut self,
+        statement: &'a Statement,
+        sink: &S,
+    ) -> Result<Printed<'a>, StepFault>
         ensures takes { IfOk result (Takes L.answers self.old (statement_of statement.now) self.new) }
         ensures breaks { IfErr result (BreaksAt L.answers L.fails self.old (statement_of statement.now) self.new) }
         ensures blamed { IsStepBlamed (L.failures self.old.library) (L.failures self.new.library) result }
@@ -169,7 +174,7 @@ impl<L: Library> Session<L> {
                 table,
                 columns,
             } => create_index(alloc, &mut self.database, *unique, table, columns),
-            Statement::Load { table, file } => self.load(table, file),
+            Statement::Load { table, file } => self.load(table, file, sink),
             Statement::SetTableStatistics { table, rows, pages } => {
                 set_table_statistics(alloc, &mut self.database, table, *rows, *pages)
             }
@@ -178,26 +183,27 @@ impl<L: Library> Session<L> {
                 columns,
                 statistics,
             } => set_index_statistics(alloc, &mut self.database, table, columns, statistics),
-            Statement::Query(query) => self.query(query),
-            Statement::Explain(query) => explain(alloc, &self.database, query),
+            Statement::Query(query) => self.query(query, sink),
+            Statement::Explain(query) => explain(alloc, &self.database, query, sink),
         }
     }
 
-    fn query<'a>(&mut self, query: &'a Select) -> Result<Printed<'a>, StepFault>
+    fn query<'a, S: Sink>(&mut self, query: &'a Select, sink: &S) -> Result<Printed<'a>, StepFault>
         ensures takes { IfOk result (Takes L.answers self.old (tree.Query (select_of query.now)) self.new) }
         ensures breaks { IfErr result (BreaksAt L.answers L.fails self.old (tree.Query (select_of query.now))
             self.new) }
         ensures blamed { IsStepBlamed (L.failures self.old.library) (L.failures self.new.library) result }
     {
-        let printed = select(self.alloc, &self.database, query)?;
+        let printed = select(self.alloc, &self.database, query, sink)?;
         self.work = printed.work.unwrap_or(self.work);
         Ok(printed)
     }
 
-    fn load<'a>(
+    fn load<'a, S: Sink>(
         &mut self,
         table: &'a Name,
         file: &'a StringLiteral,
+        sink: &S,
     ) -> Result<Printed<'a>, StepFault>
         ensures takes { IfOk result (Takes L.answers self.old (tree.Load (name_of table.now) (text_of file.now))
             self.new) }
@@ -209,15 +215,22 @@ impl<L: Library> Session<L> {
             return refusal_line(self.alloc, Refusal::NotFound, Cause::NoTable(table));
         }
         match self.library.fetch(file.text.as_str()) {
-            Ok(Fetched::Bytes(bytes)) => self.load_bytes(FileLoad { table, file, bytes }),
-            Ok(Fetched::Absent) => refusal_line(self.alloc, Refusal::NoFile, Cause::NoFile(file)),
+            Ok(Fetched::Bytes(bytes)) => self.load_bytes(FileLoad { table, file, bytes }, sink),
+            Ok(Fetched::Absent) => {
+                let cause = Cause::NoFile { table, file };
+                refusal_line(self.alloc, Refusal::NoFile, cause)
+            }
             Err(FetchFault::Device) => Err(StepFault::Library),
             Err(FetchFault::Memory) => Err(StepFault::Memory),
         }
     }
 
     /// Loads the bytes of a file into a table that is there.
-    fn load_bytes<'a>(&mut self, load: FileLoad<'a>) -> Result<Printed<'a>, StepFault>
+    fn load_bytes<'a, S: Sink>(
+        &mut self,
+        load: FileLoad<'a>,
+        sink: &S,
+    ) -> Result<Printed<'a>, StepFault>
         requires { table_named self.old.database (name_of load.table.now) ≢ None }
         ensures takes { IfOk result (TakesBytes self.old.database (name_of load.entry.table.now)
             load.entry.bytes.items self.new.database) }
@@ -227,7 +240,11 @@ impl<L: Library> Session<L> {
         ensures work { self.new.work ≡ self.old.work }
     {
         let mut text = Vec::with_capacity(self.alloc, LOADED_ROOM)?;
-        match self.database.load(load.table.text.as_str(), &load.bytes) {
+        let watch = WatchedLoad { sink };
+        match self
+            .database
+            .load(load.table.text.as_str(), &load.bytes, &watch)
+        {
             Ok(rows) => {
                 write_loaded(&mut text, rows);
                 Ok(done(text))

@@ -8,6 +8,7 @@ ghost use Rattle.sqlr.specs.Devices.{Took, TookBeginning};
 
 use crate::cause::Refused;
 use crate::checked::CheckedFile;
+use crate::progress::{Planned, Progress};
 use catalog::Database;
 use sqlvalue::Raise;
 use thiserror::Error;
@@ -39,6 +40,13 @@ pub trait Sink {
         ensures taken { taken self.new ≡ taken self.old }
         ensures counted { failures self.new ≡ failures self.old }
     {}
+
+    /// Is told what there is to know of the figures that the plans of a query's blocks rest on, before its first row is read, with the
+    /// database that the query is over (own). It does nothing, unless a sink has another body.
+    fn report_plans(&self, _planned: Planned<'_>, _database: &Database) {}
+
+    /// Is told now and then how far a statement is (own). It does nothing, unless a sink has another body.
+    fn report_progress(&self, _progress: Progress) {}
 
     /// Is told what was told of the certificates of a query's blocks, before its lines are put, with the
     /// database that the query is over (own). It does nothing, unless a sink has another body.

@@ -16,6 +16,7 @@ use sqlr::requests::Request;
 use sqlr::{Failures, RunFault, Session, request, status};
 use standard_error::StandardError;
 use std::alloc::AllocError;
+use std::cell::Cell;
 use std::env;
 use std::io::{self, ErrorKind, IsTerminal};
 use std::marker::Brand;
@@ -126,7 +127,7 @@ fn do_request<'a, F: Ledger, P: Ledger, R: Runtime + AllocGlobal>(
         standard_error,
         reporter: Reporter::new(rt.alloc(), script_name, &script),
         certificates_name,
-        messages: 0,
+        messages: Cell::new(0),
         failures: put_failures,
         fault: None,
     };

@@ -1,12 +1,11 @@
 //! Standard output as a sink.
 
-ghost use Rattle.std.specs.Prelude.{◌≡◌};
-
 use crate::standard_error::StandardError;
 use catalog::Database;
 use messages_statements::Reporter;
-use sqlr::{CheckedFile, Failures, Refused, Sink, SinkFault};
+use sqlr::{CheckedFile, Failures, LoadProgress, Planned, Progress, Refused, Sink, SinkFault};
 use sqlvalue::Raise;
+use std::cell::Cell;
 use std::io::{self, Write};
 use std::rt::Runtime;
 use std::sync::ledger::Ledger;
@@ -24,7 +23,7 @@ pub struct Output<'a, 's, L: Ledger, R: Runtime + AllocGlobal, W: Write + Drop> 
     /// What messages call the file of certificates, if there is one.
     pub certificates_name: &'s str,
     /// How many messages on statements there were.
-    pub messages: u64,
+    pub messages: Cell<u64>,
     pub failures: Failures<L>,
     /// Why the writer failed last.
     pub fault: Option<io::Error>,
@@ -39,7 +38,9 @@ impl<L: Ledger, R: Runtime + AllocGlobal, W: Write + Drop> Sink for Output<'_, '
 
     fn put(&mut self, bytes: &[u8]) -> Result<(), SinkFault> {
         self.standard_error.clear_notice();
-        match write_and_flush(&mut self.writer, bytes) {
+        let written = write_and_flush(&mut self.writer, bytes);
+        self.standard_error.begin_statement();
+        match written {
             Ok(()) => Ok(()),
             Err(reason) => {
                 self.failures.rise();
@@ -63,6 +64,37 @@ impl<L: Ledger, R: Runtime + AllocGlobal, W: Write + Drop> Sink for Output<'_, '
         }
     }
 
+    fn report_plans(&self, planned: Planned<'_>, database: &Database) {
+        let report = self.reporter.report_plans(planned, database);
+        if !report.is_empty() && self.may_tell() {
+            self.standard_error.print(report);
+        }
+    }
+
+    fn report_progress(&self, progress: Progress) {
+        match progress {
+            Progress::Load(
+                LoadProgress {
+                    records,
+                    bytes,
+                    of_bytes,
+                },
+            ) => {
+                let share = bytes
+                    .saturating_mul(100)
+                    .checked_div(of_bytes)
+                    .unwrap_or(100);
+                self.standard_error.show_progress(format_args!(
+                    "{records} rows so far, {share} % of the file"
+                ));
+            }
+            Progress::Select { combinations } => {
+                self.standard_error
+                    .show_progress(format_args!("{combinations} rows so far"));
+            }
+        }
+    }
+
     fn report_certificates(&mut self, checked: &CheckedFile, database: &Database) {
         let name = self.certificates_name;
         let report = self.reporter.report_certificates(name, checked, database);
@@ -72,16 +104,14 @@ impl<L: Ledger, R: Runtime + AllocGlobal, W: Write + Drop> Sink for Output<'_, '
 
 impl<L: Ledger, R: Runtime + AllocGlobal, W: Write + Drop> Output<'_, '_, L, R, W> {
     /// Counts a message, and tells whether it is printed.
-    fn may_tell(&mut self) -> bool
-        ensures { self.new.failures ≡ self.old.failures }
-    {
-        self.messages = self.messages.saturating_add(1);
-        self.messages <= MAX_MESSAGES
+    fn may_tell(&self) -> bool {
+        self.messages.set(self.messages.get().saturating_add(1));
+        self.messages.get() <= MAX_MESSAGES
     }
 
     /// How many messages were left out.
     pub fn left_out(&self) -> u64 {
-        self.messages.saturating_sub(MAX_MESSAGES)
+        self.messages.get().saturating_sub(MAX_MESSAGES)
     }
 }
 

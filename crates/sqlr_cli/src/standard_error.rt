@@ -4,6 +4,7 @@ use std::cell::Cell;
 use std::fmt::Display;
 use std::io;
 use std::rt::Runtime;
+use std::time::Instant;
 
 /// Goes to the beginning of a terminal's line, and clears it.
 const CLEAR_LINE: &str = "\r\x1b[K";
@@ -15,6 +16,10 @@ pub struct StandardError<'a, R: Runtime + AllocGlobal> {
     rt: &'a R,
     is_terminal: bool,
     has_notice: Cell<bool>,
+    /// When the statement began that runs, where a clock tells it.
+    began: Cell<Option<Instant>>,
+    /// The second of it in which its progress was shown last.
+    shown: Cell<u64>,
 }
 
 impl<'a, R: Runtime + AllocGlobal> StandardError<'a, R> {
@@ -23,6 +28,36 @@ impl<'a, R: Runtime + AllocGlobal> StandardError<'a, R> {
             rt,
             is_terminal,
             has_notice: Cell::new(false),
+            began: Cell::new(Instant::now(rt).ok()),
+            shown: Cell::new(0),
+        }
+    }
+
+    /// Notes that the next statement begins.
+    pub fn begin_statement(&self) {
+        if self.is_terminal {
+            self.began.set(Instant::now(self.rt).ok());
+            self.shown.set(0);
+        }
+    }
+
+    /// Shows how far a statement is and how many seconds it has run, once a second, where this is a terminal.
+    pub fn show_progress<D: Display + Drop>(&self, words: D) {
+        if !self.is_terminal {
+            return;
+        }
+        let seconds = self.seconds();
+        if seconds > self.shown.get() {
+            self.shown.set(seconds);
+            self.show_notice(format_args!("{words}, {seconds} s"));
+        }
+    }
+
+    /// How many whole seconds the statement has run; none where no clock tells it.
+    fn seconds(&self) -> u64 {
+        match self.began.get() {
+            Some(began) => began.elapsed(self.rt).map_or(0, |it| it.as_secs()),
+            None => 0,
         }
     }
 

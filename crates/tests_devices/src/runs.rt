@@ -7,6 +7,7 @@ use crate::tape::Tape;
 use messages_statements::Reporter;
 use sqlr::{Ended, Failures, Library, RunFault, Session};
 use std::alloc::Global;
+use std::cell::Cell;
 use std::marker::Brand;
 use std::sync::ledger::{Blank, Ledger};
 
@@ -83,7 +84,7 @@ fn on_tape<L: Ledger, B: Library>(
         room: part.room,
         failures: Failures::new(book, share),
         reporter: Reporter::new(alloc, SCRIPT_NAME, part.script),
-        messages: String::new(alloc),
+        messages: Cell::new(Some(String::new(alloc))),
         refusals: String::new(alloc),
     };
     let end = session.run(part.script, &mut tape);
@@ -96,7 +97,7 @@ fn on_tape<L: Ledger, B: Library>(
     Ran {
         end,
         printed: bytes,
-        messages,
+        messages: messages.into_inner().unwrap_or(String::new(alloc)),
         refusals,
     }
 }
@@ -121,7 +122,7 @@ fn check_on_tape<L: Ledger, B: Library>(
         room: part.room,
         failures: Failures::new(book, share),
         reporter: Reporter::new(alloc, SCRIPT_NAME, part.script),
-        messages: String::new(alloc),
+        messages: Cell::new(Some(String::new(alloc))),
         refusals: String::new(alloc),
     };
     let end = session.check(part.script, certificates, &mut tape);
@@ -134,7 +135,7 @@ fn check_on_tape<L: Ledger, B: Library>(
     Ran {
         end,
         printed: bytes,
-        messages,
+        messages: messages.into_inner().unwrap_or(String::new(alloc)),
         refusals,
     }
 }

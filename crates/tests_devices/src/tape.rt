@@ -2,9 +2,10 @@
 
 use catalog::Database;
 use messages_statements::Reporter;
-use sqlr::{CheckedFile, Failures, Refused, Sink, SinkFault};
+use sqlr::{CheckedFile, Failures, Planned, Refused, Sink, SinkFault};
 use sqlvalue::Raise;
 use std::alloc::AllocError;
+use std::cell::Cell;
 use std::fmt::Display;
 use std::sync::ledger::Ledger;
 
@@ -19,8 +20,8 @@ pub struct Tape<'a, L: Ledger> {
     pub room: usize,
     pub failures: Failures<L>,
     pub reporter: Reporter<'a>,
-    /// The messages, as far as there was memory for them.
-    pub messages: String,
+    /// The messages, as far as there was memory for them; some are told while the tape is only looked at.
+    pub messages: Cell<Option<String>>,
     /// Those on what was refused alone.
     pub refusals: String,
 }
@@ -48,21 +49,35 @@ impl<L: Ledger> Sink for Tape<'_, L> {
 
     fn report(&mut self, refused: &Refused, database: &Database) {
         let report = self.reporter.report(refused, database);
-        let _ = push(&mut self.messages, &report);
+        keep(&self.messages, &report);
         let _ = push(&mut self.refusals, report);
     }
 
     fn report_exception(&mut self, raise: Raise) {
-        let report = self.reporter.report_exception(raise);
-        let _ = push(&mut self.messages, report);
+        keep(&self.messages, self.reporter.report_exception(raise));
+    }
+
+    fn report_plans(&self, planned: Planned<'_>, database: &Database) {
+        keep(
+            &self.messages,
+            self.reporter.report_plans(planned, database),
+        );
     }
 
     fn report_certificates(&mut self, checked: &CheckedFile, database: &Database) {
         let report = self
             .reporter
             .report_certificates(CERTIFICATES_NAME, checked, database);
-        let _ = push(&mut self.messages, &report);
+        keep(&self.messages, &report);
         let _ = push(&mut self.refusals, report);
+    }
+}
+
+/// Adds a message, if there is memory for it.
+fn keep<D: Display + Drop>(messages: &Cell<Option<String>>, message: D) {
+    if let Some(mut kept) = messages.replace(None) {
+        let _ = push(&mut kept, message);
+        messages.set(Some(kept));
     }
 }
 

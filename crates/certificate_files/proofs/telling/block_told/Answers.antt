@@ -12,8 +12,8 @@ read_text-requires c =
     let own = certified c.args.database.now c.args.number (block_of c.args.block.now) (version_of c.args.version) in
     record { few = few_tables c.args.database.now (block_of c.args.block.now) _ c.requires.formed (c.certified_block.ensures own c.in_ok-own.ensures).tables }
 
-pub spelled_told-requires : goal.spelled_told-requires
-spelled_told-requires c =
+pub spelled_told-told-requires : goal.spelled_told-told-requires
+spelled_told-told-requires c =
     let own = certified c.args.database.now c.args.number (block_of c.args.block.now) (version_of c.args.version) in
     is_certificate c.args.database.now c.args.number (block_of c.args.block.now) (version_of c.args.version) (space_in c.in_ok-own.own.space) c.in_ok-own.ensures.space c.args.bytes.now
     (certificate_of c.in-Ok.spelled.certificate) c.in-Ok.spelled.plan (c.in-Ok.ensures.ok own (c.certified_block.ensures own c.in_ok-own.ensures))
@@ -23,7 +23,7 @@ returns-in-Ok-clause-told c =
     let own = certified c.args.database.now c.args.number (block_of c.args.block.now) (version_of c.args.version) in
     told_of_read c.args.database.now c.args.number (block_of c.args.block.now) (version_of c.args.version) (space_in c.in_ok-own.own.space) c.in_ok-own.ensures.space c.args.bytes.now
     (certificate_of c.in-Ok.spelled.certificate) c.requires.valid c.in-Ok.spelled.plan (c.in-Ok.ensures.ok own (c.certified_block.ensures own c.in_ok-own.ensures))
-    (told_of c.spelled_told.result) c.spelled_told.ensures.told
+    (told_of c.spelled_told-told.result) c.spelled_told-told.ensures.told
 
 pub returns-clause-told : goal.returns-clause-told
 returns-clause-told c =

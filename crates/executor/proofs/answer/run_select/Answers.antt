@@ -34,14 +34,14 @@ use Rattle.executor.proofs.Outermost.{late_allowed, passed_over, raise_allowed, 
 use Rattle.executor.proofs.answer.run_select.Goals as goal
 
 pub run_plan-requires-clause-surrounded : goal.run_plan-requires-clause-surrounded
-run_plan-requires-clause-surrounded c =
+run_plan-requires-clause-surrounded g c =
     let query = c.args.query.now in
     let r : ReadyBlock = c.index-query-0.result in
     let at_block : slice_get query 0 ≡ Some r = slice_get-get_or query 0 r c.requires.outermost ∙ ap Some (sym c.index-query-0.is) in
     subst (IsSurrounded r.source) (sym c.new-frames.ensures) (surrounded query c.requires.query 0 r at_block [] c.requires.stands)
 
 pub run_plan-requires-clause-orders : goal.run_plan-requires-clause-orders
-run_plan-requires-clause-orders c =
+run_plan-requires-clause-orders g c =
     let query = c.args.query.now in
     let r : ReadyBlock = c.index-query-0.result in
     let at_block : slice_get query 0 ≡ Some r = slice_get-get_or query 0 r c.requires.outermost ∙ ap Some (sym c.index-query-0.is) in
@@ -49,7 +49,7 @@ run_plan-requires-clause-orders c =
     c.orders.ensures.exact ∙ ap (λ (s : Space). s.orders) ready.space
 
 pub run_plan-requires-clause-within : goal.run_plan-requires-clause-within
-run_plan-requires-clause-within c =
+run_plan-requires-clause-within g c =
     let query = c.args.query.now in
     let r : ReadyBlock = c.index-query-0.result in
     let at_block : slice_get query 0 ≡ Some r = slice_get-get_or query 0 r c.requires.outermost ∙ ap Some (sym c.index-query-0.is) in
@@ -57,7 +57,7 @@ run_plan-requires-clause-within c =
     ready.within
 
 pub composites-init : goal.composites-init
-composites-init c =
+composites-init g c =
     let query = c.args.query.now in
     let r : ReadyBlock = c.index-query-0.result in
     let at_block : slice_get query 0 ≡ Some r = slice_get-get_or query 0 r c.requires.outermost ∙ ap Some (sym c.index-query-0.is) in
@@ -75,10 +75,10 @@ composites-init c =
     }
 
 pub next-requires : goal.next-requires
-next-requires c = subst (IsLine c.composites.line) (sym c.composites.invariant.frames_are) c.composites.invariant.line
+next-requires g c = subst (IsLine c.composites.line) (sym c.composites.invariant.frames_are) c.composites.invariant.line
 
 pub returns-in_err-late-2-clause-raised : goal.returns-in_err-late-2-clause-raised
-returns-in_err-late-2-clause-raised c =
+returns-in_err-late-2-clause-raised g c =
     let query = c.args.query.now in
     let r : ReadyBlock = c.index-query-0.result in
     let at_block : slice_get query 0 ≡ Some r = slice_get-get_or query 0 r c.requires.outermost ∙ ap Some (sym c.index-query-0.is) in
@@ -102,7 +102,7 @@ returns-in_err-late-2-clause-raised c =
     (raises query c.requires.query r at_block c.requires.stands composite c.in_ok-late.late said raise (left_of c.in_ok-line.line []) done (left_of line []) (left_of c.next.new.self []) c.in_err-late-2.was split is))
 
 pub add-requires-clause-block : goal.add-requires-clause-block
-add-requires-clause-block c =
+add-requires-clause-block g c =
     let query = c.args.query.now in
     let r : ReadyBlock = c.index-query-0.result in
     let at_block : slice_get query 0 ≡ Some r = slice_get-get_or query 0 r c.requires.outermost ∙ ap Some (sym c.index-query-0.is) in
@@ -110,14 +110,14 @@ add-requires-clause-block c =
     ready.block
 
 pub add-requires-clause-can : goal.add-requires-clause-can
-add-requires-clause-can c =
+add-requires-clause-can g c =
     let query = c.args.query.now in
     let r : ReadyBlock = c.index-query-0.result in
     let at_block : slice_get query 0 ≡ Some r = slice_get-get_or query 0 r c.requires.outermost ∙ ap Some (sym c.index-query-0.is) in
     subst (CanAnswer r.source) (sym (c.in_ok-late.ensures.frames ∙ c.composites.invariant.frames_are)) (can query c.requires.query 0 r at_block [] c.requires.stands)
 
 pub composites-preserved-in-Continue-branch-6 : goal.composites-preserved-in-Continue-branch-6
-composites-preserved-in-Continue-branch-6 c =
+composites-preserved-in-Continue-branch-6 g c =
     let query = c.args.query.now in
     let r : ReadyBlock = c.index-query-0.result in
     let at_block : slice_get query 0 ≡ Some r = slice_get-get_or query 0 r c.requires.outermost ∙ ap Some (sym c.index-query-0.is) in
@@ -154,7 +154,7 @@ composites-preserved-in-Continue-branch-6 c =
     }
 
 pub composites-preserved : goal.composites-preserved
-composites-preserved c =
+composites-preserved g c =
     let query = c.args.query.now in
     let r : ReadyBlock = c.index-query-0.result in
     let at_block : slice_get query 0 ≡ Some r = slice_get-get_or query 0 r c.requires.outermost ∙ ap Some (sym c.index-query-0.is) in
@@ -190,7 +190,7 @@ composites-preserved c =
     }
 
 pub finish-requires-clause-block : goal.finish-requires-clause-block
-finish-requires-clause-block c =
+finish-requires-clause-block g c =
     let query = c.args.query.now in
     let r : ReadyBlock = c.index-query-0.result in
     let at_block : slice_get query 0 ≡ Some r = slice_get-get_or query 0 r c.requires.outermost ∙ ap Some (sym c.index-query-0.is) in
@@ -198,14 +198,14 @@ finish-requires-clause-block c =
     ready.block
 
 pub finish-requires-clause-can : goal.finish-requires-clause-can
-finish-requires-clause-can c =
+finish-requires-clause-can g c =
     let query = c.args.query.now in
     let r : ReadyBlock = c.index-query-0.result in
     let at_block : slice_get query 0 ≡ Some r = slice_get-get_or query 0 r c.requires.outermost ∙ ap Some (sym c.index-query-0.is) in
     subst (CanAnswer r.source) (sym c.composites.invariant.frames_are) (can query c.requires.query 0 r at_block [] c.requires.stands)
 
 pub returns-in_err-store-clause-raised : goal.returns-in_err-store-clause-raised
-returns-in_err-store-clause-raised c =
+returns-in_err-store-clause-raised g c =
     let query = c.args.query.now in
     let r : ReadyBlock = c.index-query-0.result in
     let at_block : slice_get query 0 ≡ Some r = slice_get-get_or query 0 r c.requires.outermost ∙ ap Some (sym c.index-query-0.is) in
@@ -223,7 +223,7 @@ returns-in_err-store-clause-raised c =
     rw (e.1, e.2) (raise_allowed query c.requires.query r at_block c.requires.stands whole_line arranged ordered c.composites.rows kept (combinations_in c.composites.frames) same c.in_err-store.field-0.0 c.in_err-store.ensures.raised)
 
 pub returns-clause-rows : goal.returns-clause-rows
-returns-clause-rows c =
+returns-clause-rows g c =
     let query = c.args.query.now in
     let r : ReadyBlock = c.index-query-0.result in
     let at_block : slice_get query 0 ≡ Some r = slice_get-get_or query 0 r c.requires.outermost ∙ ap Some (sym c.index-query-0.is) in
@@ -243,7 +243,7 @@ returns-clause-rows c =
     text_allowed query c.requires.query r at_block c.requires.stands whole_line arranged ordered c.composites.rows kept (combinations_in c.composites.frames) same c.in_ok-store.store _ c.in_ok-text.text.items c.in_ok-store.ensures.rows order distinct keys c.in_ok-text.ensures
 
 pub returns-clause-total : goal.returns-clause-total
-returns-clause-total c =
+returns-clause-total g c =
     let query = c.args.query.now in
     let r : ReadyBlock = c.index-query-0.result in
     let at_block : slice_get query 0 ≡ Some r = slice_get-get_or query 0 r c.requires.outermost ∙ ap Some (sym c.index-query-0.is) in

@@ -9,13 +9,13 @@ use Rattle.executor.proofs.Explained.{ExplainsTo, next_explained, explains_all, 
 use Rattle.executor.proofs.explaining.explain_text.Goals as goal
 
 pub block_text-requires-clause-formed : goal.block_text-requires-clause-formed
-block_text-requires-clause-formed c = each_formed (IsFormedSomewhere c.args.database.now) c.args.blocks.now _ _ c.requires.formed c.texts-test.true c.block-item.is
+block_text-requires-clause-formed g c = each_formed (IsFormedSomewhere c.args.database.now) c.args.blocks.now _ _ c.requires.formed c.texts-test.true c.block-item.is
 
 pub block_text-requires-clause-few : goal.block_text-requires-clause-few
-block_text-requires-clause-few c = few_left _ _ _ c.texts.invariant.number c.texts-test.true c.requires.few
+block_text-requires-clause-few g c = few_left _ _ _ c.texts.invariant.number c.texts-test.true c.requires.few
 
 pub texts-preserved : goal.texts-preserved
-texts-preserved c =
+texts-preserved g c =
     let db : Database = c.args.database.now in
     let blocks = map block_of c.args.blocks.now in
     let own = subst (λ (n : ℕ). IsExplained (certified db n (block_of c.block-item.result) current_version) c.in_ok-own.own.items) c.texts.invariant.number c.in_ok-own.ensures in
@@ -27,4 +27,4 @@ texts-preserved c =
     }
 
 pub returns : goal.returns
-returns c = explains_all c.args.database.now (map block_of c.args.blocks.now) c.texts.block-index c.texts.text.items (omega (arith, c.texts-test.false, length-map c.args.blocks.now block_of)) c.texts.invariant.explained
+returns g c = explains_all c.args.database.now (map block_of c.args.blocks.now) c.texts.block-index c.texts.text.items (omega (arith, c.texts-test.false, length-map c.args.blocks.now block_of)) c.texts.invariant.explained

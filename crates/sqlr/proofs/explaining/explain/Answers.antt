@@ -11,18 +11,18 @@ use Rattle.sqlr.proofs.Written.{written}
 use Rattle.sqlr.proofs.explaining.explain.Goals as goal
 
 pub returns-in-Err-Refused-clause-explains : goal.returns-in-Err-Refused-clause-explains
-returns-in-Err-Refused-clause-explains c =
+returns-in-Err-Refused-clause-explains g c =
     fault_told _ _ _ _ (rw c.refusal.ensures (rw c.in-Err-Refused.field-0-is at c.in-Err-Refused.ensures.refused)) c.refusal_line.ensures.text c.refusal_line.ensures.ended
 
 pub explain_text-requires-clause-formed : goal.explain_text-requires-clause-formed
-explain_text-requires-clause-formed c =
+explain_text-requires-clause-formed g c =
     rw c.deref.ensures.value (blocks_formed c.args.database.now (select_of c.args.query.now) (map block_of c.in-Ok.blocks.items) c.tables-tables.ensures.valid (written c.args.database.now c.args.query.now) c.in-Ok.ensures.bound)
 
 pub explain_text-requires-clause-few : goal.explain_text-requires-clause-few
-explain_text-requires-clause-few c = rw c.deref.ensures.value (blocks_few c.args.database.now (select_of c.args.query.now) c.in-Ok.blocks.items c.in-Ok.ensures.bound)
+explain_text-requires-clause-few g c = rw c.deref.ensures.value (blocks_few c.args.database.now (select_of c.args.query.now) c.in-Ok.blocks.items c.in-Ok.ensures.bound)
 
 pub returns-clause-explains : goal.returns-clause-explains
-returns-clause-explains c =
+returns-clause-explains g c =
     let db : Database = c.args.database.now in
     let blocks = map block_of c.in-Ok.blocks.items in
     told blocks (accepted db (select_of c.args.query.now) blocks c.in-Ok.ensures.bound) c.in-Ok.ensures.bound

@@ -22,11 +22,11 @@ returns-in-Ok-Refused-clause-breaks g c =
 
 pub returns-in-Ok-Told-clause-checks : goal.returns-in-Ok-Told-clause-checks
 returns-in-Ok-Told-clause-checks g c =
-    rw (sym c.self.view_is) (told_put _ _ _ _ _ (select_of c.in-Some.query.now) c.in-Ok-Told.checked c.end_of.result c.put_text-in-Ok-Told.result c.in-Some.ensures (rw c.in-Ok-Told.field-0-is at c.in-Ok-Told.ensures.checked) c.end_of.ensures c.put_text-in-Ok-Told.ensures.ended (rw (c.deref.ensures.value, c.report_certificates.ensures.taken) at c.put_text-in-Ok-Told.ensures.taken))
+    rw (sym c.self.view_is) (told_put _ _ _ _ _ (select_of c.in-Some.query.now) c.in-Ok-Told.checked c.end_of.result c.put_text-in-Ok-Told.result c.in-Some.ensures (rw c.in-Ok-Told.field-0-is at c.in-Ok-Told.ensures.checked) c.end_of.ensures c.put_text-in-Ok-Told.ensures.ended (rw (c.deref-in-Ok-Told-2.ensures.value, c.report_certificates.ensures.taken) at c.put_text-in-Ok-Told.ensures.taken))
 
 pub returns-in-Ok-Told-clause-breaks : goal.returns-in-Ok-Told-clause-breaks
 returns-in-Ok-Told-clause-breaks g c =
-    rw (sym c.self.view_is) (told_begun _ _ _ _ _ (select_of c.in-Some.query.now) c.in-Ok-Told.checked c.put_text-in-Ok-Told.result c.in-Some.ensures (rw c.in-Ok-Told.field-0-is at c.in-Ok-Told.ensures.checked) c.put_text-in-Ok-Told.ensures.fault (rw (c.deref.ensures.value, c.report_certificates.ensures.taken) at c.put_text-in-Ok-Told.ensures.begun))
+    rw (sym c.self.view_is) (told_begun _ _ _ _ _ (select_of c.in-Some.query.now) c.in-Ok-Told.checked c.put_text-in-Ok-Told.result c.in-Some.ensures (rw c.in-Ok-Told.field-0-is at c.in-Ok-Told.ensures.checked) c.put_text-in-Ok-Told.ensures.fault (rw (c.deref-in-Ok-Told-2.ensures.value, c.report_certificates.ensures.taken) at c.put_text-in-Ok-Told.ensures.begun))
 
 pub returns-in_default-clause-sink : goal.returns-in_default-clause-sink
 returns-in_default-clause-sink g c = sink_blamed _ _ c.put_text.result c.put_text.ensures.fault c.put_text.ensures.failed c.put_text.ensures.unfailed

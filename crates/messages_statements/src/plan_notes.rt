@@ -1,0 +1,262 @@
+//! Notes on what the plans of a query rest on.
+
+ghost use Rattle.std.specs.Prelude.{◌<◌, length};
+
+use crate::refused_loads::RefusedLoads;
+use catalog::{Database, Table};
+use messages_excerpts::{LineColumn, Lines};
+use messages_queries::{block_of_number, name_in_sight};
+use query_tree::Block;
+use sqlr::{PlanNote, PlanNoteKind, Planned, TableSet};
+use std::alloc::Global;
+use std::fmt::{self, Display, Formatter};
+use syntax::Block as WrittenBlock;
+
+/// The notes on the plans of a query, a line each: `script.sql:3:20: note: block 1: ..`.
+#[derive(Drop)]
+pub struct PlanReport<'r> {
+    pub(crate) alloc: Global,
+    pub(crate) script_name: &'r str,
+    pub(crate) lines: &'r Lines<'r>,
+    pub(crate) planned: Planned<'r>,
+    pub(crate) database: &'r Database,
+    pub(crate) refused_loads: &'r RefusedLoads,
+}
+
+impl PlanReport<'_> {
+    /// Whether there is nothing to tell.
+    pub fn is_empty(&self) -> bool {
+        let has_refused = self.planned.blocks.iter().any(|block| {
+            block
+                .tables
+                .iter()
+                .any(|table| self.refused_load(*table).is_some())
+        });
+        self.planned.notes.is_empty() && !has_refused
+    }
+
+    /// Where the LOAD of a table was refused that is empty, by its place in the database.
+    fn refused_load(&self, table: usize) -> Option<LineColumn> {
+        let stored = self.database.tables().get(table)?;
+        if stored.len() == 0 {
+            self.refused_loads.place(table)
+        } else {
+            None
+        }
+    }
+
+    /// What there is to know of a block, as the script writes it.
+    fn write_block<W: fmt::Write>(
+        &self,
+        f: &mut Formatter<W>,
+        number: usize,
+        block: &Block,
+        written: &WrittenBlock,
+    ) -> fmt::Result {
+        let start = match written.sources.tables.first() {
+            Some(source) => source.table.start,
+            None => written.start,
+        };
+        let place = self.lines.locate(start);
+        self.write_refused_loads(f, place, number, block)?;
+        let noted = NotedBlock {
+            database: self.database,
+            block,
+            written,
+        };
+        for note in self.planned.notes.iter().filter(|it| it.block == number) {
+            self.write_place(f, place)?;
+            write!(f, "block {}: ", number.saturating_add(1))?;
+            noted.write_note(f, note)?;
+            f.write_str("\n")?;
+        }
+        Ok(())
+    }
+
+    /// `script.sql:3:20: note: `.
+    fn write_place<W: fmt::Write>(&self, f: &mut Formatter<W>, place: LineColumn) -> fmt::Result {
+        let LineColumn { line, column } = place;
+        write!(f, "{}:{line}:{column}: note: ", self.script_name)
+    }
+
+    /// Why the tables of a block are empty that are, where their LOAD was refused: a line for each that stands in no block before.
+    fn write_refused_loads<W: fmt::Write>(
+        &self,
+        f: &mut Formatter<W>,
+        place: LineColumn,
+        number: usize,
+        block: &Block,
+    ) -> fmt::Result {
+        let before = self.planned.blocks.get(..number).unwrap_or(&[]);
+        let mut seen: &[usize] = &[];
+        for (count, table) in block.tables.iter().enumerate() {
+            let is_told = seen.contains(table) || before.iter().any(|it| it.tables.contains(table));
+            seen = block.tables.get(..=count).unwrap_or(&[]);
+            if !is_told {
+                self.write_refused_load(f, place, *table)?;
+            }
+        }
+        Ok(())
+    }
+
+    /// `script.sql:3:20: note: PUPILS is empty: its LOAD at 2:18 was refused`, where it was.
+    fn write_refused_load<W: fmt::Write>(
+        &self,
+        f: &mut Formatter<W>,
+        place: LineColumn,
+        table: usize,
+    ) -> fmt::Result {
+        if let (Some(stored), Some(refused)) = (
+            self.database.tables().get(table),
+            self.refused_load(table),
+        ) {
+            let LineColumn { line, column } = refused;
+            self.write_place(f, place)?;
+            let name = stored.name();
+            writeln!(
+                f,
+                "{name} is empty: its LOAD at {line}:{column} was refused"
+            )?;
+        }
+        Ok(())
+    }
+}
+
+impl Display for PlanReport<'_> {
+    fn fmt<W: fmt::Write>(&self, f: &mut Formatter<W>) -> fmt::Result {
+        if self.is_empty() {
+            return Ok(());
+        }
+        for (number, block) in self.planned.blocks.iter().enumerate() {
+            if let Ok(Some(written)) = block_of_number(self.alloc, self.planned.query, number) {
+                self.write_block(f, number, block, written)?;
+            }
+        }
+        Ok(())
+    }
+}
+
+/// A block with notes: as it is bound, and as the script writes it.
+#[derive(Clone, Copy)]
+struct NotedBlock<'r> {
+    database: &'r Database,
+    block: &'r Block,
+    written: &'r WrittenBlock,
+}
+
+impl<'r> NotedBlock<'r> {
+    fn write_note<W: fmt::Write>(&self, f: &mut Formatter<W>, note: &PlanNote) -> fmt::Result {
+        match &note.kind {
+            PlanNoteKind::CostLimit => f.write_str(COST_LIMIT),
+            PlanNoteKind::Unlinked { sets, combinations } => {
+                self.write_unlinked(f, sets, *combinations)
+            }
+            PlanNoteKind::ManyKeys { table, index } => match self.table(*table) {
+                Some(table) if *index < table.index_count() => write_many_keys(f, table, *index),
+                _ => Ok(()),
+            },
+            PlanNoteKind::EmptyIndex { table, index } => match self.table(*table) {
+                Some(table) if *index < table.index_count() => write_empty_index(f, table, *index),
+                _ => Ok(()),
+            },
+            PlanNoteKind::EmptyTable { table } => match self.table(*table) {
+                Some(table) => write_empty_table(f, table),
+                None => Ok(()),
+            },
+        }
+    }
+
+    /// A table, by its number in FROM.
+    fn table(&self, number: usize) -> Option<&'r Table> {
+        let place = self.block.tables.get(number)?;
+        self.database.tables().get(*place)
+    }
+
+    /// `no condition links PUPILS, CLUBS with TOWNS: 12000 combinations are estimated`.
+    fn write_unlinked<W: fmt::Write>(
+        &self,
+        f: &mut Formatter<W>,
+        sets: &[TableSet],
+        combinations: u64,
+    ) -> fmt::Result {
+        f.write_str("no condition links ")?;
+        let mut separator = "";
+        for set in sets {
+            f.write_str(separator)?;
+            self.write_tables(f, *set)?;
+            separator = " with ";
+        }
+        write!(f, ": {combinations} combinations are estimated")
+    }
+
+    /// A set of tables, as FROM calls them.
+    fn write_tables<W: fmt::Write>(&self, f: &mut Formatter<W>, set: TableSet) -> fmt::Result {
+        let mut separator = "";
+        for (number, source) in self.written.sources.tables.iter().enumerate() {
+            if set.has(number) {
+                write!(f, "{separator}{}", name_in_sight(source))?;
+                separator = ", ";
+            }
+        }
+        Ok(())
+    }
+}
+
+const COST_LIMIT: &str =
+    "the target is 10^18, where sums stop: all plans cost as much, and nothing is shown of which is better";
+
+/// `by the statistics the index on PUPILS (CLUB) has 500 keys, and PUPILS 10 rows`.
+fn write_many_keys<W: fmt::Write>(f: &mut Formatter<W>, table: &Table, index: usize) -> fmt::Result
+    requires { index < length table.now.indexes }
+{
+    let (keys, rows) = (
+        table.index(index).statistics().keys,
+        table.statistics().rows,
+    );
+    f.write_str("by the statistics the index on ")?;
+    write_index(f, table, index)?;
+    write!(f, " has {keys} keys, and {} {rows} rows", table.name())
+}
+
+/// `the index on PUPILS (CLUB) has the statistics of an empty table, and PUPILS those of 1000 rows: ..`.
+fn write_empty_index<W: fmt::Write>(
+    f: &mut Formatter<W>,
+    table: &Table,
+    index: usize,
+) -> fmt::Result
+    requires { index < length table.now.indexes }
+{
+    let (name, rows) = (table.name(), table.statistics().rows);
+    f.write_str("the index on ")?;
+    write_index(f, table, index)?;
+    write!(
+        f,
+        " has the statistics of an empty table, and {name} those of {rows} rows: SET STATISTICS "
+    )?;
+    write_index(f, table, index)?;
+    f.write_str(" KEYS .. PAGES .. sets them")
+}
+
+/// `by its statistics PUPILS is empty, and it has 4 rows`.
+fn write_empty_table<W: fmt::Write>(f: &mut Formatter<W>, table: &Table) -> fmt::Result {
+    let (name, rows) = (table.name(), table.len());
+    write!(
+        f,
+        "by its statistics {name} is empty, and it has {rows} rows"
+    )
+}
+
+/// `PUPILS (CLUB, NAME)`.
+fn write_index<W: fmt::Write>(f: &mut Formatter<W>, table: &Table, index: usize) -> fmt::Result
+    requires { index < length table.now.indexes }
+{
+    f.write_str(table.name())?;
+    let mut separator = " (";
+    for column in table.index(index).columns() {
+        if *column < table.width() {
+            write!(f, "{separator}{}", table.column_name(*column))?;
+            separator = ", ";
+        }
+    }
+    f.write_str(")")
+}

@@ -1,0 +1,55 @@
+//! The tables whose LOAD was refused, so that a query over one that is empty can say why it is.
+
+use catalog::Database;
+use messages_excerpts::LineColumn;
+use sqlr::Cause;
+use std::alloc::{AllocError, Global};
+use syntax::Name;
+
+/// Where the LOAD of a table was refused last, by the table's place in the database.
+#[derive(Drop)]
+pub(crate) struct RefusedLoads {
+    places: Vec<Option<LineColumn>>,
+}
+
+impl RefusedLoads {
+    pub(crate) fn new(alloc: Global) -> RefusedLoads {
+        RefusedLoads {
+            places: Vec::new(alloc),
+        }
+    }
+
+    /// Keeps the place of what was refused, if it was a LOAD into a table that is there. Where memory is wanting it is passed over.
+    pub(crate) fn keep(&mut self, database: &Database, cause: &Cause, place: LineColumn) {
+        let Some(name) = loaded_table(cause) else {
+            return;
+        };
+        let name = name.text.as_str();
+        if let Some(table) = database.tables().iter().position(|it| it.name() == name) {
+            let _ = self.put(table, place);
+        }
+    }
+
+    fn put(&mut self, table: usize, place: LineColumn) -> Result<(), AllocError> {
+        for _ in self.places.len()..table.saturating_add(1) {
+            self.places.push(None)?;
+        }
+        if let Some(kept) = self.places.get_mut(table) {
+            *kept = Some(place);
+        }
+        Ok(())
+    }
+
+    /// Where the LOAD into the table of a place was refused, if one was.
+    pub(crate) fn place(&self, table: usize) -> Option<LineColumn> {
+        self.places.get(table).copied()?
+    }
+}
+
+fn loaded_table<'a>(cause: &Cause<'a>) -> Option<&'a Name> {
+    match cause {
+        Cause::Record { load, .. } | Cause::Repeated { load, .. } => Some(load.table),
+        Cause::NoFile { table, .. } | Cause::ManyRows(table) => Some(table),
+        _ => None,
+    }
+}
