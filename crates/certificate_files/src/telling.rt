@@ -57,7 +57,7 @@ pub(crate) fn block_told(
     match read_text(alloc, &own.certified_block(), bytes) {
         Ok(spelled) => {
             let told = spelled_told(&own.space, &spelled);
-            add_notes(alloc, notes, &own, &spelled, told)?;
+            add_notes(alloc, notes, &own, &spelled, told);
             Ok(told)
         }
         Err(fault) => fault_told(fault),
@@ -71,14 +71,11 @@ fn add_notes(
     own: &BlockSpace<'_>,
     spelled: &Spelled,
     told: Told,
-) -> Result<(), AllocError> {
-    match told {
-        Told::Passes => {
-            let least = spelled.certificate.target;
-            own.space
-                .add_notes(alloc, notes, own.number as usize, least)
-        }
-        Told::Fails { .. } | Told::Faulty(_) => Ok(()),
+) {
+    if let Told::Passes = told {
+        let least = spelled.certificate.target;
+        own.space
+            .add_notes(alloc, notes, own.number as usize, least);
     }
 }
 

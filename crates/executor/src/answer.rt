@@ -49,7 +49,7 @@ pub fn answer_text<'a, W: QueryWatch>(
         × AreCertified current_version database.now (map block_of blocks.now) plans)) }
 {
     let query = ready_blocks(alloc, database, blocks)?;
-    let notes = plan_notes(alloc, &query)?;
+    let notes = plan_notes(alloc, &query);
     watch.planned(&notes, blocks, database);
     run_select(alloc, &query, watch)
 }
@@ -88,7 +88,7 @@ pub fn run_select<'s, W: QueryWatch>(
     'composites: while let Some(composite) = line.next(&frames) {
         let (late, work) = try_late(alloc, query, 0, &composite, &mut frames, results)?;
         inner = sum_of(inner, work);
-        passed = pass(watch, passed);
+        passed = pass(watch, passed, query.len() > 1);
         if late? {
             rows.add(alloc, &first.source, first.block, &composite, &frames)?;
         }
@@ -99,16 +99,16 @@ pub fn run_select<'s, W: QueryWatch>(
 }
 
 /// What there is to know of the figures that the plans of blocks rest on.
-fn plan_notes(alloc: Global, query: &[ReadyBlock<'_>]) -> Result<Vec<PlanNote>, AllocError> {
+fn plan_notes(alloc: Global, query: &[ReadyBlock<'_>]) -> Vec<PlanNote> {
     let mut notes = Vec::new(alloc);
     for (number, block) in query.iter().enumerate() {
         if let Some(summary) = block.space.summary(&block.plan) {
             block
                 .space
-                .add_notes(alloc, &mut notes, number, summary.cost)?;
+                .add_notes(alloc, &mut notes, number, summary.cost);
         }
     }
-    Ok(notes)
+    notes
 }
 
 /// How many results are kept of a block that has parameters (own).

@@ -60,6 +60,6 @@ fn block_text(
     let own = BlockSpace::new(alloc, database, block, number, Version::Three)?;
     let (plan, certificate, _) = optimise(alloc, &own.space)?;
     own.space
-        .add_notes(alloc, notes, number as usize, certificate.target)?;
+        .add_notes(alloc, notes, number as usize, certificate.target);
     write_text(alloc, &own.certified_block(), &plan, &certificate)
 }

@@ -118,29 +118,29 @@ fn form_found(refused: Refused<'_>, at: usize, expected: Expected) -> Found {
         at,
         reason: Reason::Form {
             expected,
-            ending: ending_of(left),
+            ending: ending_of(left, expected),
         },
     }
 }
 
-/// How the line ends of which something is left.
-fn ending_of(left: &[u8]) -> Ending {
-    let mut before = b' ';
-    for byte in left {
-        if *byte == b'\n' {
-            return if before == b'\r' {
-                Ending::CarriageReturn
-            } else {
-                Ending::LineFeed
-            };
-        }
-        before = *byte;
-    }
+/// What there is to say of the line's end, where this is left of the text.
+fn ending_of(left: &[u8], expected: Expected) -> Ending {
     if left.is_empty() {
-        Ending::Nothing
-    } else {
-        Ending::Open
+        return Ending::Nothing;
     }
+    match behind_last_word(left, expected) {
+        Some([]) => Ending::Open,
+        Some([b'\r', b'\n', ..]) => Ending::CarriageReturn,
+        _ => Ending::Unremarkable,
+    }
+}
+
+/// What is left behind the word that was wanted at the end of a line, if it stands there but for the end.
+fn behind_last_word(left: &[u8], expected: Expected) -> Option<&[u8]> {
+    let Expected::Word(word) = expected else {
+        return None;
+    };
+    left.strip_prefix(word.bytes().strip_suffix(b"\n")?)
 }
 
 /// What makes a rule fail of a text.

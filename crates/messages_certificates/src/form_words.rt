@@ -56,7 +56,7 @@ pub(crate) fn hint(reason: &Reason) -> &'static str {
                 "hint: lines end with a line feed alone, and this one with a carriage return before it\n"
             }
             Ending::Open => "hint: each line ends with a line feed, and this one has none\n",
-            Ending::LineFeed | Ending::Nothing => "",
+            Ending::Unremarkable | Ending::Nothing => "",
         },
         _ => "",
     }

@@ -39,15 +39,16 @@ impl Reason {
     }
 }
 
-/// How a line ends.
+/// What there is to say of the end of a line in which reading didn't go on.
 #[derive(Clone, Copy)]
 pub enum Ending {
-    LineFeed,
-    /// With a carriage return before the line feed.
+    /// Something else than what was wanted stands there, however the line ends.
+    Unremarkable,
+    /// What was wanted stands there, with a carriage return before the line feed.
     CarriageReturn,
-    /// With the text, behind something.
+    /// What was wanted stands there, without a line feed: the text ends with it.
     Open,
-    /// With the text, of which nothing is left.
+    /// Nothing is left of the text.
     Nothing,
 }
 

@@ -89,6 +89,19 @@ pub(crate) fn write_no_column_hint<W: fmt::Write>(
     }
 }
 
+/// That a name alone is no column either, where a condition is wanted: TRUE, say.
+pub(crate) fn write_unknown_value_hint<W: fmt::Write>(
+    f: &mut Formatter<W>,
+    sight: &TablesInSight,
+    column: &ColumnReference,
+) -> fmt::Result {
+    let name = column.name.text.as_str();
+    match (&column.qualifier, sight.with_column(name)) {
+        (None, Ok(those)) if those.is_empty() => writeln!(f, "hint: there is no column {name}"),
+        _ => Ok(()),
+    }
+}
+
 /// The column of a table that isn't called by its own name here.
 fn write_renamed<W: fmt::Write>(
     f: &mut Formatter<W>,

@@ -2,6 +2,7 @@
 
 use crate::column_words::{
     write_ambiguous, write_ambiguous_hint, write_no_column, write_no_column_hint,
+    write_unknown_value_hint,
 };
 use crate::limit_words::write_limit;
 use crate::suggestions::write_near_table;
@@ -10,7 +11,7 @@ use binder::QueryFault;
 use catalog::Database;
 use std::alloc::Global;
 use std::fmt::{self, Display, Formatter};
-use syntax::{ColumnReference, Key, KeyName, Select};
+use syntax::{ColumnReference, Expr, Key, KeyName, Select};
 
 /// A query over a database.
 #[derive(Clone, Copy)]
@@ -87,6 +88,10 @@ impl QueryWords<'_> {
             },
             QueryFault::AmbiguousColumn(column) => match self.sight(column) {
                 Some(sight) => write_ambiguous_hint(f, &sight, column.name.text.as_str()),
+                None => Ok(()),
+            },
+            QueryFault::ValueForCondition(Expr::Column(column)) => match self.sight(column) {
+                Some(sight) => write_unknown_value_hint(f, &sight, column),
                 None => Ok(()),
             },
             _ => Ok(()),

@@ -260,15 +260,9 @@ impl<'a> Space<'a> {
     }
 
     /// Adds what a reader should know of the figures that the block's plans rest on, where the block has this number and its least plan
-    /// costs so much (own).
-    pub fn add_notes(
-        &self,
-        alloc: Global,
-        notes: &mut Vec<PlanNote>,
-        block: usize,
-        least: u64,
-    ) -> Result<(), AllocError> {
-        add_notes(alloc, notes, block, &self.estimate, least)
+    /// costs so much (own). Where memory runs out, the rest is left out: a note never costs an answer.
+    pub fn add_notes(&self, alloc: Global, notes: &mut Vec<PlanNote>, block: usize, least: u64) {
+        let _ = add_notes(alloc, notes, block, &self.estimate, least);
     }
 
     /// What a plan comes to, or none where it is no plan of the block, on whichever of its tables. It looks at all paths or merges of

@@ -10,7 +10,7 @@ use syntax::Select;
 #[derive(Clone, Copy, Debug, PartialEq, Eq)]
 pub enum Progress {
     Load(LoadProgress),
-    /// So many combinations of rows have passed the outermost block's WHERE.
+    /// The outermost block's plan has delivered so many combinations of rows.
     Select { combinations: u64 },
 }
 
