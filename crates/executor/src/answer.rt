@@ -18,7 +18,7 @@ use crate::block_rows::BlockRows;
 use crate::nested::{sum_of, try_late};
 use crate::ready_block::{ReadyBlock, ready_blocks};
 use crate::running::run_plan;
-use crate::watch::{QueryWatch, pass};
+use crate::watch::{QueryWatch, WorkCount};
 use catalog::Database;
 use grouping::AnswerFault;
 use plan_space::PlanNote;
@@ -72,7 +72,7 @@ pub fn run_select<'s, W: QueryWatch>(
         AllowedOf (database_in query.now) (blocks_in query.now) (Exception raise))) }
 {
     let first = &query[0];
-    let mut frames = Frames::new(alloc);
+    let mut frames = Frames::new(alloc, WorkCount::new(watch));
     let mut kept = no_results(alloc, query)?;
     let results = kept.as_mut_slice();
     let mut line = run_plan(
@@ -84,11 +84,10 @@ pub fn run_select<'s, W: QueryWatch>(
     )?;
     let mut rows = BlockRows::to_print(alloc, first.block)?;
     let mut inner = 0;
-    let mut passed = 0;
     'composites: while let Some(composite) = line.next(&frames) {
         let (late, work) = try_late(alloc, query, 0, &composite, &mut frames, results)?;
         inner = sum_of(inner, work);
-        passed = pass(watch, passed, query.len() > 1);
+        frames.watch().deliver();
         if late? {
             rows.add(alloc, &first.source, first.block, &composite, &frames)?;
         }

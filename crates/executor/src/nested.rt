@@ -32,16 +32,16 @@ use query_tree::Condition;
 use scans::{BlockSource, Composite, OuterRows, TupleSource};
 use sqlvalue::Raise;
 use std::alloc::{AllocError, Global};
-use subqueries::{Frames, KeptResults, Late, Told};
+use subqueries::{Frames, KeptResults, Late, Told, WorkWatch};
 
 /// Has a block told what it may tell in the rows of the blocks around it, which is then what it told last, and gives its
 /// total there. A result that is kept for the values of its parameters is told again (Selinger et al. 1979, section 6).
 #[cycle(nested)]
-pub(crate) fn ask_block<'s>(
+pub(crate) fn ask_block<'s, W: WorkWatch>(
     alloc: Global,
     query: &'s [ReadyBlock<'_>],
     number: usize,
-    frames: &mut Frames<'s>,
+    frames: &mut Frames<'s, W>,
     results: &mut [KeptResults],
 ) -> Result<u64, AllocError>
     requires query { AreReady query.now }
@@ -68,11 +68,11 @@ pub(crate) fn ask_block<'s>(
 /// and 6). What is told is told when all was counted. Late conjuncts are all evaluated on each composite, and what they
 /// raise is told before what groups and result columns raise (own).
 #[cycle(nested)]
-fn evaluate_block<'s>(
+fn evaluate_block<'s, W: WorkWatch>(
     alloc: Global,
     query: &'s [ReadyBlock<'_>],
     number: usize,
-    frames: &mut Frames<'s>,
+    frames: &mut Frames<'s, W>,
     results: &mut [KeptResults],
 ) -> Result<(Told, u64), AllocError>
     requires query { AreReady query.now }
@@ -114,12 +114,12 @@ fn evaluate_block<'s>(
 
 /// What the late conjuncts of a block say of a composite, and the sum of the totals of their subqueries there.
 #[cycle(nested)]
-pub(crate) fn try_late<'s>(
+pub(crate) fn try_late<'s, W: WorkWatch>(
     alloc: Global,
     query: &'s [ReadyBlock<'_>],
     number: usize,
     composite: &Composite,
-    frames: &mut Frames<'s>,
+    frames: &mut Frames<'s, W>,
     results: &mut [KeptResults],
 ) -> Result<(Result<bool, Raise>, u64), AllocError>
     requires query { AreReady query.now }
@@ -151,11 +151,11 @@ pub(crate) fn try_late<'s>(
 /// Asks each block that a block's late conjuncts ask for, at the combination of it that was entered last, and gives the
 /// sum of their totals.
 #[cycle(nested)]
-fn ask_subqueries<'s>(
+fn ask_subqueries<'s, W: WorkWatch>(
     alloc: Global,
     query: &'s [ReadyBlock<'_>],
     number: usize,
-    frames: &mut Frames<'s>,
+    frames: &mut Frames<'s, W>,
     results: &mut [KeptResults],
 ) -> Result<u64, AllocError>
     requires query { AreReady query.now }

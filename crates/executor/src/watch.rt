@@ -3,12 +3,11 @@
 use catalog::Database;
 use plan_space::PlanNote;
 use query_tree::Block;
+use std::cell::Cell;
+use subqueries::WorkWatch;
 
-/// How many combinations are delivered from one time that a watch is told to the next (own).
+/// How many steps are done from one time that a watch is told to the next (own).
 const TOLD_EACH: u64 = 1_024;
-
-/// The same where there are inner blocks, as they may be evaluated for long for a single combination (own).
-const TOLD_EACH_OF_NESTED: u64 = 16;
 
 /// Is told what the plans of a query rest on, and then how far it is, for people who wait for it. Nothing is promised of it (own).
 pub trait QueryWatch {
@@ -20,16 +19,37 @@ pub trait QueryWatch {
     fn passed(&self, combinations: u64);
 }
 
-/// One more combination, of which a watch is told now and then.
-pub(crate) fn pass<W: QueryWatch>(watch: &W, passed: u64, is_nested: bool) -> u64 {
-    let passed = passed.wrapping_add(1);
-    let is_told = if is_nested {
-        passed % TOLD_EACH_OF_NESTED == 0
-    } else {
-        passed % TOLD_EACH == 0
-    };
-    if is_told {
-        watch.passed(passed);
+/// Counts the steps of a query's work and the combinations of rows that its outermost block's plan delivers, and tells a watch of some.
+#[derive(Drop)]
+pub(crate) struct WorkCount<'w, W: QueryWatch> {
+    watch: &'w W,
+    steps: Cell<u64>,
+    combinations: Cell<u64>,
+}
+
+impl<'w, W: QueryWatch> WorkCount<'w, W> {
+    pub(crate) fn new(watch: &'w W) -> WorkCount<'w, W> {
+        WorkCount {
+            watch,
+            steps: Cell::new(0),
+            combinations: Cell::new(0),
+        }
     }
-    passed
+
+    /// Notes that one more combination is delivered.
+    pub(crate) fn deliver(&self) {
+        self.combinations
+            .set(self.combinations.get().wrapping_add(1));
+        self.note_work();
+    }
+}
+
+impl<W: QueryWatch> WorkWatch for WorkCount<'_, W> {
+    fn note_work(&self) {
+        let steps = self.steps.get().wrapping_add(1);
+        self.steps.set(steps);
+        if steps % TOLD_EACH == 0 {
+            self.watch.passed(self.combinations.get());
+        }
+    }
 }

@@ -1,4 +1,4 @@
-//! The blocks around a block.
+//! The surroundings of a block: the rows of the blocks around it, and who waits for its own.
 
 ghost use Rattle.std.specs.Prelude.{◌≡◌, List, [], get_or};
 ghost use Rattle.definitions.specs.Queries.Evaluation.{Combination, cell as cell_of};
@@ -8,7 +8,7 @@ ghost use Rattle.query_tree.specs.Bound.{column_of};
 use query_tree::BlockColumn;
 use sqlvalue::Value;
 
-/// The rows of the blocks around a block, in which it is evaluated (own).
+/// The rows of the blocks around a block, in which it is evaluated, and who waits for it (own).
 pub trait OuterRows {
     /// A combination of rows of each, the nearest first.
     ghost combinations: { Self → List Combination };
@@ -16,9 +16,12 @@ pub trait OuterRows {
     /// The value in a column of one of them; `between` says how many blocks lie between (ISO/IEC 9075:1992, 6.4).
     fn cell(&self, between: usize, column: BlockColumn) -> Value<'_>
         ensures { value_of result ≡ cell_of (get_or (combinations self.now) between []) (column_of column) };
+
+    /// Some more rows of a table are looked at, as many as a word tells of or fewer, and who waits may be told. Nothing is promised of it.
+    fn note_work(&self);
 }
 
-/// There is no block around.
+/// There is no block around, and nobody waits.
 #[derive(Clone, Copy)]
 pub struct NoOuterRows;
 
@@ -28,4 +31,6 @@ impl OuterRows for NoOuterRows {
     fn cell(&self, _between: usize, _column: BlockColumn) -> Value<'_> {
         Value::Null
     }
+
+    fn note_work(&self) {}
 }

@@ -15,5 +15,5 @@ abbrev pub frame_combination : Frame → Combination
 frame_combination f = combination_in f.source.now f.composite
 
 -- the nearest first
-abbrev pub combinations_in : Frames → List Combination
+abbrev pub combinations_in : {W : Type 0} → Frames W → List Combination
 combinations_in f = map frame_combination (reverse f.frames.items)

@@ -16,14 +16,21 @@ struct Frame<'s> {
     composite: Composite,
 }
 
-/// The blocks around a block, the outermost first, with a composite of rows of each (own; the candidate tuples of the blocks of
-/// higher level in Selinger et al. 1979, section 6).
-#[derive(Drop)]
-pub struct Frames<'s> {
-    frames: Vec<Frame<'s>>,
+/// Is told of the work on a query, for people who wait for it. Nothing is promised of it (own).
+pub trait WorkWatch {
+    /// A step more is done: some rows of a table are looked at, say.
+    fn note_work(&self);
 }
 
-impl<'s> OuterRows for Frames<'s> {
+/// The blocks around a block, the outermost first, with a composite of rows of each (own; the candidate tuples of the blocks of
+/// higher level in Selinger et al. 1979, section 6), and who is told of the work in them.
+#[derive(Drop)]
+pub struct Frames<'s, W: WorkWatch> {
+    frames: Vec<Frame<'s>>,
+    watch: W,
+}
+
+impl<'s, W: WorkWatch> OuterRows for Frames<'s, W> {
     ghost use Rattle.subqueries.specs.Framed.{combinations_in};
 
     ghost combinations = { combinations_in };
@@ -37,16 +44,26 @@ impl<'s> OuterRows for Frames<'s> {
         let rows = frame.composite.numbers(frame.source.table_count());
         frame.source.cell(column, row_number(rows, column.table))
     }
+
+    fn note_work(&self) {
+        self.watch.note_work();
+    }
 }
 
-impl<'s> Frames<'s> {
+impl<'s, W: WorkWatch> Frames<'s, W> {
     /// There is no block around.
-    pub fn new(alloc: Global) -> Frames<'s>
+    pub fn new(alloc: Global, watch: W) -> Frames<'s, W>
         ensures { combinations_in result ≡ [] }
     {
         Frames {
             frames: Vec::new(alloc),
+            watch,
         }
+    }
+
+    /// Who is told of the work in them.
+    pub fn watch(&self) -> &W {
+        &self.watch
     }
 
     /// Goes into a block, at a composite of its rows.

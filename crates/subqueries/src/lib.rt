@@ -15,7 +15,7 @@ mod telling;
 
 pub use block_text::blocks_asked;
 pub use first_values::FirstValues;
-pub use frames::Frames;
+pub use frames::{Frames, WorkWatch};
 pub use kept_results::KeptResults;
 pub use late::Late;
 pub use parameters::{OuterColumn, block_parameters};

@@ -59,7 +59,7 @@ use Rattle.executor.proofs.nested.+nested.Goals as goal
 -- ---- a result that is kept
 
 pub ask_block-returns-in-Some-clause-told : goal.ask_block-returns-in-Some-clause-told
-ask_block-returns-in-Some-clause-told t c =
+ask_block-returns-in-Some-clause-told g t c =
     let query = c.args.query.now in
     let outer = combinations_in c.args.frames.now in
     let number = c.args.number in
@@ -75,7 +75,7 @@ ask_block-returns-in-Some-clause-told t c =
     (latest_is_told current_version (database_in query) (blocks_in query) (plans_in query) number outer c.find.new.self (kept_same query c.args.results.now number own c.find.new.self at_place c.requires.right (c.find.ensures.kept ∙ ap places_in (sym c.index-results-number.is))) key)
 
 pub ask_block-returns-in-Some-clause-total : goal.ask_block-returns-in-Some-clause-total
-ask_block-returns-in-Some-clause-total t c =
+ask_block-returns-in-Some-clause-total g t c =
     let query = c.args.query.now in
     let outer = combinations_in c.args.frames.now in
     let number = c.args.number in
@@ -90,7 +90,7 @@ ask_block-returns-in-Some-clause-total t c =
     latest_is_total current_version (database_in query) (blocks_in query) (plans_in query) number outer c.find.new.self c.in-Some.total (kept_same query c.args.results.now number own c.find.new.self at_place c.requires.right (c.find.ensures.kept ∙ ap places_in (sym c.index-results-number.is))) key c.in-Some.ensures.total
 
 pub ask_block-returns-in-Some-clause-right : goal.ask_block-returns-in-Some-clause-right
-ask_block-returns-in-Some-clause-right t c =
+ask_block-returns-in-Some-clause-right g t c =
     let number = c.args.number in
     let own : KeptResults = c.index-results-number.result in
     let within : number < length c.args.results.now = subst (λ n. number < n) (sym c.requires.right.count) c.requires.number in
@@ -98,7 +98,7 @@ ask_block-returns-in-Some-clause-right t c =
     right_same c.args.query.now c.args.results.now number own c.find.new.self at_place c.requires.right (c.find.ensures.kept ∙ ap places_in (sym c.index-results-number.is))
 
 pub ask_block-returns-in-Some-clause-left : goal.ask_block-returns-in-Some-clause-left
-ask_block-returns-in-Some-clause-left t c =
+ask_block-returns-in-Some-clause-left g t c =
     let number = c.args.number in
     let own : KeptResults = c.index-results-number.result in
     let within : number < length c.args.results.now = subst (λ n. number < n) (sym c.requires.right.count) c.requires.number in
@@ -108,7 +108,7 @@ ask_block-returns-in-Some-clause-left t c =
 -- ---- or one that is made
 
 pub ask_block-returns-clause-told : goal.ask_block-returns-clause-told
-ask_block-returns-clause-told t c =
+ask_block-returns-clause-told g t c =
     let query = c.args.query.now in
     let outer = combinations_in c.args.frames.now in
     let number = c.args.number in
@@ -120,7 +120,7 @@ ask_block-returns-clause-told t c =
     subst (TellsRows (meanings (database_in query) 0 (blocks_in query) number outer)) (sym (told_here query results number own c.keep.new.self at_place right ∙ ap told_of_option c.in_ok-keep.ensures.latest)) c.in_ok-told.ensures.told
 
 pub ask_block-returns-clause-right : goal.ask_block-returns-clause-right
-ask_block-returns-clause-right t c =
+ask_block-returns-clause-right g t c =
     let query = c.args.query.now in
     let outer = combinations_in c.args.frames.now in
     let number = c.args.number in
@@ -143,7 +143,7 @@ ask_block-returns-clause-right t c =
     (subst (λ o. Right (kept_of o c.deref-2.result.now c.in_ok-told.told c.in_ok-told.total)) (sym c.in_ok-told.ensures.frames) kept)
 
 pub ask_block-returns-clause-left : goal.ask_block-returns-clause-left
-ask_block-returns-clause-left t c =
+ask_block-returns-clause-left g t c =
     let query = c.args.query.now in
     let number = c.args.number in
     let first : KeptResults = c.index-results-number.result in
@@ -162,7 +162,7 @@ ask_block-returns-clause-left t c =
 -- ---- all subqueries of a block
 
 pub ask_subqueries-ask_block-requires : goal.ask_subqueries-ask_block-requires
-ask_subqueries-ask_block-requires t c =
+ask_subqueries-ask_block-requires g t c =
     let query = c.args.query.now in
     let number = c.args.number in
     let r : ReadyBlock = c.index-query-number.result in
@@ -177,7 +177,7 @@ ask_subqueries-ask_block-requires t c =
     search (rules, there, stands, less)
 
 pub ask_subqueries-blocks-2-preserved : goal.ask_subqueries-blocks-2-preserved
-ask_subqueries-blocks-2-preserved t c =
+ask_subqueries-blocks-2-preserved g t c =
     let query = c.args.query.now in
     let number = c.args.number in
     let outer = combinations_in c.args.frames.now in
@@ -209,7 +209,7 @@ ask_subqueries-blocks-2-preserved t c =
     }
 
 pub ask_subqueries-returns-clause-told : goal.ask_subqueries-returns-clause-told
-ask_subqueries-returns-clause-told t c =
+ask_subqueries-returns-clause-told g t c =
     let query = c.args.query.now in
     let number = c.args.number in
     let outer = combinations_in c.args.frames.now in
@@ -221,7 +221,7 @@ ask_subqueries-returns-clause-told t c =
     subst (AllByRecursion (IsToldLast query outer c.blocks-2.results)) (all ∙ items) c.blocks-2.invariant.told
 
 pub ask_subqueries-returns-clause-total : goal.ask_subqueries-returns-clause-total
-ask_subqueries-returns-clause-total t c =
+ask_subqueries-returns-clause-total g t c =
     let query = c.args.query.now in
     let number = c.args.number in
     let outer = combinations_in c.args.frames.now in
@@ -246,7 +246,7 @@ none_are_asked : (f : ℕ → ℕ) (b : Block) → late_conjuncts b ≡ [] → 0
 none_are_asked f b none = subst (λ ds. 0 ≡ saturated (sum_by f (flat_map blocks_of ds))) (sym none) refl
 
 pub try_late-returns-then-is_empty-clause-says : goal.try_late-returns-then-is_empty-clause-says
-try_late-returns-then-is_empty-clause-says t c r' at' =
+try_late-returns-then-is_empty-clause-says g t c r' at' =
     let query = c.args.query.now in
     let number = c.args.number in
     let outer = combinations_in c.args.frames.now in
@@ -259,7 +259,7 @@ try_late-returns-then-is_empty-clause-says t c r' at' =
     (none_are_late (context_among (database_in query) (blocks_in query) outer) (block_in r.source) (combination_in r.source c.args.composite.now) none)
 
 pub try_late-returns-then-is_empty-clause-total : goal.try_late-returns-then-is_empty-clause-total
-try_late-returns-then-is_empty-clause-total t c r' at' =
+try_late-returns-then-is_empty-clause-total g t c r' at' =
     let query = c.args.query.now in
     let number = c.args.number in
     let outer = combinations_in c.args.frames.now in
@@ -272,7 +272,7 @@ try_late-returns-then-is_empty-clause-total t c r' at' =
     (none_are_asked (total_at query (combination_in r.source c.args.composite.now ∷ outer)) (block_in r.source) none)
 
 pub try_late-ask_subqueries-requires : goal.try_late-ask_subqueries-requires
-try_late-ask_subqueries-requires t c =
+try_late-ask_subqueries-requires g t c =
     let query = c.args.query.now in
     let number = c.args.number in
     let outer = combinations_in c.args.frames.now in
@@ -286,7 +286,7 @@ try_late-ask_subqueries-requires t c =
     search (rules, inside, less)
 
 pub try_late-try_told-late-requires : goal.try_late-try_told-late-requires
-try_late-try_told-late-requires t c =
+try_late-try_told-late-requires g t c =
     let query = c.args.query.now in
     let number = c.args.number in
     let outer = combinations_in c.args.frames.now in
@@ -306,7 +306,7 @@ try_late-try_told-late-requires t c =
     (subst (AllByRecursion (CanEvaluate (told_environment (at (context_in r.source outer) (combination_in r.source c.args.composite.now)) (told_by results)))) (sym late) can)
 
 pub try_late-returns-clause-says : goal.try_late-returns-clause-says
-try_late-returns-clause-says t c r' at' =
+try_late-returns-clause-says g t c r' at' =
     let query = c.args.query.now in
     let number = c.args.number in
     let outer = combinations_in c.args.frames.now in
@@ -333,7 +333,7 @@ try_late-returns-clause-says t c r' at' =
     (code_says (database_in query) (blocks_in query) (block_in r.source) outer (combination_in r.source c.args.composite.now) (told_by results) (says query c.requires.query number r at_block outer c.requires.stands c.args.composite.now results listed) said.result truth quiet raised)
 
 pub try_late-returns-clause-total : goal.try_late-returns-clause-total
-try_late-returns-clause-total t c r' at' =
+try_late-returns-clause-total g t c r' at' =
     let query = c.args.query.now in
     let number = c.args.number in
     let outer = combinations_in c.args.frames.now in
@@ -348,7 +348,7 @@ try_late-returns-clause-total t c r' at' =
 -- ---- the rows of a block
 
 pub evaluate_block-run_plan-requires-clause-surrounded : goal.evaluate_block-run_plan-requires-clause-surrounded
-evaluate_block-run_plan-requires-clause-surrounded t c =
+evaluate_block-run_plan-requires-clause-surrounded g t c =
     let query = c.args.query.now in
     let number = c.args.number in
     let outer = combinations_in c.args.frames.now in
@@ -357,7 +357,7 @@ evaluate_block-run_plan-requires-clause-surrounded t c =
     surrounded query c.requires.query number r at_block outer c.requires.stands
 
 pub evaluate_block-run_plan-requires-clause-orders : goal.evaluate_block-run_plan-requires-clause-orders
-evaluate_block-run_plan-requires-clause-orders t c =
+evaluate_block-run_plan-requires-clause-orders g t c =
     let query = c.args.query.now in
     let number = c.args.number in
     let outer = combinations_in c.args.frames.now in
@@ -367,7 +367,7 @@ evaluate_block-run_plan-requires-clause-orders t c =
     c.orders.ensures.exact ∙ ap (λ (s : Space). s.orders) ready.space
 
 pub evaluate_block-run_plan-requires-clause-within : goal.evaluate_block-run_plan-requires-clause-within
-evaluate_block-run_plan-requires-clause-within t c =
+evaluate_block-run_plan-requires-clause-within g t c =
     let query = c.args.query.now in
     let number = c.args.number in
     let outer = combinations_in c.args.frames.now in
@@ -377,7 +377,7 @@ evaluate_block-run_plan-requires-clause-within t c =
     ready.within
 
 pub evaluate_block-composites-init : goal.evaluate_block-composites-init
-evaluate_block-composites-init t c =
+evaluate_block-composites-init g t c =
     let query = c.args.query.now in
     let number = c.args.number in
     let outer = combinations_in c.args.frames.now in
@@ -398,10 +398,10 @@ evaluate_block-composites-init t c =
     }
 
 pub evaluate_block-next-requires : goal.evaluate_block-next-requires
-evaluate_block-next-requires t c = subst (IsLine c.composites.line) (sym c.composites.invariant.frames_are) c.composites.invariant.line
+evaluate_block-next-requires g t c = subst (IsLine c.composites.line) (sym c.composites.invariant.frames_are) c.composites.invariant.line
 
 pub evaluate_block-try_late-requires : goal.evaluate_block-try_late-requires
-evaluate_block-try_late-requires t c =
+evaluate_block-try_late-requires g t c =
     let query = c.args.query.now in
     let number = c.args.number in
     let outer = combinations_in c.args.frames.now in
@@ -412,7 +412,7 @@ evaluate_block-try_late-requires t c =
     search (rules, now, less)
 
 pub evaluate_block-take-requires-clause-block : goal.evaluate_block-take-requires-clause-block
-evaluate_block-take-requires-clause-block t c =
+evaluate_block-take-requires-clause-block g t c =
     let query = c.args.query.now in
     let number = c.args.number in
     let outer = combinations_in c.args.frames.now in
@@ -422,7 +422,7 @@ evaluate_block-take-requires-clause-block t c =
     ready.block
 
 pub evaluate_block-take-requires-clause-can : goal.evaluate_block-take-requires-clause-can
-evaluate_block-take-requires-clause-can t c =
+evaluate_block-take-requires-clause-can g t c =
     let query = c.args.query.now in
     let number = c.args.number in
     let outer = combinations_in c.args.frames.now in
@@ -432,7 +432,7 @@ evaluate_block-take-requires-clause-can t c =
     subst (CanAnswer r.source) (sym frames) (can query c.requires.query number r at_block outer c.requires.stands)
 
 pub evaluate_block-composites-preserved : goal.evaluate_block-composites-preserved
-evaluate_block-composites-preserved t c =
+evaluate_block-composites-preserved g t c =
     let query = c.args.query.now in
     let number = c.args.number in
     let outer = combinations_in c.args.frames.now in
@@ -471,7 +471,7 @@ evaluate_block-composites-preserved t c =
     }
 
 pub evaluate_block-end-requires-clause-block : goal.evaluate_block-end-requires-clause-block
-evaluate_block-end-requires-clause-block t c =
+evaluate_block-end-requires-clause-block g t c =
     let query = c.args.query.now in
     let number = c.args.number in
     let outer = combinations_in c.args.frames.now in
@@ -481,7 +481,7 @@ evaluate_block-end-requires-clause-block t c =
     ready.block
 
 pub evaluate_block-end-requires-clause-can : goal.evaluate_block-end-requires-clause-can
-evaluate_block-end-requires-clause-can t c =
+evaluate_block-end-requires-clause-can g t c =
     let query = c.args.query.now in
     let number = c.args.number in
     let outer = combinations_in c.args.frames.now in
@@ -490,7 +490,7 @@ evaluate_block-end-requires-clause-can t c =
     subst (CanAnswer r.source) (sym c.composites.invariant.frames_are) (can query c.requires.query number r at_block outer c.requires.stands)
 
 pub evaluate_block-end-requires-clause-distinct : goal.evaluate_block-end-requires-clause-distinct
-evaluate_block-end-requires-clause-distinct t c =
+evaluate_block-end-requires-clause-distinct g t c =
     let query = c.args.query.now in
     let number = c.args.number in
     let outer = combinations_in c.args.frames.now in
@@ -500,7 +500,7 @@ evaluate_block-end-requires-clause-distinct t c =
     c.composites.invariant.distinct ∙ c.in_ok-rows.ensures.distinct ∙ ap (λ x. (block_of x).distinct) ready.block
 
 pub evaluate_block-returns-clause-told : goal.evaluate_block-returns-clause-told
-evaluate_block-returns-clause-told t c =
+evaluate_block-returns-clause-told g t c =
     let query = c.args.query.now in
     let number = c.args.number in
     let outer = combinations_in c.args.frames.now in
@@ -522,7 +522,7 @@ evaluate_block-returns-clause-told t c =
     means query c.requires.query number r at_block outer c.requires.stands (told_in c.in_ok-told.told) told
 
 pub evaluate_block-returns-clause-total : goal.evaluate_block-returns-clause-total
-evaluate_block-returns-clause-total t c =
+evaluate_block-returns-clause-total g t c =
     let query = c.args.query.now in
     let number = c.args.number in
     let outer = combinations_in c.args.frames.now in

@@ -16,20 +16,20 @@ use Rattle.executor.proofs.nested.+nested.Given as goal
 
 -- from a block to one behind it there is less to go
 abbrev pub decreases-ask_block : goal.decreases-ask_block
-decreases-ask_block l = 4 * (length l.query.now - l.number) + 3
+decreases-ask_block g l = 4 * (length l.query.now - l.number) + 3
 
 abbrev pub decreases-evaluate_block : goal.decreases-evaluate_block
-decreases-evaluate_block l = 4 * (length l.query.now - l.number) + 2
+decreases-evaluate_block g l = 4 * (length l.query.now - l.number) + 2
 
 abbrev pub decreases-try_late : goal.decreases-try_late
-decreases-try_late l = 4 * (length l.query.now - l.number) + 1
+decreases-try_late g l = 4 * (length l.query.now - l.number) + 1
 
 abbrev pub decreases-ask_subqueries : goal.decreases-ask_subqueries
-decreases-ask_subqueries l = 4 * (length l.query.now - l.number)
+decreases-ask_subqueries g l = 4 * (length l.query.now - l.number)
 
 -- those before one are told, and counted
 abbrev pub invariant-ask_subqueries-blocks-2 : goal.invariant-ask_subqueries-blocks-2
-invariant-ask_subqueries-blocks-2 l = record {
+invariant-ask_subqueries-blocks-2 g l = record {
   told : AllByRecursion (IsToldLast l.query (combinations_in l.fn.frames) l.results) (take l.block-index l.block-items);
   total : l.work ≡ saturated (sum_by (total_at l.query (combinations_in l.fn.frames)) (take l.block-index l.block-items));
   right : AreRight l.query l.results;
@@ -39,7 +39,7 @@ invariant-ask_subqueries-blocks-2 l = record {
 
 -- the composites that were taken are told of, and the totals of their subqueries are counted
 abbrev pub invariant-evaluate_block-composites : goal.invariant-evaluate_block-composites
-invariant-evaluate_block-composites l = record {
+invariant-evaluate_block-composites g l = record {
   taken :
       (composites : List Composite) × (left_of l.initial.line (combinations_in l.fn.frames) ≡ composites ++ left_of l.line (combinations_in l.fn.frames))
       × TellsKept l.ready.source (combinations_in l.fn.frames) (meanings_in l.query) (map (combination_of l.ready.source.database (block_in l.ready.source)) composites) l.rows
@@ -56,4 +56,4 @@ invariant-evaluate_block-composites l = record {
 }
 
 abbrev pub decreases-evaluate_block-composites : goal.decreases-evaluate_block-composites
-decreases-evaluate_block-composites l = length (left_of l.line (combinations_in l.fn.frames))
+decreases-evaluate_block-composites g l = length (left_of l.line (combinations_in l.fn.frames))

@@ -9,7 +9,7 @@ use Rattle.subqueries.proofs.Nearest.{frame_at}
 use Rattle.subqueries.proofs.frames.FramesOuterRows.cell.Goals as goal
 
 pub returns : goal.returns
-returns c =
+returns g c =
     let f = c.index-frame.result.now in
     let s = f.source.now in
     let column = column_of c.args.column in
