@@ -14,6 +14,8 @@ import pathlib
 import re
 import sys
 
+from cases import parse
+
 ROOT = pathlib.Path(__file__).resolve().parent.parent
 PAGE = ROOT / "docs/FIRST_STEPS.md"
 CASES = ROOT / "cases/first_steps"
@@ -81,13 +83,6 @@ def page(text, faults):
     return files, scripts
 
 
-def sections(text):
-    """The sections of a case: the words of each heading, and its body."""
-    for part in text.removesuffix("\n").split("\n---- ")[1:]:
-        heading, _, body = part.partition("\n")
-        yield heading, body + "\n" if "\n" in part else ""
-
-
 def screen(case, output, messages, faults):
     """What the run of a case shows: its output, with each message directly before its error line."""
     before, *told = MESSAGE.split(messages)
@@ -105,19 +100,14 @@ def tested(faults):
     """The files of the cases, and their scripts, each with its case, its screen and its notes."""
     files, scripts = {}, {}
     for path in sorted(CASES.glob("*.case")):
-        run = {}
-        for heading, body in sections(path.read_text(encoding="utf-8")):
-            if heading.startswith("file "):
-                name = heading.removeprefix("file ")
-                if files.setdefault(name, body) != body:
-                    faults.append(f"{path.name}: another case has another file {name}")
-            elif heading.startswith("status "):
-                messages = run.get("messages", "")
-                shown = screen(path.name, run["output"], NOTE.sub("", messages), faults)
-                scripts[run["script"]] = (path.name, shown, NOTE.findall(messages))
-                run = {}
-            else:
-                run[heading] = body
+        case = parse(path.read_bytes().decode())
+        for name, body in case.files.items():
+            if files.setdefault(name, body.decode()) != body.decode():
+                faults.append(f"{path.name}: another case has another file {name}")
+        for script in case.scripts:
+            output, messages = script.output.decode(), (script.messages or b"").decode()
+            shown = screen(path.name, output, NOTE.sub("", messages), faults)
+            scripts[script.text.decode()] = (path.name, shown, NOTE.findall(messages))
     return files, scripts
 
 
