@@ -17,10 +17,10 @@ what its type is seen as. Counted are the lines of the definitions that are reac
 blank lines or comments. What the kit has (`Rattle.std`, csv, clap) and types of code (`declared`) are told and not counted.
 
 In the pages the tool fills the numbers of a table by its first cell: under `call` and `claim`, the calls there; under `definition`, what is
-defined there. Between `<!-- claim.py START -->` and `<!-- end -->` it puts the files and definitions that a START speaks of.
+defined there. Between `<!-- claim.py START -->` and `<!-- end -->` it puts the files and definitions that a START speaks of, or by the word
+`parts` which files are which part of the counts.
 """
 import functools
-import pathlib
 import re
 import sys
 
@@ -33,11 +33,11 @@ CLAIMS["both"] = CLAIMS["run"] + CLAIMS["check"]
 
 PAGES = [ROOT / "docs/CLAIM.md", ROOT / "docs/PROVED.md"]
 
-# The parts of what has to be read, by the beginnings of files' names; what is left are other crates' views into the definitions.
+# The parts of what has to be read: files, and folders with a slash behind; what is left is of other crates.
 PARTS = {
     "text": "Characters Limits Refusal Word Token Lexing Printing",
     "statements": "Statement Rule Grammar",
-    "values": "Lists Value Arithmetic Truth Pattern",
+    "values": "Lists Value Arithmetic ValueType Truth Pattern",
     "tables": "Table Key IndexRun Statistics Change Invariant Scanning Loading Faults IndexFaults",
     "binding": "Binding/",
     "queries": "Queries/",
@@ -103,7 +103,7 @@ def owner_of(text, at):
     return found and found[1]
 
 
-def parameters(text, at):
+def parameter_names(text, at):
     """The names that a function at a place gives its parameters."""
     begin = text.index("(", at)
     return frozenset(re.findall(r"(\w+):", text[begin : behind_pair(text, begin, "()")]))
@@ -151,7 +151,7 @@ def starts_of_call(word):
     starts = []
     for text, at in functions(crate, owner, name):
         words = [it for label, it in clauses(text, at) if clause in ("", label)]
-        starts += spoken_of(text, words, parameters(text, at))
+        starts += spoken_of(text, words, parameter_names(text, at))
         if not clause and owner and any(re.search(r"\bself\b", it) for it in words):
             starts += seen_as(crate, owner)
     return starts
@@ -225,11 +225,12 @@ def with_each(word):
 
 
 def part_of(name):
+    """The part that a file is of."""
     return next(it for it, files in PARTS.items() if not files or any(is_in(name, word) for word in files.split()))
 
 
 def is_in(name, word):
-    return name.startswith(word) if word.endswith("/") else name == word or (word == "Value" and name == "ValueType")
+    return name.startswith(word) if word.endswith("/") else name == word
 
 
 def by_part(found):
@@ -265,6 +266,14 @@ def reading(words):
         yield f"| `{short(path)}` | {sum(len(it.lines) for it in inside)} | {', '.join(f'`{it}`' for it in names(inside))} |"
 
 
+def parts():
+    """The files of each part."""
+    yield from ["| part | files |", "| --- | --- |"]
+    for part, files in PARTS.items():
+        shown = ", ".join(f"`{it}`" for it in files.split())
+        yield f"| {part} | {shown or 'what other crates see values of code as'} |"
+
+
 def cells_of(line):
     return [it.strip() for it in line.strip("|\n").split("|")]
 
@@ -285,7 +294,7 @@ def page_with_numbers(text):
             line = f"| {' | '.join(cells)} |"
         lines.append(line)
         if start := re.fullmatch(r"<!-- claim\.py (.+) -->", line):
-            lines += reading(start[1].split())
+            lines += parts() if start[1] == "parts" else reading(start[1].split())
             skips = True
     return "\n".join(lines) + "\n"
 

@@ -40,11 +40,8 @@ class Module:
         self.name = "Rattle." + ".".join(parts)
         self.definitions, self.types, self.names, self.aliases = {}, {}, {}, {}
         code = [(number, strip(text)) for number, text in enumerate(path.read_text().splitlines(), 1)]
-        self.read_uses(text for _, text in code)
+        read_uses((text for _, text in code), self.names, self.aliases)
         self.read_block([it for it in code if it[1].strip() and not it[1].lstrip().startswith(("use ", "pub use ", "pub mod "))], 0, None)
-
-    def read_uses(self, texts):
-        read_uses(texts, self.names, self.aliases)
 
     def read_block(self, lines, indent, around):
         """Reads the definitions whose first lines are indented so far."""
@@ -135,10 +132,10 @@ def bound_names(chunk, is_constructor):
 
 
 def chunks(definition):
-    """A definition's signature and equations apart: lines with those that go on behind them."""
-    base, found = depth(definition.lines[0][1]), []
+    """A definition's signature and equations apart, or a type's head, constructors and fields: lines with those that go on behind them."""
+    first, found = depth(definition.lines[0][1]) + 2 * definition.is_type, []
     for _, text in definition.lines:
-        if not found or (depth(text) == base and not definition.is_type):
+        if not found or depth(text) == first:
             found.append(text)
         else:
             found[-1] += "\n" + text
