@@ -76,9 +76,9 @@ class Kit:
         self.folder = pathlib.Path(page.strip()).parent
         self.identity = (self.folder / "KIT-ID").read_bytes()
 
-    def words(self, crate, jobs):
-        """The command that proves a crate and builds it, on so many processors."""
-        words = [self.folder / "bin/rattle", "build", "--crate-name", crate.name]
+    def words(self, crate, jobs, verb, kept):
+        """The command that proves a crate on so many processors, over what an earlier one kept."""
+        words = [self.folder / "bin/rattle", verb, "--crate-name", crate.name]
         words += ["src/main.rt" if crate.is_program else "src/lib.rt"]
         for name in crate.of_kit:
             words += ["--extern", f"{name}={self.folder}/rlibs/{name}.rlib"]
@@ -89,7 +89,15 @@ class Kit:
             words += ["-L", f"dependency={dep.room}"]
         words += ["--antt-project", self.folder / "rattle/logic/antt-project.json"]
         words += ["--logic-built", self.folder / "logic_built", "--jobs", str(jobs), "--links", f"{crate.name}="]
-        words += ["--incremental", crate.room / "incremental"]
+        return [*words, "--incremental", kept]
+
+    def check_words(self, crate, kept):
+        """The command that proves a crate, and builds nothing."""
+        return self.words(crate, 1, "check", kept)
+
+    def build_words(self, crate, jobs):
+        """The command that proves a crate and builds it."""
+        words = self.words(crate, jobs, "build", crate.room / "incremental")
         if crate.is_program:
             return [*words, "--toolchain", self.folder / "toolchain", "--backend", "llvm", "-o", crate.room / "program.o"]
         return [*words, "-o", crate.rlib]
@@ -133,7 +141,7 @@ def build(crate, kit, jobs):
     crate.room.mkdir(parents=True, exist_ok=True)
     (crate.room / "stamp").unlink(missing_ok=True)
     stamp = crate.stamp(kit)
-    commands = [kit.words(crate, jobs), *([kit.link(crate)] if crate.is_program else [])]
+    commands = [kit.build_words(crate, jobs), *([kit.link(crate)] if crate.is_program else [])]
     total = 0
     with open(crate.room / "log", "wb") as log:
         for words in commands:

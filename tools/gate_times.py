@@ -36,21 +36,22 @@ def main():
         "# What the gate takes",
         "",
         f"`./test` on {datetime.date.today()}, on {processors} processors, {how}: {runs}.",
-        "The seconds are those of processors for what a run did of a crate: proofs, edits, tests and builds. '-' is a crate that was kept. An edit",
-        "that is the only one of its crate is not told apart from the proofs.",
+        "The seconds are those of processors for what a run did of a crate: proofs, edits, tests and builds. '-' is a crate that was kept. Wrong",
+        "bodies are tried outside the gate ([WRONG_BODIES.md](WRONG_BODIES.md)), but for the edits that it keeps.",
         "`tools/gate_times.py` makes this page from what `./test` prints.",
         "",
-        "| crate | seconds | of them for edits | functions | lines of src | specs | proofs | edits |",
-        "| --- | --- | --- | --- | --- | --- | --- | --- |",
+        "| crate | seconds | of them for edits | functions | lines of src | specs | proofs | edits | wrong bodies |",
+        "| --- | --- | --- | --- | --- | --- | --- | --- | --- |",
     ]
     layer = re.compile(r"^# \d+ (.*)$")
     for line in (ROOT / "crates.txt").read_text().splitlines():
         if layer.match(line):
-            text.append(f"| **{layer.match(line)[1]}** | | | | | | | |")
+            text.append(f"| **{layer.match(line)[1]}** | | | | | | | | |")
         elif ":" in line:
             name = line.split(":")[0].split()[0]
-            edits = len(list((ROOT / "crates" / name / "must-fail").glob("*.edit")))
-            counts = [*took.get(name, ("-", "-")), functions(name), lines(name, "src", ".rt"), lines(name, "specs", ".antt"), lines(name, "proofs", ".antt"), edits or ""]
+            edits, bodies = (len(list((ROOT / "crates" / name / folder).glob("*.edit"))) for folder in ("must-fail", "wrong"))
+            sizes = [lines(name, part, suffix) for part, suffix in (("src", ".rt"), ("specs", ".antt"), ("proofs", ".antt"))]
+            counts = [*took.get(name, ("-", "-")), functions(name), *sizes, edits or "", bodies or ""]
             text.append(f"| `{name}` | " + " | ".join(map(str, counts)) + " |")
     PAGE.write_text("\n".join(text) + "\n")
     print(f"{PAGE.relative_to(ROOT)}: {len(took)} crates")
