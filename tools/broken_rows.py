@@ -3,10 +3,11 @@
 
 usage: broken_rows.py PROGRAM CASES_PLANS
 
-tools/rows.py asks PROGRAM the rows of cases/rows, and CASES_PLANS, which is crates/cases_plans/out/cases_plans, those of its data. Each is
-given a file with a row left out, one that says something else or is none, and no file. The status of tools/rows.py has to be 1 then. The gate
-compares what CASES_PLANS prints with crates/cases_plans/stdout, so its line of the file has to differ from the line there.
+tools/rows.py asks PROGRAM the rows of cases/rows, tools/plan_rows.py those of cases/plans, and CASES_PLANS, which is
+crates/cases_plans/out/cases_plans, those of its data. Each is given a file with a row left out, one that says something else or is none, and no
+file. The status of the tools has to be 1 then. The gate compares what CASES_PLANS prints with crates/cases_plans/stdout, so that has to differ.
 """
+import functools
 import pathlib
 import re
 import shutil
@@ -15,7 +16,8 @@ import sys
 import tempfile
 
 ROOT = pathlib.Path(__file__).resolve().parent.parent
-ROWS = ROOT / "cases/rows"
+# Each tool that asks rows, and its folder of them.
+TOOLS = {"tools/rows.py": ROOT / "cases/rows", "tools/plan_rows.py": ROOT / "cases/plans"}
 PLANS = ROOT / "crates/cases_plans"
 
 
@@ -53,33 +55,28 @@ BREAKS = {
 # ---- those who ask rows: whether they find the files of a folder as they have to be
 
 
-def tool_is_content(program, folder, _):
+def tool_is_content(tool, program, folder):
     # the rows that have to be asked
-    count = sum(is_row(line) for file in ROWS.glob("*.rows") for line in file.read_text(encoding="utf-8").split("\n"))
-    words = [sys.executable, ROOT / "tools/rows.py", program, "--folder", folder, "--count", str(count)]
+    count = sum(is_row(line) for file in TOOLS[tool].glob("*.rows") for line in file.read_text(encoding="utf-8").split("\n"))
+    words = [sys.executable, ROOT / tool, program, "--folder", folder, "--count", str(count)]
     ran = subprocess.run(words, capture_output=True, text=True)
     if ran.returncode not in (0, 1) or ran.stderr:
-        sys.exit(f"tools/rows.py ended with status {ran.returncode}: {ran.stderr}")
+        sys.exit(f"{tool} ended with status {ran.returncode}: {ran.stderr}")
     return ran.returncode == 0
 
 
-def plans_are_content(program, folder, name):
+def plans_are_content(program, folder):
     printed = subprocess.run([program], cwd=folder, capture_output=True, text=True).stdout
-    return line_of(name, printed) == line_of(name, (PLANS / "stdout").read_text())
+    return printed == (PLANS / "stdout").read_text()
 
 
-def line_of(name, printed):
-    """What is printed of a file of rows; the list of plans may be printed besides."""
-    return [line for line in printed.splitlines() if line.startswith(f"{name}:")]
-
-
-def count_untold(is_content, program, data):
-    """How many broken files are not told."""
-    file, untold = sorted(data.glob("*.rows"))[0], 0
+def count_untold(is_content, file):
+    """How many broken files are not told, where this one of its folder is broken."""
+    untold = 0
     with tempfile.TemporaryDirectory() as room:
         folder = pathlib.Path(room) / "data"
-        shutil.copytree(data, folder)
-        if not is_content(program, folder, file.name):
+        shutil.copytree(file.parent, folder)
+        if not is_content(folder):
             print(f"{file} is told to be wrong as it stands")
             untold += 1
         for what, broken in BREAKS.items():
@@ -87,7 +84,7 @@ def count_untold(is_content, program, data):
                 (folder / file.name).write_text("\n".join(broken(file.read_text(encoding="utf-8").splitlines())) + "\n", encoding="utf-8")
             else:
                 (folder / file.name).unlink()
-            if is_content(program, folder, file.name):
+            if is_content(folder):
                 print(f"of {file.relative_to(ROOT)} it isn't told that {what}")
                 untold += 1
     print(f"{file.relative_to(ROOT)}: {len(BREAKS)} times broken, {untold} not told")
@@ -95,9 +92,11 @@ def count_untold(is_content, program, data):
 
 
 def main():
-    program, plans = map(pathlib.Path, sys.argv[1:])
-    untold = count_untold(tool_is_content, program.resolve(), ROWS)
-    untold += count_untold(plans_are_content, plans.resolve(), PLANS / "data")
+    program, plans = (pathlib.Path(it).resolve() for it in sys.argv[1:])
+    untold = 0
+    for tool, folder in TOOLS.items():
+        untold += count_untold(functools.partial(tool_is_content, tool, program), min(folder.glob("*.rows")))
+    untold += count_untold(functools.partial(plans_are_content, plans), min((PLANS / "data").glob("*.rows")))
     sys.exit(1 if untold else 0)
 
 

@@ -1,7 +1,7 @@
 #!/usr/bin/env python3
 """Changes the theory of plans, one definition at a time, in a copy of crates/definitions, and checks that its laws and worked examples
 then no longer all prove. A law over definitions has no code that an edit could make wrong, so the definitions themselves are changed; what
-each change makes false stands in docs/DECISIONS.md. That a proof fails is not yet that its law is false: the list there says which are refuted.
+each change makes false stands in docs/SEARCH.md. That a proof fails is not yet that its law is false: the list there says which are refuted.
 
 Usage: tools/changed_definitions.py [NUMBER ..]. It takes some half a minute a change and stands outside the gate. The status is 1 where a
 change is still proved, or where its text doesn't stand in its file just once.

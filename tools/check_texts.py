@@ -5,7 +5,7 @@
     tools/check_texts.py PROGRAM blocks    texts of 200 made blocks as EXPLAIN prints them, each also with one value changed
 
 A line counts what was told of how many texts; the status is 1 where the program tells another thing of one of them. The figures of plans
-are those of tools/plan_list.py. The first takes some minutes, and is no part of the tests.
+are those of tools/plan_rules.py. The first takes some minutes, and is no part of the tests.
 
 A text is cut from the file up to and with its line END, and read by the version that its first line names. It is refused C1 where it
 hasn't the form, C2 where a number isn't there, C3 where states don't rise or aren't below the target, and K1 to K4 by the first rule that
@@ -23,7 +23,7 @@ import sys
 import tempfile
 from dataclasses import dataclass
 
-from plan_list import LIMIT, Above, Block, Column, Equals, Equation, Index, Key, Loop, Measured, Merge, Path, Sort, Space, Table, Version
+from plan_rules import LIMIT, Above, Block, Column, Equals, Equation, Index, Key, Loop, Measured, Merge, Path, Sort, Space, Table, Version, script_of
 
 MOST_PLAN_WORDS = 64
 NUMBER = rb"(0|[1-9][0-9]{0,18})"
@@ -287,43 +287,7 @@ def told_of(block, file):
     return printed, 0 if told == "pass" and not rest else 3
 
 
-# ---- scripts
-
-
-def column_name(column):
-    return f"T{column.table}.C{column.number}"
-
-
-def conjunct_text(conjunct):
-    match conjunct:
-        case Equation(left=left, right=right):
-            return f"{column_name(left)} = {column_name(right)}"
-        case Equals(column=column, number=value):
-            return f"{column_name(column)} = {value}"
-        case Above(column=column, number=value):
-            return f"{column_name(column)} > {value}"
-
-
-def script_of(block):
-    """A script whose last statement explains the block's query."""
-    lines = []
-    for place, table in enumerate(block.tables, 1):
-        columns = ", ".join(f"C{number} INTEGER" for number in range(1, table.columns + 1))
-        lines.append(f"CREATE TABLE T{place} ({columns});")
-        lines.append(f"SET STATISTICS T{place} ROWS {table.rows} PAGES {table.pages};")
-        for index in table.indexes:
-            names = ", ".join(f"C{number}" for number in index.columns)
-            lines.append(f"CREATE {'UNIQUE ' if index.unique else ''}INDEX ON T{place} ({names});")
-            clustered = " CLUSTERED" if index.clustered else ""
-            limits = "" if index.low is None else f" LOW {index.low} HIGH {index.high}"
-            lines.append(f"SET STATISTICS T{place} ({names}) KEYS {index.keys} PAGES {index.pages}{clustered}{limits};")
-    wanted = [column_name(key.column) for key in block.required] or ["T1.C1"]
-    query = f"SELECT {', '.join(wanted)} FROM {', '.join(f'T{place}' for place in range(1, len(block.tables) + 1))}"
-    if block.conjuncts:
-        query += f" WHERE {' AND '.join(map(conjunct_text, block.conjuncts))}"
-    if block.required:
-        query += " ORDER BY " + ", ".join(f"{place}{' DESC' if key.descending else ''}" for place, key in enumerate(block.required, 1))
-    return "\n".join([*lines, f"EXPLAIN {query};"]) + "\n"
+# ---- comparing
 
 
 class Runs:

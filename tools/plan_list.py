@@ -1,468 +1,30 @@
 #!/usr/bin/env python3
-"""Lists small plans of small query blocks and what each of them comes to, by the rules of plans written out plainly here.
+"""Lists small plans of small query blocks and what each of them comes to by the rules of tools/plan_rules.py, and asks the program for the same.
 
-The program crates/cases_plans asks the optimiser's crates for the same, and the gate compares what it prints with the file
-crates/cases_plans/stdout, which has this script's output behind a line for each file of rows:
+    tools/plan_list.py                    prints the list
+    tools/plan_list.py --check PROGRAM    asks the program; the status is 1 where it tells another thing
 
-    tools/plan_list.py            prints the list
-    tools/plan_list.py --check    compares it with the file; the status is 1 where they differ
-
-A plan is built in steps: the rows of one table (ACCESS), and on top of a plan a nested-loop join (LOOP), a merge join (MERGE) or
-a sort (SORT) (Selinger et al. 1979, sections 4 and 5; figures and versions of the plan space are own, docs/PLANS.md). Of each
-block every plan of so many steps is tried whose parts are among some paths, conjuncts and orders, a few of which aren't there. A
+Of each block every plan of so many steps is tried whose parts are among some paths, conjuncts and orders, a few of which aren't there. A
 line tells of each that is a plan its tables (the sum of 2^(t-1) over their numbers t), the number of its order and its cost. Then
 it tells of each kind of plan how many were tried.
 
-Tables, columns, indexes and conjuncts count from 1, orders from 0, which is no order.
+The program is asked of each plan of the list whether it is in the space and as required, its tables and order, and its cost. What is partial
+or not as required is told no cost: then it is asked with scans of the further tables and a sort on top. The program is asked too of some
+thousands of those that are none: on plans of the list steps that can't stand there, and on these some more.
 """
+import concurrent.futures
+import os
 import pathlib
+import random
 import sys
+import tempfile
 from dataclasses import dataclass
-from enum import IntEnum
 
-LISTED = pathlib.Path(__file__).resolve().parent.parent / "crates/cases_plans/stdout"
-LIMIT = 10**18
-MILLION = 10**6
-PAGE_BYTES = 4096
-BUFFER_PAGES = 64
+from plan_asking import Planner, Told, set_of
+from plan_rules import Above, Block, Column, Equals, Equation, Index, Key, Loop, Measured, Merge, Path, Sort, Space, Table, Version, script_of
 
-
-# ---- what a block is made of
-
-
-class Version(IntEnum):
-    """The first knows indexes on one column, read forward, and forms products of tables last; the second knows all indexes, read
-    backward too; the third also forms products at any point."""
-
-    ONE = 1
-    TWO = 2
-    THREE = 3
-
-
-@dataclass(frozen=True)
-class Column:
-    table: int
-    number: int
-
-
-@dataclass(frozen=True)
-class Index:
-    columns: tuple[int, ...]
-    keys: int
-    pages: int
-    unique: bool = False
-    clustered: bool = False
-    low: int | None = None
-    high: int | None = None
-
-
-@dataclass(frozen=True)
-class Table:
-    columns: int
-    rows: int
-    pages: int
-    indexes: tuple[Index, ...] = ()
-
-    @property
-    def width(self):
-        """The bytes of a row: 8, and 4 for each of its columns, which are all INTEGER here."""
-        return 8 + 4 * self.columns
-
-
-@dataclass(frozen=True)
-class Equation:
-    """column = column"""
-
-    left: Column
-    right: Column
-
-    @property
-    def columns(self):
-        return (self.left, self.right)
-
-
-@dataclass(frozen=True)
-class Equals:
-    """column = number"""
-
-    column: Column
-    number: int
-
-    @property
-    def columns(self):
-        return (self.column,)
-
-
-@dataclass(frozen=True)
-class Above:
-    """column > number"""
-
-    column: Column
-    number: int
-
-    @property
-    def columns(self):
-        return (self.column,)
-
-
-@dataclass(frozen=True)
-class Key:
-    column: Column
-    descending: bool = False
-
-
-@dataclass(frozen=True)
-class Block:
-    """The tables of FROM, the conjuncts of WHERE, and the columns of ORDER BY."""
-
-    tables: tuple[Table, ...]
-    conjuncts: tuple[Equation | Equals | Above, ...]
-    required: tuple[Key, ...]
-
-
-# ---- plans, whether there are such or not
-
-
-@dataclass(frozen=True)
-class Path:
-    """The whole table, an index of it, or what conjuncts match of the index, one on each of its first columns."""
-
-    table: int
-    index: int | None = None
-    conjuncts: tuple[int, ...] = ()
-    backward: bool = False
-
-    def __str__(self):
-        if self.index is None:
-            return f"SEG {self.table}"
-        word = "MATCH" if self.conjuncts else "IDX"
-        matched = "".join(f"/{conjunct}" for conjunct in self.conjuncts)
-        return f"{word} {self.table}.{self.index}{matched}{' BACK' if self.backward else ''}"
-
-
-@dataclass(frozen=True)
-class Loop:
-    path: Path
-
-    kind = "LOOP"
-
-    def on(self, outer):
-        return f"LOOP({outer},{self.path})"
-
-
-@dataclass(frozen=True)
-class Merge:
-    conjunct: int
-    path: Path
-    is_sorted: bool
-
-    kind = "MERGE"
-
-    def on(self, outer):
-        return f"MERGE({outer},{self.conjunct},{'SORTED ' if self.is_sorted else ''}{self.path})"
-
-
-@dataclass(frozen=True)
-class Sort:
-    order: int
-
-    kind = "SORT"
-
-    def on(self, plan):
-        return f"SORT({plan},{self.order})"
-
-
-@dataclass(frozen=True)
-class Measured:
-    """What a plan comes to: its tables, the number of its order, its cost."""
-
-    tables: frozenset[int]
-    order: int
-    cost: int
-
-
-# ---- arithmetic
-
-
-def saturated(number):
-    return min(LIMIT, number)
-
-
-def rounded_up(dividend, divisor):
-    return -(-dividend // divisor)
-
-
-def fraction(part, whole):
-    """A part in millionths, rounded up, from 1 to all of them."""
-    return min(MILLION, max(1, rounded_up(part * MILLION, whole)))
-
-
-def share(number, millionths):
-    return rounded_up(number * millionths, MILLION)
-
-
-# ---- the rules
-
-
-class Space:
-    """The plans of a block in a version of the plan space."""
-
-    def __init__(self, block, version):
-        self.block = block
-        self.version = version
-        self.all_tables = frozenset(range(1, len(block.tables) + 1))
-        self.orders = self.numbered_orders()
-
-    def table(self, number):
-        return self.block.tables[number - 1]
-
-    def conjunct(self, number):
-        return self.block.conjuncts[number - 1]
-
-    def tables_of(self, conjunct):
-        return frozenset(column.table for column in conjunct.columns)
-
-    # -- shares of rows
-
-    def own_index(self, column):
-        """The index on a column alone, if there is one."""
-        on_it = [index for index in self.table(column.table).indexes if index.columns == (column.number,)]
-        return on_it[0] if on_it else None
-
-    def selectivity(self, conjunct):
-        """In millionths. An equation keeps one key of an index on a column alone: of that with the most keys where both columns
-        have one, and a tenth where neither has. A comparison with a number by > keeps the part of the index's range above it, and
-        a third where no range is known."""
-        indexes = [index for index in map(self.own_index, conjunct.columns) if index]
-        match conjunct:
-            case Equation() | Equals():
-                return fraction(1, max(max(1, index.keys) for index in indexes)) if indexes else 100_000
-            case Above(number=number):
-                if not indexes or indexes[0].low is None or indexes[0].low >= indexes[0].high:
-                    return 333_334
-                low, high = indexes[0].low, indexes[0].high
-                return fraction(high - min(high, max(low, number)), high - low)
-
-    def cardinality(self, tables):
-        """Each table in the order of FROM multiplies the rows, and then each conjunct is applied whose tables are all there now."""
-        rows, taken = 1, frozenset()
-        for table in sorted(tables):
-            rows = saturated(rows * self.table(table).rows)
-            before, taken = taken, taken | {table}
-            for conjunct in self.block.conjuncts:
-                if self.tables_of(conjunct) <= taken and not self.tables_of(conjunct) <= before:
-                    rows = share(rows, self.selectivity(conjunct))
-        return rows
-
-    def scanned_rows(self, known, table):
-        """The rows that a scan of a table hands on, where the rows of some tables are known."""
-        rows = self.table(table).rows
-        for conjunct in self.block.conjuncts:
-            tables = self.tables_of(conjunct)
-            if table in tables and tables <= known | {table}:
-                rows = share(rows, self.selectivity(conjunct))
-        return rows
-
-    def sort_cost(self, tables):
-        width = sum(self.table(table).width for table in tables)
-        pages = saturated(rounded_up(self.cardinality(tables) * width, PAGE_BYTES))
-        return saturated(20 * pages + self.cardinality(tables))
-
-    # -- orders
-
-    def indexes_of(self, table):
-        """The numbers of the indexes that the version knows, in the order in which theirs are numbered: those on one column by
-        the number of the column, or all by their own."""
-        numbers = range(1, len(self.table(table).indexes) + 1)
-        if self.version > Version.ONE:
-            return list(numbers)
-        return sorted(
-            (number for number in numbers if len(self.table(table).indexes[number - 1].columns) == 1),
-            key=lambda number: self.table(table).indexes[number - 1].columns,
-        )
-
-    def index_order(self, table, index, backward):
-        columns = self.table(table).indexes[index - 1].columns
-        return tuple(Key(Column(table, column), backward) for column in columns)
-
-    def is_merge_conjunct(self, conjunct):
-        """column = column, of two tables"""
-        return isinstance(conjunct, Equation) and len(self.tables_of(conjunct)) == 2
-
-    def numbered_orders(self):
-        """No order; the required one; the columns of merge conjuncts, ascending; and those of indexes, forward and, if the version
-        reads them so, backward: each where it stands first."""
-        orders = [(), self.block.required]
-        for conjunct in filter(self.is_merge_conjunct, self.block.conjuncts):
-            orders += [(Key(conjunct.left),), (Key(conjunct.right),)]
-        for table in sorted(self.all_tables):
-            for index in self.indexes_of(table):
-                orders.append(self.index_order(table, index, False))
-                if self.version > Version.ONE:
-                    orders.append(self.index_order(table, index, True))
-        return list(dict.fromkeys(orders))
-
-    def are_one(self, tables, a, b):
-        """Whether two columns are of one class: the same, or joined by a chain of equations whose tables are all there."""
-        reached, grown = set(), {a}
-        while grown != reached:
-            reached = set(grown)
-            for conjunct in self.block.conjuncts:
-                if isinstance(conjunct, Equation) and self.tables_of(conjunct) <= tables and reached & set(conjunct.columns):
-                    grown |= set(conjunct.columns)
-        return b in reached
-
-    def satisfies(self, tables, order, wanted):
-        return len(wanted) <= len(order) and all(
-            has.descending == asked.descending and self.are_one(tables, has.column, asked.column)
-            for has, asked in zip(order, wanted)
-        )
-
-    def gives_required(self, order):
-        return self.satisfies(self.all_tables, self.orders[order], self.block.required)
-
-    # -- paths
-
-    def compares_with_known(self, known, column, conjunct):
-        """Whether a conjunct compares a column with what is known: a number, or a column of the known tables and not of its own."""
-        match conjunct:
-            case Equation(left=left, right=right):
-                others = [b for a, b in ((left, right), (right, left)) if a == column]
-                return any(other.table in known and other.table != column.table for other in others)
-            case Equals(column=compared) | Above(column=compared):
-                return compared == column
-
-    def match_index(self, known, path):
-        """Whether conjuncts match the first columns of an index in turn, all but the last by =."""
-        columns = self.table(path.table).indexes[path.index - 1].columns
-        if len(path.conjuncts) > len(columns) or not all(1 <= c <= len(self.block.conjuncts) for c in path.conjuncts):
-            return False
-        conjuncts = [self.conjunct(number) for number in path.conjuncts]
-        return all(
-            self.compares_with_known(known, Column(path.table, number), conjunct) for number, conjunct in zip(columns, conjuncts)
-        ) and not any(isinstance(conjunct, Above) for conjunct in conjuncts[:-1])
-
-    def is_path(self, known, path):
-        if path.table not in self.all_tables:
-            return False
-        if path.index is None:
-            return True
-        if path.index not in self.indexes_of(path.table) or path.backward and self.version == Version.ONE:
-            return False
-        return not path.conjuncts or self.match_index(known, path)
-
-    def order_of(self, path):
-        order = () if path.index is None else self.index_order(path.table, path.index, path.backward)
-        return self.orders.index(order)
-
-    def matched_share(self, index, conjuncts, pages):
-        """The share of some pages that conjuncts leave: one key of an index on several columns that are all equated, else what they
-        leave one after another."""
-        equated = not any(isinstance(conjunct, Above) for conjunct in conjuncts)
-        if len(index.columns) > 1 and len(conjuncts) == len(index.columns) and equated:
-            return share(pages, fraction(1, max(1, index.keys)))
-        for conjunct in conjuncts:
-            pages = share(pages, self.selectivity(conjunct))
-        return pages
-
-    def pages_read(self, path):
-        """The pages of the table; or those of the index, or of the matched part of it, and with them those of the table, or a page
-        for each row where rows of near keys don't lie near each other and the buffer doesn't hold all that."""
-        table = self.table(path.table)
-        if path.index is None:
-            return table.pages
-        index = table.indexes[path.index - 1]
-        conjuncts = [self.conjunct(number) for number in path.conjuncts]
-        pages = self.matched_share(index, conjuncts, saturated(index.pages + table.pages))
-        if index.clustered or pages <= BUFFER_PAGES:
-            return pages
-        return self.matched_share(index, conjuncts, saturated(index.pages + table.rows))
-
-    def is_one_row(self, path):
-        """Whether a path gives at most one row: a unique index whose columns are all equated."""
-        if path.index is None:
-            return False
-        index = self.table(path.table).indexes[path.index - 1]
-        equated = not any(isinstance(self.conjunct(number), Above) for number in path.conjuncts)
-        return index.unique and len(path.conjuncts) == len(index.columns) and equated
-
-    def path_cost(self, known, path):
-        """Ten for a page and one for a row."""
-        if self.is_one_row(path):
-            return 10 + 10 + 1
-        return saturated(saturated(10 * self.pages_read(path)) + self.scanned_rows(known, path.table))
-
-    # -- steps
-
-    def is_linked(self, tables, table):
-        """Whether a conjunct names a table and some of a set, and no other."""
-        return any(
-            table in named and named & tables and named <= tables | {table}
-            for named in map(self.tables_of, self.block.conjuncts)
-        )
-
-    def may_follow(self, tables, table):
-        """Whether a table may come next: a linked one, or any where none is linked or products are formed at any point."""
-        outside = self.all_tables - tables
-        if table not in outside:
-            return False
-        if self.version == Version.THREE or self.is_linked(tables, table):
-            return True
-        return not any(self.is_linked(tables, other) for other in outside)
-
-    def access(self, path):
-        if not self.is_path(frozenset(), path):
-            return None
-        return Measured(frozenset([path.table]), self.order_of(path), self.path_cost(frozenset(), path))
-
-    def loop(self, outer, step):
-        """A scan of the path for each row."""
-        if not self.may_follow(outer.tables, step.path.table) or not self.is_path(outer.tables, step.path):
-            return None
-        scans = saturated(self.cardinality(outer.tables) * self.path_cost(outer.tables, step.path))
-        return Measured(outer.tables | {step.path.table}, outer.order, saturated(outer.cost + scans))
-
-    def merge_columns(self, tables, number, table):
-        """The columns of a merge conjunct in some tables and in the next one."""
-        if not 1 <= number <= len(self.block.conjuncts) or not self.is_merge_conjunct(self.conjunct(number)):
-            return None
-        for outer, inner in (self.conjunct(number).columns, self.conjunct(number).columns[::-1]):
-            if outer.table in tables and inner.table == table:
-                return outer, inner
-        return None
-
-    def merge(self, outer, step):
-        """One scan of the path, its sort if there is one, and the pairs of rows that the conjunct leaves."""
-        table = step.path.table
-        columns = self.merge_columns(outer.tables, step.conjunct, table)
-        if not columns or not self.may_follow(outer.tables, table) or not self.is_path(frozenset(), step.path):
-            return None
-        if not self.satisfies(outer.tables, self.orders[outer.order], (Key(columns[0]),)):
-            return None
-        alone = frozenset([table])
-        if not step.is_sorted and not self.satisfies(alone, self.orders[self.order_of(step.path)], (Key(columns[1]),)):
-            return None
-        sort = self.sort_cost(alone) if step.is_sorted else 0
-        pairs = saturated(self.cardinality(outer.tables) * self.cardinality(alone))
-        kept = share(pairs, self.selectivity(self.conjunct(step.conjunct)))
-        inner = saturated(self.path_cost(frozenset(), step.path) + sort)
-        return Measured(outer.tables | alone, outer.order, saturated(outer.cost + saturated(inner + kept)))
-
-    def sort(self, plan, step):
-        """Into an order that has a number and is over the tables that are there."""
-        if not 0 < step.order < len(self.orders) or not all(key.column.table in plan.tables for key in self.orders[step.order]):
-            return None
-        return Measured(plan.tables, step.order, saturated(plan.cost + self.sort_cost(plan.tables)))
-
-    def on_top(self, plan, step):
-        """What a step on top of a plan comes to, if it is a plan."""
-        match step:
-            case Loop():
-                return self.loop(plan, step)
-            case Merge():
-                return self.merge(plan, step)
-            case Sort():
-                return self.sort(plan, step)
+# Of each block so many are asked that are no plans.
+SEED, LEFT_OUT = 1979, 1000
 
 
 # ---- the list
@@ -470,7 +32,8 @@ class Space:
 
 @dataclass(frozen=True)
 class Case:
-    """A block, and what its plans are made of: how many steps, which paths, conjuncts up to a number and orders up to one."""
+    """A block, and what its plans are made of: how many steps, which paths, conjuncts up to a number and orders up to one. Indexes that the first
+    version knows are on the column of their own number, by which it calls them."""
 
     name: str
     block: Block
@@ -479,6 +42,15 @@ class Case:
     paths: tuple[Path, ...]
     conjuncts: int
     orders: int
+
+
+@dataclass(frozen=True)
+class Listed:
+    """A plan, and what it comes to."""
+
+    plan: str
+    steps: int
+    found: Measured
 
 
 def steps_of(case):
@@ -500,24 +72,24 @@ def measured_plans(space, case, shape):
     if len(shape) == 1:
         for path in case.paths:
             if found := space.access(path):
-                yield f"ACCESS({path})", found
+                yield Listed(f"ACCESS({path})", 1, found)
         return
-    for plan, below in measured_plans(space, case, shape[:-1]):
+    for below in measured_plans(space, case, shape[:-1]):
         for step in steps_of(case)[shape[-1]]:
-            if found := space.on_top(below, step):
-                yield step.on(plan), found
+            if found := space.on_top(below.found, step):
+                yield Listed(step.on(below.plan), len(shape), found)
 
 
-def line_of(space, plan, found):
-    tables = sum(2 ** (table - 1) for table in found.tables)
+def line_of(space, listed):
+    found = listed.found
     in_space = " in the space" if found.tables == space.all_tables else ""
     required = " as required" if in_space and space.gives_required(found.order) else ""
-    return f"{plan}: {tables} {found.order} {found.cost}{in_space}{required}"
+    return f"{listed.plan}: {set_of(found.tables)} {found.order} {found.cost}{in_space}{required}"
 
 
 def shape_lines(space, case, shape):
     """The plans of a kind, and how many were tried. What stands on no plan is none."""
-    told = [line_of(space, plan, found) for plan, found in measured_plans(space, case, shape)]
+    told = [line_of(space, listed) for listed in measured_plans(space, case, shape)]
     tried = len(case.paths)
     for kind in shape[1:]:
         tried *= len(steps_of(case)[kind])
@@ -531,12 +103,15 @@ def shapes(steps):
     return [[*below, kind] for below in shapes(steps - 1) for kind in ("LOOP", "MERGE", "SORT")]
 
 
+def shapes_of(case):
+    return [shape for steps in range(1, case.steps + 1) for shape in shapes(steps)]
+
+
 def case_lines(case):
     space = Space(case.block, case.version)
     lines = [f"{case.name}, version {case.version}, {len(space.orders)} orders"]
-    for steps in range(1, case.steps + 1):
-        for shape in shapes(steps):
-            lines += shape_lines(space, case, shape)
+    for shape in shapes_of(case):
+        lines += shape_lines(space, case, shape)
     return lines
 
 
@@ -604,16 +179,93 @@ CASES = [
 ]
 
 
+# ---- asking the program
+
+
+def completed(space, listed):
+    """The plan with scans of the tables that aren't there, and with a sort where its order isn't the required one."""
+    plan, found = listed.plan, listed.found
+    while found.tables != space.all_tables:
+        step = Loop(Path(next(table for table in sorted(space.all_tables) if space.may_follow(found.tables, table))))
+        plan, found = step.on(plan), space.on_top(found, step)
+    if not space.gives_required(found.order):
+        step = Sort(space.orders.index(space.block.required))
+        plan, found = step.on(plan), space.on_top(found, step)
+    return Listed(plan, listed.steps, found)
+
+
+def expected(space, found):
+    """What is told of a plan of the list."""
+    if found.tables != space.all_tables:
+        return Told("partial")
+    return Told("costs", found.cost) if space.gives_required(found.order) else Told("in order", found.order)
+
+
+def plan_fault(planner, space, listed):
+    """What is told otherwise of a plan of the list; None where nothing is."""
+    whole = completed(space, listed)
+    for plan, found in {listed.plan: listed.found, whole.plan: whole.found}.items():
+        if (told := planner.plan(space.version, plan)) != expected(space, found):
+            return f"{plan}: {told}, and not {expected(space, found)}"
+    state = (set_of(listed.found.tables), listed.found.order)
+    if (told := planner.state(space.version, listed.plan, listed.found.tables)) != state:
+        return f"{listed.plan}: tables and order {told}, and not {state}"
+    return None
+
+
+def left_out(space, case, plans):
+    """What is no plan: an access that is none, or a step that can't stand on a plan of the list; and how many steps it has."""
+    steps = [step for kind in steps_of(case).values() for step in kind]
+    accesses = [(f"ACCESS({path})", 1) for path in case.paths if not space.access(path)]
+    below = [listed for listed in plans if listed.steps < case.steps]
+    return accesses + [(step.on(it.plan), it.steps + 1) for it in below for step in steps if not space.on_top(it.found, step)]
+
+
+def sample(case, out):
+    """Some of those that are none, some with further steps on top."""
+    choice = random.Random(SEED)
+    steps = [step for kind in steps_of(case).values() for step in kind]
+    for plan, length in choice.sample(out, min(LEFT_OUT, len(out))):
+        for step in choice.choices(steps, k=choice.randint(0, case.steps - length)):
+            plan = step.on(plan)
+        yield plan
+
+
+def out_fault(planner, space, plan):
+    told = planner.plan(space.version, plan)
+    return None if told in (Told("outside"), Told("no text")) else f"{plan}: {told}, and it is no plan"
+
+
+def order_fault(planner, space):
+    """What is told otherwise of how many orders there are."""
+    told, count = planner.greatest_order(space.version), len(space.orders)
+    return None if told == count - 1 else f"the orders go to {told}, and there are {count} with order 0"
+
+
+def count_wrong(program, folder, pool, case):
+    """Asks the program of a case, tells what it tells otherwise, and gives how many that is."""
+    space = Space(case.block, case.version)
+    script = pathlib.Path(folder) / "script.sql"
+    script.write_text(script_of(case.block))
+    planner = Planner(program, script)
+    plans = [listed for shape in shapes_of(case) for listed in measured_plans(space, case, shape)]
+    outside = list(sample(case, left_out(space, case, plans)))
+    told = [*pool.map(lambda listed: plan_fault(planner, space, listed), plans), *pool.map(lambda plan: out_fault(planner, space, plan), outside)]
+    wrong = [fault for fault in [order_fault(planner, space), *told] if fault]
+    for fault in wrong:
+        print(f"{case.name}, version {case.version}: {fault}")
+    print(f"{case.name}, version {case.version}: {len(plans)} plans and {len(outside)} that are none, {len(wrong)} told otherwise")
+    return len(wrong)
+
+
 def main():
-    text = "".join(f"{line}\n" for case in CASES for line in case_lines(case))
-    if sys.argv[1:] != ["--check"]:
-        print(text, end="")
+    if not sys.argv[1:]:
+        print(*(line for case in CASES for line in case_lines(case)), sep="\n")
         return
-    # before the list it prints a line for each of its files of rows
-    listed = [line for line in LISTED.read_text().splitlines(keepends=True) if ".rows: " not in line]
-    if "".join(listed) != text:
-        sys.exit(f"{LISTED} is not what tools/plan_list.py lists")
-    print(f"{LISTED.name} of cases_plans has the {text.count(chr(10))} lines of tools/plan_list.py")
+    _, program = sys.argv[1:]
+    with tempfile.TemporaryDirectory() as folder, concurrent.futures.ThreadPoolExecutor(os.cpu_count()) as pool:
+        wrong = sum(count_wrong(program, folder, pool, case) for case in CASES)
+    sys.exit(1 if wrong else 0)
 
 
 if __name__ == "__main__":

@@ -171,7 +171,7 @@ def cases(folder, full, closed):
     yield Case("missing script and certificates", ["check", missing, "examples/missing.certificates"], 2, complaint=no_script)
     yield Case("full output for a check", ["check", join, certificates], 2, complaint=b"sqlr: standard output: No space left on device\n", output=full)
     yield Case("help", ["--help"], 0, HELP)
-    yield Case("version", ["--version"], 0, b"sqlr 0.1.0\n")
+    yield Case("version", ["--version"], 0, b"sqlr 0.2.0\n")
     yield Case("no words", [], 2, complaint=b"error: 'sqlr' requires a subcommand but one was not provided\n")
     yield Case("wrong subcommand", ["walk", parts], 2, complaint=b"error: unrecognized subcommand 'walk'\n")
     tip = b"error: unrecognized subcommand 'first.sql'\n\n  tip: to run this script, use 'sqlr run first.sql'\n"

@@ -85,11 +85,14 @@ def rows(text):
             yield number, tables, line
 
 
-def ask(program, path, pool):
+# ---- files of rows, also for other tools
+
+
+def ask(program, path, pool, rows_of, fault_of):
     """Asks the rows of a file, tells what is wrong, and gives how many it has and how many are wrong."""
-    asked = list(rows(path.read_text(encoding="utf-8")))
+    asked = list(rows_of(path.read_text(encoding="utf-8")))
     wrong = 0
-    for (number, *_), told in zip(asked, pool.map(lambda row: row_fault(program, *row[1:]), asked)):
+    for (number, *_), told in zip(asked, pool.map(lambda row: fault_of(program, *row[1:]), asked)):
         if told:
             wrong += 1
             print(f"{path.name}:{number}: {told}")
@@ -97,14 +100,15 @@ def ask(program, path, pool):
     return len(asked), wrong
 
 
-def main():
-    parser = argparse.ArgumentParser(description=__doc__, formatter_class=argparse.RawDescriptionHelpFormatter)
+def ask_folder(words, folder, rows_of, fault_of):
+    """Does what the words of a tool say: asks the rows that a text of a file has, each with its line first, by what tells the fault of a row."""
+    parser = argparse.ArgumentParser(description=words, formatter_class=argparse.RawDescriptionHelpFormatter)
     parser.add_argument("program", type=pathlib.Path)
-    parser.add_argument("--folder", type=pathlib.Path, default=ROWS)
+    parser.add_argument("--folder", type=pathlib.Path, default=folder)
     parser.add_argument("--count", type=int)
     given = parser.parse_args()
     with concurrent.futures.ThreadPoolExecutor(os.cpu_count()) as pool:
-        counts = [ask(given.program.resolve(), path, pool) for path in sorted(given.folder.glob("*.rows"))]
+        counts = [ask(given.program.resolve(), path, pool, rows_of, fault_of) for path in sorted(given.folder.glob("*.rows"))]
     asked, wrong = (sum(it) for it in zip((0, 0), *counts))
     if given.count not in (None, asked):
         print(f"{given.count} rows were to be asked")
@@ -113,4 +117,4 @@ def main():
 
 
 if __name__ == "__main__":
-    main()
+    ask_folder(__doc__, ROWS, rows, row_fault)

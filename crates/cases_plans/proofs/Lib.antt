@@ -1,0 +1,2 @@
+mod FirstBlock
+mod Planned

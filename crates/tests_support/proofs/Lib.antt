@@ -1,3 +1,0 @@
-pub mod Planned
-mod FirstBlock
-mod Planning
