@@ -1,6 +1,6 @@
 -- What a condition bounds of a column is what it matches, once the tables that it needs are known.
-use Rattle.std.proofs.Common.{◌≡◌, ◌∙◌, refl, sym, ap, ap₂, subst, ℕ, ◌+◌, ◌^◌, Bool, true, false, nat_eq, Option, Some, None, if◌then◌else◌, arith}
-use Rattle.std.specs.Prelude.{not, ◌&&◌, ◌||◌, ◌==◌, bit_or, option_map, option_and_then, unwrap_or}
+use Rattle.std.proofs.Common.{◌≡◌, ◌∙◌, refl, sym, ap, ap₂, subst, ℕ, ◌^◌, Bool, true, false, Option, Some, None, if◌then◌else◌, arith}
+use Rattle.std.specs.Prelude.{not, ◌&&◌, ◌||◌, ◌==◌, bit_or, option_map, option_and_then}
 use Rattle.std.specs.Int.{bit_at}
 use Rattle.std.proofs.lemmas.Bool.{false≢true}
 use Rattle.std.proofs.lemmas.Bool.Decides.{nat_tests}
@@ -11,9 +11,9 @@ use Rattle.definitions.specs.Plans.Order.{BlockColumn}
 use Rattle.definitions.specs.Queries.BoundBlock.{ValueExpr, Column, Parameter, Numeral, String, Signed, Chain, AggregateValue, Subquery, Condition, Compare, Quantified, IsNull, Between, Like, InList, InQuery, Exists, Not, And, Or}
 use Rattle.definitions.specs.Queries.Conjuncts.{tables_named}
 use Rattle.definitions.specs.Estimates.BlockTables.{has, is_within}
-use Rattle.definitions.specs.Estimates.Paths.{is_same_column, is_column, is_known, bounds_column, equals_column, limits_column}
+use Rattle.definitions.specs.Estimates.Paths.{is_column, is_known, bounds_column, equals_column, limits_column}
 use Rattle.definitions.proofs.EstimateTheory.Tests.{left_of, right_of, eq_of}
-use Rattle.access_paths.specs.Bounds.{SargableTerm, tables_beside, other_side, comparison_bound, between_bound, bound_of}
+use Rattle.access_paths.specs.Bounds.{SargableTerm, tables_beside, other_side, comparison_bound, bound_of}
 
 -- ---- tests
 

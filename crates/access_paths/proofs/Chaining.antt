@@ -1,8 +1,7 @@
 -- The chains of an index, where the rows of a set of tables are known.
-use Rattle.std.proofs.Common.{◌≡◌, ◌∙◌, refl, sym, ap, ap₂, subst, ℕ, zero, suc, ◌+◌, ◌<◌, List, [], ◌∷◌, ◌++◌, Bool, true, false, nat_eq, Option, Some, None, if◌then◌else◌, length, map, arith}
-use Rattle.std.specs.Prelude.{◌&&◌, bit_or, filter, filter_map, flat_map, option_map, option_and_then, slice_get}
+use Rattle.std.proofs.Common.{◌≡◌, ◌∙◌, refl, sym, ap, ap₂, subst, ℕ, suc, ◌+◌, ◌<◌, List, [], ◌∷◌, ◌++◌, Bool, true, false, nat_eq, Option, Some, None, if◌then◌else◌, length, map, arith}
+use Rattle.std.specs.Prelude.{◌&&◌, filter, filter_map, flat_map, option_map, option_and_then, slice_get}
 use Rattle.std.specs.List.{AllByRecursion, range_with_len}
-use Rattle.std.proofs.lemmas.Bool.{false≢true}
 use Rattle.std.proofs.lemmas.Bool.Decides.{nat_tests}
 use Rattle.std.proofs.lemmas.List.Elements.{filter-append}
 use Rattle.std.proofs.lemmas.Option.{slice_get_within}
@@ -11,11 +10,11 @@ use Rattle.definitions.specs.Plans.Order.{BlockColumn}
 use Rattle.definitions.specs.Queries.BoundBlock.{Condition, Block}
 use Rattle.definitions.specs.Queries.Conjuncts.{conjuncts}
 use Rattle.definitions.specs.Estimates.BlockTables.{is_within}
-use Rattle.definitions.specs.Estimates.Paths.{equals_at, matching, matching_lists}
+use Rattle.definitions.specs.Estimates.Paths.{equals_at, matching_lists}
 use Rattle.definitions.specs.Estimates.PathCost.{equals_each}
 use Rattle.definitions.proofs.EstimateTheory.Tests.{eq_of, left_of, right_of}
 use Rattle.access_paths.specs.Bounds.{SargableTerm}
-use Rattle.access_paths.specs.Matches.{Match, IndexMatch, early_bound, match_at, column_matches, only_match, before, chains_from, with_column, matches_of, index_matches}
+use Rattle.access_paths.specs.Matches.{Match, IndexMatch, early_bound, match_at, column_matches, only_match, before, chains_from, with_column, index_matches}
 use Rattle.access_paths.proofs.Bounding.{same_tests, or_within}
 use Rattle.access_paths.proofs.Matching.{is_open, met_by_equals, equals_as_met, matching_as_matches}
 use Rattle.access_paths.proofs.Rooms.{joined}

@@ -1,5 +1,5 @@
 -- An open path costs what its scan costs.
-use Rattle.std.proofs.Common.{◌≡◌, ◌∙◌, refl, sym, ap, ℕ, ◌+◌, ◌<◌, List, [], ◌∷◌, ◌++◌, Bool, true, false, nat_eq, Option, Some, None, if◌then◌else◌, length, map}
+use Rattle.std.proofs.Common.{◌≡◌, ◌∙◌, refl, sym, ap, ℕ, List, [], ◌∷◌, Bool, true, false, Option, Some, None, if◌then◌else◌, map}
 use Rattle.std.specs.Prelude.{◌&&◌, flat_map}
 use Rattle.std.specs.List.{AllByRecursion}
 use Rattle.definitions.specs.Table.{Index, Database}
@@ -9,9 +9,9 @@ use Rattle.definitions.specs.Estimates.BlockTables.{index_at}
 use Rattle.definitions.specs.Estimates.Cardinality.{path_rows}
 use Rattle.definitions.specs.Estimates.PathCost.{one_row, weighted, pages_fetched, matched, equals_each, whole_index_cost, match_cost}
 use Rattle.access_paths.specs.Matches.{IndexMatch, index_matches}
-use Rattle.access_paths.specs.Scans.{ScanCost, OneRow, Pages, cost_with, is_all_equal, matching_scan}
-use Rattle.access_paths.specs.Found.{FoundPath, CostsAsPath}
-use Rattle.access_paths.specs.Listing.{segment_found, whole_found, matching_found, scans_found, index_found, number_found, table_found}
+use Rattle.access_paths.specs.Scans.{OneRow, Pages, cost_with, is_all_equal, matching_scan}
+use Rattle.access_paths.specs.Found.{CostsAsPath}
+use Rattle.access_paths.specs.Listing.{whole_found, matching_found, scans_found, index_found, number_found, table_found}
 use Rattle.access_paths.proofs.Chaining.{EqualsAll, chains_equal}
 use Rattle.access_paths.proofs.Rooms.{joined}
 

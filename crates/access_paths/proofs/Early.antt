@@ -13,9 +13,9 @@ use Rattle.definitions.specs.Estimates.PlanConjuncts.{plan_conjunct, plan_conjun
 use Rattle.conjuncts.specs.Naming.{NamesFew}
 use Rattle.estimate.specs.PlanConjuncts.{condition_told, conjunct_of}
 use Rattle.estimate.specs.declared.plan_conjunct.PlanConjunct.{PlanConjunct}
-use Rattle.estimate.proofs.Places.{all_at, twice_mapped}
+use Rattle.estimate.proofs.Places.{twice_mapped}
 use Rattle.access_paths.specs.Bounds.{SargableTerm, bound_of}
-use Rattle.access_paths.specs.Matches.{Match, match_at, early_bound, column_matches}
+use Rattle.access_paths.specs.Matches.{Match, match_at, early_bound}
 
 same_at : {X Z : Type 0} (f g : X → Z) (xs : List X) (i : ℕ) (x : X) → map f xs ≡ map g xs → i < length xs → x ≡ get_or xs i x → f x ≡ g x
 same_at f g [] i x e h r = absurd (omega (arith, h))

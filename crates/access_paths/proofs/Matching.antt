@@ -1,18 +1,16 @@
 -- The matches of a column, and the chains of an index, where the rows of a set of tables are known.
-use Rattle.std.proofs.Common.{◌≡◌, ◌∙◌, refl, sym, ap, ap₂, subst, ℕ, zero, suc, ◌+◌, ◌<◌, List, [], ◌∷◌, ◌++◌, Bool, true, false, nat_eq, Option, Some, None, if◌then◌else◌, length, map, arith}
-use Rattle.std.specs.Prelude.{not, ◌&&◌, ◌||◌, bit_or, filter, filter_map, flat_map, option_map, option_and_then, unwrap_or, slice_get}
-use Rattle.std.specs.List.{AllByRecursion, range_with_len}
-use Rattle.std.proofs.lemmas.List.Elements.{filter-append}
+use Rattle.std.proofs.Common.{◌≡◌, ◌∙◌, refl, ap, ℕ, List, [], ◌∷◌, Bool, true, false, Option, Some, None, if◌then◌else◌, length, map}
+use Rattle.std.specs.Prelude.{not, ◌&&◌, ◌||◌, filter, filter_map, option_map, option_and_then, unwrap_or, slice_get}
+use Rattle.std.specs.List.{range_with_len}
 use Rattle.definitions.specs.Plans.TableSet.{TableSet}
 use Rattle.definitions.specs.Plans.Order.{BlockColumn}
 use Rattle.definitions.specs.Queries.BoundBlock.{Condition, Block}
 use Rattle.definitions.specs.Queries.Conjuncts.{conjuncts, is_late}
 use Rattle.definitions.specs.Estimates.BlockTables.{is_within}
-use Rattle.definitions.specs.Estimates.Paths.{equals_column, limits_column, is_early_and, equals_at, matches_at, matching, matching_lists}
-use Rattle.definitions.specs.Estimates.PathCost.{equals_each}
+use Rattle.definitions.specs.Estimates.Paths.{equals_column, limits_column, equals_at, matches_at, matching}
 use Rattle.access_paths.specs.Bounds.{SargableTerm, bound_of}
-use Rattle.access_paths.specs.Matches.{Match, IndexMatch, early_bound, match_at, column_matches, only_match, before, chains_from, with_column, matches_of, index_matches}
-use Rattle.access_paths.proofs.Bounding.{or_within, is_met, is_met_by_equals, equals_as_bound, matches_as_bound}
+use Rattle.access_paths.specs.Matches.{Match, early_bound, match_at, column_matches}
+use Rattle.access_paths.proofs.Bounding.{is_met, is_met_by_equals, equals_as_bound, matches_as_bound}
 
 -- ---- one column
 

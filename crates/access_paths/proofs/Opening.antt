@@ -1,10 +1,8 @@
 -- The paths of a table where the rows of a set of tables are known are the open ones.
-use Rattle.std.proofs.Common.{◌≡◌, ◌∙◌, refl, sym, ap, ap₂, ℕ, zero, suc, ◌+◌, ◌<◌, List, [], ◌∷◌, ◌++◌, Bool, true, false, Option, Some, None, if◌then◌else◌, length, map, get_or, arith}
+use Rattle.std.proofs.Common.{◌≡◌, ◌∙◌, refl, sym, ap, ap₂, ℕ, zero, suc, ◌+◌, ◌<◌, List, [], ◌∷◌, ◌++◌, Bool, true, false, Option, Some, None, if◌then◌else◌, length, map, arith}
 use Rattle.std.specs.Prelude.{bit_or, filter, flat_map, option_and_then, option_map, slice_get, unwrap_or}
 use Rattle.std.specs.List.{AllByRecursion}
-use Rattle.std.proofs.lemmas.Bool.Decides.{nat_tests}
 use Rattle.std.proofs.lemmas.List.Elements.{filter-append}
-use Rattle.std.proofs.lemmas.Option.{slice_get-get_or}
 use Rattle.std.specs.Int.Bits.{or_zero_l}
 use Rattle.definitions.specs.Table.{Table, Index, Database}
 use Rattle.definitions.specs.Plans.TableSet.{TableSet, no_tables}

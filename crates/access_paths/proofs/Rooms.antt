@@ -4,7 +4,7 @@ use Rattle.std.specs.List.{AllByRecursion}
 use Rattle.std.proofs.lemmas.List.{length-append}
 use Rattle.definitions.specs.Limits.{most_index_columns}
 use Rattle.definitions.specs.Queries.BoundBlock.{Block}
-use Rattle.access_paths.specs.Matches.{Match, IndexMatch, before, only_match, chains_from, with_column, matches_of, index_matches}
+use Rattle.access_paths.specs.Matches.{Match, IndexMatch, before, chains_from, with_column, matches_of, index_matches}
 use Rattle.access_paths.specs.Views.{chain_told}
 use Rattle.access_paths.specs.declared.index_matches.IndexMatch.{IndexMatch as Code}
 

@@ -1,5 +1,5 @@
 -- The conjuncts that match the columns of an index.
-use Rattle.std.specs.Prelude.{ℕ, Bool, not, ◌&&◌, if◌then◌else◌, bit_or, nat_eq, List, [], ◌∷◌, ◌++◌, length, map, flat_map, filter_map, Option, None, option_map, option_and_then, slice_get}
+use Rattle.std.specs.Prelude.{ℕ, Bool, if◌then◌else◌, bit_or, List, [], ◌∷◌, length, map, flat_map, filter_map, Option, None, option_map, option_and_then, slice_get}
 use Rattle.std.specs.List.{range_with_len}
 use Rattle.definitions.specs.Plans.TableSet.{TableSet}
 use Rattle.definitions.specs.Plans.Order.{BlockColumn}

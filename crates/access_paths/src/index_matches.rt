@@ -2,7 +2,7 @@
 
 ghost use Rattle.std.specs.Prelude.{◌≡◌, ◌<◌, ◌≤◌, ◌++◌, IfOk, OnOk, length, map};
 ghost use Rattle.std.specs.List.{AllByRecursion};
-ghost use Rattle.definitions.specs.Limits.{most_index_columns, most_from_tables};
+ghost use Rattle.definitions.specs.Limits.{most_index_columns};
 ghost use Rattle.query_tree.specs.Bound.{block_of};
 ghost use Rattle.access_paths.specs.Matches as spec;
 ghost use Rattle.access_paths.specs.Views.{chain_told, match_told};

@@ -1,13 +1,12 @@
 //! The paths of a table.
 
-ghost use Rattle.std.specs.Prelude.{ℕ, ◌≡◌, ◌<◌, ◌≤◌, ◌++◌, IfOk, OnOk, Some, length, map};
+ghost use Rattle.std.specs.Prelude.{◌≡◌, ◌<◌, ◌++◌, IfOk, OnOk, Some, length, map};
 ghost use Rattle.std.specs.List.{AllByRecursion};
-ghost use Rattle.definitions.specs.Limits.{most_index_columns};
 ghost use Rattle.definitions.specs.Table as stored;
 ghost use Rattle.definitions.specs.Plans.TableSet.{TableSet as Tables};
 ghost use Rattle.definitions.specs.Queries.BoundBlock as b;
 ghost use Rattle.definitions.specs.Queries.Conjuncts as queries;
-ghost use Rattle.definitions.specs.Estimates.BlockTables.{index_at, table_at};
+ghost use Rattle.definitions.specs.Estimates.BlockTables.{table_at};
 ghost use Rattle.definitions.specs.Estimates.Orders.{indexes_at};
 ghost use Rattle.definitions.specs.Estimates.Paths as spec;
 ghost use Rattle.definitions.specs.Estimates.Version.{Version, directions};

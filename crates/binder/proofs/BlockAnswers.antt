@@ -8,7 +8,7 @@ use Rattle.definitions.specs.Statement.{Specification}
 use Rattle.definitions.specs.Table.{Database}
 use Rattle.definitions.specs.Binding.Scopes.{Scopes, scope_of, are_there}
 use Rattle.definitions.specs.Binding.Faults as fault
-use Rattle.definitions.specs.Binding.Faults.{BlockFaulty, list_of}
+use Rattle.definitions.specs.Binding.Faults.{BlockFaulty}
 use Rattle.definitions.specs.Queries.BoundBlock.{Blocks}
 use Rattle.query_tree.specs.declared.leaf.ValueType.{ValueType}
 use Rattle.query_tree.specs.declared.condition.Condition.{Condition}

@@ -13,7 +13,7 @@ use Rattle.definitions.specs.Binding.Scopes.{Scopes}
 use Rattle.definitions.specs.Binding.Types.{expr_type, function_type}
 use Rattle.definitions.specs.Binding.Parts.{PlacedBlock, parts, blocks_in}
 use Rattle.definitions.specs.Binding.BoundForm.{bound_blocks, known_type}
-use Rattle.definitions.specs.Binding.Faults.{is_condition, takes_right, argument_parts}
+use Rattle.definitions.specs.Binding.Faults.{is_condition, argument_parts}
 use Rattle.definitions.specs.Binding.Faults as faults
 use Rattle.definitions.specs.Queries.BoundBlock as b
 use Rattle.definitions.specs.Queries.BoundBlock.{Aggregate}

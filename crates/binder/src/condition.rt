@@ -1,13 +1,12 @@
 //! Conditions, and the subqueries in them.
 
-ghost use Rattle.std.specs.Prelude.{◌≡◌, ◌≤◌, List, length, map, true};
-ghost use Rattle.definitions.specs.Grammar.{members, operands};
+ghost use Rattle.std.specs.Prelude.{◌≤◌, List, length, map, true};
+ghost use Rattle.definitions.specs.Grammar.{members};
 ghost use Rattle.definitions.specs.Limits.{most_blocks};
 ghost use Rattle.definitions.specs.Statement.{Line, Not, IsNull, Like, Exists};
-ghost use Rattle.definitions.specs.Binding.Faults.{is_logical};
 ghost use Rattle.definitions.specs.Queries.BoundBlock as spec;
 ghost use Rattle.query_tree.specs.Bound.{block_of};
-ghost use Rattle.parse_tree.specs.Trees.{block_of as query_of, expr_of, member_of as tree_member_of, operand_of, text_of};
+ghost use Rattle.parse_tree.specs.Trees.{block_of as query_of, expr_of, text_of};
 ghost use Rattle.query_rules.specs.Leaves.{InSight};
 ghost use Rattle.binder.specs.Meaning.{IsBetween, IsComparison, IsInQuery, IsLine, IsList, IsQuantified, members_in, progress_of, ColumnAnswer, ConditionAnswer, MembersAnswer, QueryAnswer};
 

@@ -1,14 +1,12 @@
 //! Binds value expressions, their set functions and their subqueries, and finds their types.
 
 ghost use Rattle.std.specs.Prelude.{◌≡◌, ◌≤◌, ◌++◌, ◌∷◌, [], false, length, map, IfOk, IfErr, OnOk, OnErr, IsTrue, IsFalse};
-ghost use Rattle.definitions.specs.Grammar.{operands};
 ghost use Rattle.definitions.specs.Limits.{most_blocks};
 ghost use Rattle.definitions.specs.Statement.{Function, Line};
-ghost use Rattle.definitions.specs.Binding.Faults.{is_logical};
 ghost use Rattle.definitions.specs.Queries.BoundBlock.{Blocks, AggregateValue};
 ghost use Rattle.definitions.specs.Refusal as refusal;
 ghost use Rattle.query_tree.specs.Bound.{bound_function_of, value_of, value_type_of};
-ghost use Rattle.parse_tree.specs.Trees.{expr_of, function_of, operand_of};
+ghost use Rattle.parse_tree.specs.Trees.{expr_of, function_of};
 ghost use Rattle.query_rules.specs.Judging.{takes_functions};
 ghost use Rattle.query_rules.specs.Leaves.{InSight};
 ghost use Rattle.binder.specs.Meaning.{IsLine, progress_of, ValueAnswer};

@@ -10,9 +10,9 @@ use Rattle.definitions.specs.Statement.{IndexStatistics as Given}
 use Rattle.definitions.specs.Table.{Table, Database, table_named, column_numbers, index_on}
 use Rattle.definitions.specs.Key.{key_of, value_at, repeats, AreUnique}
 use Rattle.definitions.specs.Change as made
-use Rattle.definitions.specs.Change.{Makes, RepeatsKeys, changed, with_index, with_table_statistics, with_index_statistics, with_rows, first_type, StatisticsKept}
+use Rattle.definitions.specs.Change.{Makes, first_type, StatisticsKept}
 use Rattle.definitions.specs.IndexFaults as index
-use Rattle.definitions.specs.IndexFaults.{ListFaulty, IndexFaulty, StatisticsFaulty, BoundsFaulty, Falls, NeverKept}
+use Rattle.definitions.specs.IndexFaults.{ListFaulty, BoundsFaulty, Falls}
 use Rattle.definitions.specs.Faults as faults
 use Rattle.definitions.specs.Faults.{Faulty, IsAccepted}
 use Rattle.definitions.specs.Invariant.{IsCount, IsPageCount, IsDatabase}

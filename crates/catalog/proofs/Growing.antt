@@ -13,7 +13,7 @@ use Rattle.definitions.specs.Key.{Key, key_of, value_at, repeats, comes_again}
 use Rattle.definitions.specs.IndexRun.{Entry, IsRun, entries_from}
 use Rattle.definitions.specs.Refusal.{NullOrRepeated}
 use Rattle.definitions.specs.Loading as load
-use Rattle.definitions.specs.Loading.{Record, AreFileRecords, RecordReads, RecordLoads, AllRead, AllLoad, LoadsUpTo, FirstFaulty, FillsUp, repeats_key}
+use Rattle.definitions.specs.Loading.{Record, AreFileRecords, RecordReads, RecordLoads, AllRead, AllLoad, repeats_key}
 use Rattle.loading.specs.Meaning.{record_refusal}
 use Rattle.loading.specs.Stored.{StoredColumn, AreFilled, Extends, headers, rows_of}
 use Rattle.loading.specs.Pushes.{Pushes, StopsAt}

@@ -6,7 +6,7 @@ use Rattle.std.proofs.lemmas.List.{length-map, append_assoc}
 use Rattle.definitions.specs.Table.{Row, Table}
 use Rattle.definitions.specs.Key.{Key, key_of, value_at, repeats, comes_again, AreUnique}
 use Rattle.definitions.specs.Loading as load
-use Rattle.definitions.specs.Loading.{Record, AreFileRecords, RecordReads, RecordLoads, AllRead, AllLoad, LoadsUpTo, FirstFaulty, FillsUp, repeats_key}
+use Rattle.definitions.specs.Loading.{Record, AllRead, AllLoad, repeats_key}
 use Rattle.definitions.proofs.Repeats.{repeats_neither}
 use Rattle.indexes.specs.Indexes.{StoredIndex}
 use Rattle.indexes.specs.Extension.{AreOnce, IsFirstRepeat, RefusesExtension}

@@ -10,7 +10,7 @@ use Rattle.definitions.specs.Statistics.{index_statistics, table_statistics, row
 use Rattle.definitions.specs.Change.{with_rows}
 use Rattle.definitions.specs.Invariant.{IsTable}
 use Rattle.definitions.specs.Loading as load
-use Rattle.definitions.specs.Loading.{Record, RecordReads, AllRead, AllLoad}
+use Rattle.definitions.specs.Loading.{Record, AllRead, AllLoad}
 use Rattle.definitions.proofs.Counting.{loaded_is_table}
 use Rattle.loading.specs.Stored.{StoredColumn, AreFilled, Extends, cut_to, headers, rows_of}
 use Rattle.loading.proofs.Pushing.{cut_long, cut_same}

@@ -1,11 +1,10 @@
 //! The statistics that SET STATISTICS gives for an index (own).
 
-ghost use Rattle.std.specs.Prelude.{◌≡◌, ◌≤◌, ℕ, ℤ, Some, IfOk, IfErr, IfSome, IfNone, OnOk};
+ghost use Rattle.std.specs.Prelude.{◌≡◌, Some, IfOk, IfErr, IfSome, IfNone, OnOk};
 ghost use Rattle.definitions.specs.Value as spec;
 ghost use Rattle.definitions.specs.Change.{StatisticsKept, KeptAs, RangeKept};
 ghost use Rattle.definitions.specs.IndexFaults.{Falls, NeverKept};
 ghost use Rattle.definitions.specs.Invariant.{IsCount, IsPageCount};
-ghost use Rattle.definitions.specs.Table as table;
 ghost use Rattle.sqlvalue.specs.Meaning.{type_of};
 ghost use Rattle.indexes.specs.Meaning.{index_statistics_of, key_range_of};
 ghost use Rattle.parse_tree.specs.Trees.{bound_of, range_of, statistics_of};

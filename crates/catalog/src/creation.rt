@@ -1,11 +1,7 @@
 //! The columns and indexes of a new table.
 
-ghost use Rattle.std.specs.Prelude.{◌≡◌, ◌≤◌, ◌<◌, ◌∷◌, ℕ, [], true, IfOk, IfErr, OnOk, OnErr, length, map};
-ghost use Rattle.std.specs.List.{AllByRecursion};
-ghost use Rattle.definitions.specs.Limits.{most_columns};
-ghost use Rattle.definitions.specs.Statement as statement;
-ghost use Rattle.definitions.specs.Table.{Column, is_key, is_primary};
-ghost use Rattle.definitions.specs.Value.{IsType};
+ghost use Rattle.std.specs.Prelude.{◌≡◌, ◌<◌, ◌∷◌, [], true, IfOk, IfErr, OnOk, length, map};
+ghost use Rattle.definitions.specs.Table.{is_key, is_primary};
 ghost use Rattle.definitions.specs.Change.{key_indexes as indexes_of_keys};
 ghost use Rattle.definitions.specs.Faults.{count_of};
 ghost use Rattle.loading.specs.Stored.{headers, AreFilled};

@@ -1,10 +1,9 @@
 //! LOAD of the records of a file into columns and their indexes.
 
-ghost use Rattle.std.specs.Prelude.{◌≡◌, ◌≤◌, ◌<◌, ◌^◌, ◌+◌, ℕ, List, IfOk, IfErr, OnOk, OnErr, length};
-ghost use Rattle.std.specs.List.{AllByRecursion};
+ghost use Rattle.std.specs.Prelude.{◌≡◌, ◌≤◌, ◌<◌, ◌^◌, ◌+◌, IfOk, IfErr, OnErr};
 ghost use Rattle.definitions.specs.Limits.{most_rows};
 ghost use Rattle.definitions.specs.Table as spec;
-ghost use Rattle.loading.specs.Stored.{AreFilled, Extends, headers};
+ghost use Rattle.loading.specs.Stored.{AreFilled, Extends};
 ghost use Rattle.catalog.specs.Growth.{IsOf, Grows, AreOrdered, TellsRepeated, row_before};
 ghost use Rattle.catalog.specs.Loads.{RefusesTable};
 

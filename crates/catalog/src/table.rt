@@ -70,7 +70,7 @@ impl Table {
     ghost use Rattle.catalog.specs.Changes.{AddsIndex, MayIndex, RefusesNewIndex, SetsIndex, RefusesStatistics, RefusesTableStatistics};
     ghost use Rattle.catalog.specs.Lists.{RefusesList};
     ghost use Rattle.catalog.specs.Tables.{IsIndexRun};
-    ghost use Rattle.indexes.specs.Indexes.{StoredIndex, AreIndexColumns};
+    ghost use Rattle.indexes.specs.Indexes.{AreIndexColumns};
     ghost use Rattle.indexes.specs.Meaning.{table_statistics_of};
     ghost use Rattle.parse_tree.specs.Trees.{constraint_of, name_of, definitions_of, statistics_of};
 

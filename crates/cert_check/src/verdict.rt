@@ -3,7 +3,7 @@
 use plan_tree::TableSet;
 
 /// The rules by which a certificate shows that its plan is least (own).
-#[derive(Clone, Copy, Debug, PartialEq, Eq)]
+#[derive(Clone, Copy, PartialEq, Eq)]
 pub enum Rule {
     /// No access costs less than the bound of its state.
     Accesses,
@@ -16,14 +16,14 @@ pub enum Rule {
 }
 
 /// A state at which a rule fails.
-#[derive(Clone, Copy, Debug, PartialEq, Eq)]
+#[derive(Clone, Copy, PartialEq, Eq)]
 pub struct StateKey {
     pub tables: TableSet,
     pub order: usize,
 }
 
 /// A pass, or the first rule that fails and a state where it does.
-#[derive(Clone, Copy, Debug, PartialEq, Eq)]
+#[derive(Clone, Copy, PartialEq, Eq)]
 pub enum Verdict {
     Pass,
     Refused { rule: Rule, place: StateKey },

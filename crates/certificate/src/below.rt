@@ -1,6 +1,6 @@
 //! Whether states rise and stay below the target.
 
-ghost use Rattle.std.specs.Prelude.{◌≡◌, OnOk, OnErr, map};
+ghost use Rattle.std.specs.Prelude.{OnOk, OnErr, map};
 ghost use Rattle.std.specs.Bool.{Decides};
 ghost use Rattle.definitions.specs.Plans.Certificate as c;
 ghost use Rattle.definitions.specs.Certificates.Spelling.{AreBelow};

@@ -3,7 +3,7 @@
 use certificate_syntax::Expected;
 
 /// A number of a text that isn't there, as it is written.
-#[derive(Clone, Copy, Debug)]
+#[derive(Clone, Copy)]
 pub enum Missing {
     /// The text is of another block of the query.
     Block(u64),
@@ -19,7 +19,7 @@ pub enum Missing {
 }
 
 /// A state that can't stand where it does, by its place in the list.
-#[derive(Clone, Copy, Debug)]
+#[derive(Clone, Copy)]
 pub enum BadState {
     /// It doesn't stand behind the one before it: states go by their sets of tables, then by their orders.
     NotBehind { state: usize },
@@ -28,7 +28,7 @@ pub enum BadState {
 }
 
 /// Why a text is no spelling of a plan and a certificate of a block (own).
-#[derive(Clone, Copy, Debug)]
+#[derive(Clone, Copy)]
 pub enum TextFault {
     /// The bytes are no text of a certificate: with the byte at this offset reading didn't go on.
     Form { at: usize, expected: Expected },

@@ -1,6 +1,6 @@
 //! Whether the numbers of a plan are there. In a text tables, indexes, columns and conjuncts count from 1, orders from 0.
 
-ghost use Rattle.std.specs.Prelude.{◌≡◌, ℕ, ◌-◌, OnOk, OnErr, All, map};
+ghost use Rattle.std.specs.Prelude.{◌-◌, OnOk, OnErr, All};
 ghost use Rattle.std.specs.Bool.{Decides};
 ghost use Rattle.definitions.specs.Certificates.CertifiedBlock.{indexes_of};
 ghost use Rattle.definitions.specs.Certificates.Spelling.{IsOneOf, IsIndex, IsTable, IsConjunct, IsOrder, PathIsThere, PlanIsThere};

@@ -5,7 +5,7 @@ ghost use Rattle.definitions.specs.Printing.{line};
 ghost use Rattle.definitions.specs.Certificates.CertifiedBlock as c;
 ghost use Rattle.definitions.specs.Certificates.Text as spec;
 ghost use Rattle.definitions.specs.Certificates.Spelling.{path_written, plan_written, spelling};
-ghost use Rattle.plan_tree.specs.Plans.{path_of, plan_of, inner_of};
+ghost use Rattle.plan_tree.specs.Plans.{path_of, plan_of};
 ghost use Rattle.interesting_orders.specs.Versions.{version_of};
 ghost use Rattle.plan_tree.specs.Certificates.{state_of, certificate_of};
 ghost use Rattle.certificate.specs.Blocks.{IsOf, block_in};

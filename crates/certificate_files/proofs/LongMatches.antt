@@ -1,5 +1,5 @@
 -- No plan of a block's space matches an index by more conjuncts than an index has columns.
-use Rattle.std.proofs.Common.{◌≡◌, refl, sym, subst, ℕ, zero, suc, ◌+◌, ◌≤◌, ◌<◌, ◌⊎◌, inl, inr, Bool, true, false, lit≤, List, [], ◌∷◌, Option, Some, None, length, map, cond, arith}
+use Rattle.std.proofs.Common.{◌≡◌, refl, subst, ℕ, zero, suc, ◌≤◌, ◌⊎◌, inl, inr, Bool, true, false, lit≤, List, [], ◌∷◌, Option, Some, None, length, map, cond, arith}
 use Rattle.std.specs.Prelude.{Contains, flat_map, slice_get, option_map, option_and_then, unwrap_or}
 use Rattle.std.specs.List.{AllByRecursion}
 use Rattle.definitions.specs.Limits.{most_index_columns}
@@ -13,7 +13,7 @@ use Rattle.definitions.specs.Plans.Plan.{Plan, Access, Loop, Merge, Sort}
 use Rattle.definitions.specs.Plans.PlanSpace as p
 use Rattle.definitions.specs.Plans.PlanSpace.{IsPlan}
 use Rattle.definitions.specs.Estimates.Version.{Version, directions}
-use Rattle.definitions.specs.Estimates.BlockTables.{table_at, index_at, index_columns}
+use Rattle.definitions.specs.Estimates.BlockTables.{index_columns}
 use Rattle.definitions.specs.Estimates.BlockSpace.{space_of}
 use Rattle.definitions.specs.Estimates.Orders.{indexes_at}
 use Rattle.definitions.specs.Estimates.Paths.{equals_at, matching, matching_lists, index_paths, paths_of}

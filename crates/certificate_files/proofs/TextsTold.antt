@@ -1,5 +1,5 @@
 -- What is told of a block's text, by what is read of it.
-use Rattle.std.proofs.Common.{◌≡◌, refl, sym, ap, subst, ℕ, List, Option, Some, None, length, ◌≤◌}
+use Rattle.std.proofs.Common.{◌≡◌, refl, sym, subst, ℕ, List, Option, Some, None, length, ◌≤◌}
 use Rattle.definitions.specs.Limits.{most_from_tables}
 use Rattle.definitions.specs.Table.{Database}
 use Rattle.definitions.specs.Invariant.{IsDatabase}
@@ -9,7 +9,6 @@ use Rattle.definitions.specs.Plans.Plan as spec
 use Rattle.definitions.specs.Plans.Space.{Space}
 use Rattle.definitions.specs.Plans.PlanSpace.{InSpace}
 use Rattle.definitions.specs.Plans.Certificate as k
-use Rattle.definitions.specs.Plans.Checking.{Pass, Refused, IsVerdict}
 use Rattle.definitions.specs.Estimates.Version.{Version}
 use Rattle.definitions.specs.Certificates.CertifiedBlock.{CertifiedBlock}
 use Rattle.definitions.specs.Certificates.Explaining.{certified}

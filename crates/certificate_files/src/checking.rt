@@ -36,14 +36,14 @@ pub struct FileTold {
 }
 
 /// Whether every certificate passed, and nothing is left behind the last (own).
-#[derive(Clone, Copy, Debug, PartialEq, Eq)]
+#[derive(Clone, Copy, PartialEq, Eq)]
 pub enum FileEnded {
     Well,
     Refused,
 }
 
 /// What is told of the text of a block (own).
-#[derive(Clone, Copy, Debug)]
+#[derive(Clone, Copy)]
 pub struct BlockTold {
     /// The version of the plan space that the text speaks of.
     pub version: Version,

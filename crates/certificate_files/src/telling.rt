@@ -1,6 +1,6 @@
 //! What is told of the text of one block.
 
-ghost use Rattle.std.specs.Prelude.{ℕ, ◌≡◌, List, IfOk};
+ghost use Rattle.std.specs.Prelude.{ℕ, List, IfOk};
 ghost use Rattle.definitions.specs.Invariant.{IsDatabase};
 ghost use Rattle.definitions.specs.Binding.Formed.{IsFormedSomewhere};
 ghost use Rattle.definitions.specs.Plans.Certificate.{IsCertificate};
@@ -26,7 +26,7 @@ use query_tree::Block;
 use std::alloc::{AllocError, Global};
 
 /// What is told of the text of a block (own).
-#[derive(Clone, Copy, Debug)]
+#[derive(Clone, Copy)]
 pub enum Told {
     /// It spells a plan and a certificate that shows that the plan is least.
     Passes,

@@ -47,7 +47,7 @@ pub enum WrittenPlan {
 }
 
 /// A state as it is written.
-#[derive(Clone, Copy, Debug)]
+#[derive(Clone, Copy)]
 pub struct WrittenState {
     pub tables: u64,
     pub order: u64,

@@ -1,17 +1,14 @@
 -- Values of rows, rows past the end among them, and how they rank.
-use Rattle.std.proofs.Common.{◌≡◌, ◌∙◌, refl, sym, ap, ap₂, ℕ, zero, suc, ◌+◌, ◌-◌, ◌*◌, ◌^◌, ◌<◌, ◌≤◌, List, [], ◌∷◌, ◌++◌, Bool, true, false, cond, length, take, drop, get_or, inl, inr, Bor, arith}
+use Rattle.std.proofs.Common.{◌≡◌, ◌∙◌, refl, sym, ap, ap₂, ℕ, zero, suc, ◌+◌, ◌-◌, ◌*◌, ◌^◌, ◌<◌, ◌≤◌, List, [], ◌∷◌, Bool, true, false, cond, length, take, drop, get_or, inl, inr, Bor, arith}
 use Rattle.std.proofs.lemmas.List.{get_or_default, drop-drop}
 use Rattle.std.proofs.Math.ListN.{get_or-eq_default}
-use Rattle.std.proofs.lemmas.Bool.Decides.{nat_tests}
-use Rattle.std.proofs.lemmas.Bool.{cases_lt}
 use Rattle.std.proofs.lemmas.Int.{ints}
-use Rattle.std.specs.Prelude.{is_none, ℤ, pos, ◌*ℤ◌, int_lt, int_le, not, None, ◌⊎◌, IsTrue, FitsSigned, ◌&&◌}
+use Rattle.std.specs.Prelude.{is_none, ℤ, pos, ◌*ℤ◌, int_lt, int_le, not, None, ◌⊎◌, FitsSigned, ◌&&◌}
 use Rattle.std.specs.Int.{w64}
-use Rattle.std.specs.Ordering.{int_cmp, bool_cmp, nat_cmp, is_ge, is_gt, is_lt, is_le, ordering_then}
+use Rattle.std.specs.Ordering.{int_cmp, bool_cmp, nat_cmp, ordering_then}
 use Rattle.std.specs.Cmp.Lexicographic.{slice_cmp}
-use Rattle.std.specs.declared.cmp.Ordering.{Ordering}
 use Rattle.std.specs.declared.cmp.Ordering.TheVariants.{Less, Equal, Greater}
-use Rattle.definitions.specs.Value.{Value, Null, Number, Text, SqlType, Char, Numbers, Texts, kind_of, scale_of, rank, compare, text_cmp, number_cmp, is_null}
+use Rattle.definitions.specs.Value.{Value, Null, Number, Text, SqlType, Numbers, Texts, kind_of, scale_of, rank, compare, text_cmp, number_cmp, is_null}
 use Rattle.columns.specs.Cells.{CellList}
 use Rattle.columns.specs.Numbers.{number_values, numbers_of}
 use Rattle.columns.specs.Texts.{text_values, texts_of}
@@ -21,7 +18,7 @@ use Rattle.columns.specs.declared.lower_bound.LowerBound.{LowerBound}
 use Rattle.columns.specs.declared.lower_bound.LowerBound.TheVariants as at
 use Rattle.columns.proofs.NumberLists.{number_value}
 use Rattle.columns.proofs.TextLists.{text_value}
-use Rattle.columns.proofs.Orders.{le_product, lt_product, gt_by_tests, ge_by_tests}
+use Rattle.columns.proofs.Orders.{lt_product, gt_by_tests, ge_by_tests}
 use Rattle.definitions.proofs.Ranking.{power_is_positive}
 
 -- a flag that is there

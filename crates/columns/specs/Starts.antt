@@ -1,5 +1,5 @@
 -- Look-ups in an ordered column.
-use Rattle.std.specs.Prelude.{ℕ, ℤ, ◌≡◌, ◌≤◌, ◌<◌, Bool, true, false, not, int_le, List, Option, Some, None, slice_index_or, FitsSigned, is_none}
+use Rattle.std.specs.Prelude.{ℕ, ◌≡◌, ◌≤◌, ◌<◌, Bool, true, false, not, int_le, List, Option, Some, None, slice_index_or, FitsSigned, is_none}
 use Rattle.std.specs.Int.{w64}
 use Rattle.std.specs.Ordering.{is_ge, is_gt}
 use Rattle.std.specs.declared.ops.Bound.{Bound}

@@ -1,6 +1,6 @@
 //! A column of numbers or of texts, behind one interface.
 
-ghost use Rattle.std.specs.Prelude.{ℕ, ◌≡◌, ◌<◌, ◌≤◌, ◌+◌, ◌∷◌, ◌++◌, ◌&&◌, not, true, false, [], take, length, slice_index_or, IfSome, IsNone, OnOk, OnErr, IfOk};
+ghost use Rattle.std.specs.Prelude.{◌≡◌, ◌<◌, ◌≤◌, ◌+◌, ◌∷◌, ◌++◌, ◌&&◌, not, [], take, length, slice_index_or, IfSome, IsNone, OnOk, OnErr};
 ghost use Rattle.definitions.specs.Value as spec;
 ghost use Rattle.definitions.specs.Value.{is_null as is_null_value};
 ghost use Rattle.definitions.specs.IndexRun.{is_from};

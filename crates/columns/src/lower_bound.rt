@@ -1,7 +1,7 @@
 //! Where a look-up in an ordered column begins.
 
 /// The values of a column from a limit on, or all of them; nulls are never among them.
-#[derive(Clone, Copy, Debug)]
+#[derive(Clone, Copy)]
 pub enum LowerBound<'a> {
     /// All values.
     Filled,

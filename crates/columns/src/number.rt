@@ -1,6 +1,6 @@
 //! A column of numbers: 64-bit units at the column's scale, and its null bits.
 
-ghost use Rattle.std.specs.Prelude.{◌&&◌, not, IsNone, ◌≡◌, ◌<◌, ◌≤◌, ◌+◌, ◌∷◌, [], ◌++◌, length, map, take, All, FitsSigned, IfSome, IfOk, OnOk, OnErr, slice_index_or};
+ghost use Rattle.std.specs.Prelude.{◌&&◌, not, IsNone, ◌≡◌, ◌<◌, ◌≤◌, ◌+◌, ◌∷◌, [], ◌++◌, length, map, take, All, FitsSigned, IfSome, OnOk, OnErr, slice_index_or};
 ghost use Rattle.std.specs.Int.{w64};
 ghost use Rattle.definitions.specs.Value as spec;
 ghost use Rattle.definitions.specs.Scanning.{part_of, true_word, unknown_word, word_of};

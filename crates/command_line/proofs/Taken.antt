@@ -12,7 +12,7 @@ use Rattle.clap.specs.declared.builder.action.ArgAction.TheVariants as act
 use Rattle.clap.specs.Walk as w
 use Rattle.clap.specs.Takes as t
 use Rattle.clap.specs.Simple as s
-use Rattle.clap.specs.Simple.{App, Shape, built}
+use Rattle.clap.specs.Simple.{Shape, built}
 use Rattle.std.specs.Prelude.{IsSome, codes}
 use Rattle.command_line.specs.CommandLine.{line, asked_in, asked_of, run_of, check_of}
 use Rattle.clap.specs.Walk.{Row, Rule, Text, Held, Walk, Outcome, Waiting, Names}

@@ -3,7 +3,7 @@
 pub use clap::Error as LineFault;
 
 /// What the command line asks for.
-#[derive(Debug, Drop)]
+#[derive(Drop)]
 pub enum Request {
     /// A script is to be run.
     Run(Source),

@@ -14,7 +14,7 @@ use clap::error::ErrorKind;
 use clap::{Arg, ArgAction, ArgMatches, Command};
 use std::alloc::{AllocError, Global};
 
-const VERSION: &str = "0.1.0";
+const VERSION: &str = "0.2.0";
 
 /// What stands at the end of help.
 const EXAMPLES: &str =
@@ -121,27 +121,40 @@ fn subcommand_hint(
     let Some(word) = words.get(1) else {
         return Ok(None);
     };
-    let message = if word.ends_with(".sql") {
-        format!(in alloc;
-            "unrecognized subcommand '{word}'\n\n  tip: to run this script, use 'sqlr run {word}'"
-        )?
-    } else if word.eq_ignore_ascii_case("explain") {
-        format!(in alloc;
-            "unrecognized subcommand '{word}'\n\n  tip: EXPLAIN is a statement, which stands before a SELECT in a script"
-        )?
-    } else if word.eq_ignore_ascii_case("run") || word.eq_ignore_ascii_case("check") {
-        format!(in alloc;
-            "unrecognized subcommand '{word}'\n\n  tip: subcommands are written in small letters"
-        )?
-    } else if word.eq_ignore_ascii_case("version") {
-        format!(in alloc;
-            "unrecognized subcommand '{word}'\n\n  tip: the version is told by 'sqlr --version'"
-        )?
+    let (tip, script, quote) = if word.ends_with(".sql") {
+        ("to run this script, use 'sqlr run ", *word, "'")
+    } else if let Some(tip) = tip_on(word) {
+        (tip, "", "")
     } else {
         return Ok(None);
     };
+    let message = format!(in alloc;
+        "unrecognized subcommand '{word}'\n\n  tip: {tip}{script}{quote}"
+    )?;
     Ok(Some(command.error(ErrorKind::InvalidSubcommand, &message)?))
 }
+
+/// What was meant by a word that is no subcommand, in letters of whatever case, where it is known.
+fn tip_on(word: &str) -> Option<&'static str> {
+    for (known, tip) in &TIPS {
+        if word.eq_ignore_ascii_case(known) {
+            return Some(*tip);
+        }
+    }
+    None
+}
+
+const SMALL_LETTERS: &str = "subcommands are written in small letters";
+
+static TIPS: [(&str, &str); 4] = [
+    (
+        "explain",
+        "EXPLAIN is a statement, which stands before a SELECT in a script",
+    ),
+    ("run", SMALL_LETTERS),
+    ("check", SMALL_LETTERS),
+    ("version", "the version is told by 'sqlr --version'"),
+];
 
 /// The fault of an option that there is not, without clap's tip on how to pass it as a value.
 fn option_hint(

@@ -1,6 +1,6 @@
 -- Blocks within blocks: what is asked one after another stays told, and what was told serves the conditions around.
-use Rattle.std.proofs.Common.{◌≡◌, ◌∙◌, refl, sym, ap, ap₂, subst, inl, inr, ℕ, zero, suc, ◌+◌, ◌<◌, ◌≤◌, List, [], ◌∷◌, ◌++◌, Option, Some, None, length, map, set, take, get_or, arith, min}
-use Rattle.std.specs.Prelude.{◌⊎◌, flat_map, slice_get, sum_by, IsPermutation, Result, Ok, Err}
+use Rattle.std.proofs.Common.{◌≡◌, ◌∙◌, refl, sym, ap, subst, inl, inr, ℕ, zero, suc, ◌+◌, ◌<◌, ◌≤◌, List, [], ◌∷◌, Option, Some, None, length, map, set, take, get_or, arith, min}
+use Rattle.std.specs.Prelude.{◌⊎◌, slice_get, sum_by, Result, Ok, Err}
 use Rattle.std.specs.List.{AllByRecursion}
 use Rattle.std.proofs.lemmas.List.{length-set, take_more}
 use Rattle.std.proofs.lemmas.List.Sums.{sum_by-append, sum_by-cons}
@@ -10,7 +10,6 @@ use Rattle.definitions.specs.Arithmetic.{Raise, Meaning, Is, Raises}
 use Rattle.definitions.specs.Table.{Database, Row}
 use Rattle.definitions.specs.Plans.Cost.{limit, saturated}
 use Rattle.definitions.specs.Estimates.Version.{current_version}
-use Rattle.definitions.specs.Queries.BoundBlock.{Block, Blocks}
 use Rattle.definitions.specs.Queries.Evaluation.{Combination, column_values}
 use Rattle.definitions.specs.Queries.Laws.{MeansRows}
 use Rattle.definitions.specs.Queries.Answer.{meanings}
@@ -22,7 +21,7 @@ use Rattle.subqueries.specs.BlockText.{Rising}
 use Rattle.subqueries.specs.Keeping.{places_in, told_by, told_last, AllKept, Replaces}
 use Rattle.subqueries.specs.declared.kept_results.KeptResults.{KeptResults}
 use Rattle.subqueries.proofs.KeptPlaces.{one_more_is_kept, same_are_kept, told_by_is}
-use Rattle.executor.specs.ReadyBlocks.{blocks_in, database_in, plans_in, total_at, AreLeft, AreRight, IsToldLast}
+use Rattle.executor.specs.ReadyBlocks.{blocks_in, database_in, plans_in, AreLeft, AreRight, IsToldLast}
 use Rattle.executor.specs.declared.ready_block.ReadyBlock.{ReadyBlock}
 
 -- ---- lists by their places

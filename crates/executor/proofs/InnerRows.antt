@@ -1,11 +1,10 @@
 -- What the composites of an inner block tell, and what they cost, taken one after another.
-use Rattle.std.proofs.Common.{◌≡◌, ◌∙◌, sym, ap, ap₂, subst, ℕ, ◌+◌, ◌<◌, List, [], ◌∷◌, ◌++◌, Some, length, map, min, arith}
+use Rattle.std.proofs.Common.{◌≡◌, ◌∙◌, sym, ap, ap₂, subst, ℕ, ◌+◌, List, [], ◌∷◌, ◌++◌, Some, length, map, min, arith}
 use Rattle.std.specs.Prelude.{slice_get, sum_by, Bool, IsPermutation, Result}
 use Rattle.std.proofs.lemmas.List.{map-append}
 use Rattle.std.proofs.lemmas.List.Sums.{sum_by-append, sum_by-cons}
 use Rattle.definitions.specs.Arithmetic as a
-use Rattle.definitions.specs.Arithmetic.{Meaning, Is}
-use Rattle.definitions.specs.Invariant.{IsDatabase}
+use Rattle.definitions.specs.Arithmetic.{Meaning}
 use Rattle.definitions.specs.Table.{Database, Row}
 use Rattle.definitions.specs.Value.{Value}
 use Rattle.definitions.specs.Binding.Formed.{IsFormedBlock}
@@ -23,7 +22,7 @@ use Rattle.definitions_execution.specs.Stored.{Composite}
 use Rattle.definitions_execution.specs.Total.{subqueries}
 use Rattle.definitions_execution.specs.TypedCombinations.{AreTypedAround}
 use Rattle.definitions_answers.specs.Standing.{Stands}
-use Rattle.definitions_answers.specs.Steps.{context_alone, context_among, totals_at, AsksBehind}
+use Rattle.definitions_answers.specs.Steps.{context_alone, context_among, AsksBehind}
 use Rattle.definitions_answers.specs.Taking.{Says}
 use Rattle.definitions_answers.specs.Told.{TellsRows}
 use Rattle.definitions_answers.proofs.Standing.{standing_are_formed}
@@ -35,17 +34,16 @@ use Rattle.scans.specs.Sources.{block_in, stored_in, BlockSource, IsSurrounded}
 use Rattle.sqlvalue.specs.declared.raise.Raise.{Raise}
 use Rattle.subqueries.specs.Found.{said_in}
 use Rattle.subqueries.specs.Framed.{combination_in}
-use Rattle.executor.specs.Groups.{seen, AreTyped}
-use Rattle.executor.specs.KeptRows.{TellsKept}
-use Rattle.executor.specs.Ready as before
-use Rattle.executor.specs.Ready.{CanAnswer}
+use Rattle.block_answers.specs.Groups.{seen, AreTyped}
+use Rattle.block_answers.specs.KeptRows.{TellsKept}
+use Rattle.block_answers.specs.Ready as before
+use Rattle.block_answers.specs.Ready.{CanAnswer}
 use Rattle.executor.specs.ReadyBlocks.{blocks_in, database_in, meanings_in, plans_in, total_at, totals_in, AreReady, IsReady}
-use Rattle.executor.specs.Telling.{context_with, ArrangePassing}
-use Rattle.executor.specs.declared.kept_rows.KeptRows.{KeptRows}
+use Rattle.block_answers.specs.Telling.{context_with, ArrangePassing}
+use Rattle.block_answers.specs.declared.kept_rows.KeptRows.{KeptRows}
 use Rattle.executor.specs.declared.ready_block.ReadyBlock.{ReadyBlock}
-use Rattle.executor.proofs.InnerBlocks.{sum_stops}
 use Rattle.executor.proofs.InnerTelling.{block_at, get_mapped}
-use Rattle.executor.proofs.Taking.{all_typed}
+use Rattle.block_answers.proofs.Taking.{all_typed}
 
 -- a composite is taken into rows, whatever the inner blocks mean
 abbrev pub TakesOne : BlockSource → List Combination → code.Composite → Result Bool Raise → KeptRows → KeptRows → Type 0

@@ -1,6 +1,6 @@
 -- What is told of the subqueries of a block serves its late conjuncts.
-use Rattle.std.proofs.Common.{◌≡◌, ◌∙◌, refl, sym, ap, subst, ℕ, zero, suc, ◌+◌, ◌<◌, List, [], ◌∷◌, Option, Some, None, length, map, get_or, arith}
-use Rattle.std.specs.Prelude.{slice_get, Bool, Contains, Err, IfErr, IfOk, IsPermutation, Ok, OnOk, Result}
+use Rattle.std.proofs.Common.{◌≡◌, ◌∙◌, sym, ap, subst, ℕ, zero, suc, ◌<◌, List, [], ◌∷◌, Option, Some, None, length, map, get_or, arith}
+use Rattle.std.specs.Prelude.{slice_get, Bool, Contains, Err, IfErr, IfOk, Ok, OnOk, Result}
 use Rattle.std.specs.List.{AllByRecursion}
 use Rattle.std.proofs.lemmas.List.{length-map}
 use Rattle.std.proofs.lemmas.List.Sorted.{IsPermutation-sym}
@@ -11,20 +11,19 @@ use Rattle.definitions.specs.Arithmetic.{Meaning}
 use Rattle.definitions.specs.Value.{Value}
 use Rattle.definitions.specs.Table.{Database, Row}
 use Rattle.definitions.specs.Invariant.{IsDatabase}
-use Rattle.definitions.specs.Binding.Formed.{column_type, only_type, IsFormedBlock, IsTypedValue}
-use Rattle.definitions.specs.Queries.BoundBlock.{Block, Blocks, Condition, ValueExpr}
+use Rattle.definitions.specs.Binding.Formed.{column_type, only_type, IsTypedValue}
+use Rattle.definitions.specs.Queries.BoundBlock.{Block, Blocks}
 use Rattle.definitions.specs.Queries.Conjuncts.{conjuncts, is_late, late_conjuncts}
-use Rattle.definitions.specs.Queries.Evaluation.{Combination, Environment}
-use Rattle.definitions.specs.Queries.Combinations.{at}
+use Rattle.definitions.specs.Queries.Evaluation.{Combination}
 use Rattle.definitions.specs.Queries.Laws.{MeansRows}
-use Rattle.definitions.specs.Queries.Answer.{block_answer, meanings}
+use Rattle.definitions.specs.Queries.Answer.{meanings}
 use Rattle.definitions_execution.specs.Total.{subqueries}
-use Rattle.definitions_execution.specs.TypedCombinations.{AreTypedAround, IsTypedCombination}
+use Rattle.definitions_execution.specs.TypedCombinations.{IsTypedCombination}
 use Rattle.definitions_execution.proofs.FormedNames.{OfValues, typed_conjuncts}
 use Rattle.definitions_execution.proofs.TypedRows.{composites_typed}
 use Rattle.definitions_answers.specs.Standing.{Stands, StandsInside}
 use Rattle.definitions_answers.specs.Steps.{context_among}
-use Rattle.definitions_answers.specs.Told.{meaning_told, told_environment, TellsRows}
+use Rattle.definitions_answers.specs.Told.{meaning_told}
 use Rattle.definitions_answers.specs.Taking.{Says}
 use Rattle.definitions_answers.specs.Trying.{tried_in, SaysWhatIsTold}
 use Rattle.definitions_answers.proofs.Reordered.{reordered}
@@ -34,7 +33,7 @@ use Rattle.definitions_answers.proofs.Taken.{all_arranged, all_filtered, both_of
 use Rattle.definitions_answers.proofs.Trying.{late_conjuncts_say}
 use Rattle.scans.specs.Asks.{CanEvaluate}
 use Rattle.scans.specs.Composites.{numbers_in}
-use Rattle.scans.specs.Sources.{block_in, context_in}
+use Rattle.scans.specs.Sources.{block_in}
 use Rattle.scans.specs.declared.composite.Composite.{Composite}
 use Rattle.sqlvalue.specs.Raises.{raise_of}
 use Rattle.sqlvalue.specs.declared.raise.Raise.{Raise}
@@ -42,11 +41,11 @@ use Rattle.subqueries.specs.Found.{said_in}
 use Rattle.subqueries.specs.Framed.{combination_in}
 use Rattle.subqueries.specs.Keeping.{told_by}
 use Rattle.subqueries.specs.declared.kept_results.KeptResults.{KeptResults}
-use Rattle.executor.specs.OneComposite.{are_true_in, raised_in}
+use Rattle.block_answers.specs.OneComposite.{are_true_in, raised_in}
 use Rattle.executor.specs.ReadyBlocks.{blocks_in, database_in, AreReady, IsReady, IsToldLast}
 use Rattle.executor.specs.declared.ready_block.ReadyBlock.{ReadyBlock}
 use Rattle.executor.proofs.InnerBlocks.{told_typed}
-use Rattle.executor.proofs.ToldValues.{told_can, IsTypedBlock}
+use Rattle.executor.proofs.ToldValues.{told_can}
 use Rattle.executor.proofs.TypedMeanings.{answer_typed}
 
 pub get_mapped : {X Y : Type 0} (f : X → Y) (xs : List X) (i : ℕ) (x : X) → slice_get xs i ≡ Some x → slice_get (map f xs) i ≡ Some (f x)

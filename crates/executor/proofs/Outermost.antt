@@ -1,6 +1,6 @@
 -- What the outermost block of a query tells, when its composites are taken one after another.
 use Rattle.std.proofs.Common.{◌≡◌, ◌∙◌, sym, ap, subst, ℕ, ◌+◌, List, [], ◌∷◌, ◌++◌, Bool, true, false, Some, length, map}
-use Rattle.std.specs.Prelude.{get_or, not, slice_get, Contains, Ok, Err, Result}
+use Rattle.std.specs.Prelude.{not, slice_get, Contains, Ok, Err, Result}
 use Rattle.std.specs.List.{AllByRecursion}
 use Rattle.std.proofs.lemmas.List.{map-append}
 use Rattle.definitions.specs.Table.{Database, Row}
@@ -29,20 +29,19 @@ use Rattle.grouping.specs.declared.fault.AnswerFault.{AnswerFault}
 use Rattle.grouping.proofs.Faults.{raised_weaker}
 use Rattle.subqueries.specs.Found.{said_in}
 use Rattle.subqueries.specs.Framed.{combination_in}
-use Rattle.executor.specs.BlockRows.{comes_in_order, HasRowsOf, HaveTaken, MayRaiseOn, TellsOf}
-use Rattle.executor.specs.Groups.{AreTyped}
-use Rattle.executor.specs.Ready as before
+use Rattle.block_answers.specs.BlockRows.{comes_in_order, HasRowsOf, HaveTaken, MayRaiseOn, TellsOf}
+use Rattle.block_answers.specs.Groups.{AreTyped}
+use Rattle.block_answers.specs.Ready as before
 use Rattle.executor.specs.ReadyBlocks.{blocks_in, database_in, meanings_in, AreReady, IsReady}
-use Rattle.executor.specs.Telling as telling
-use Rattle.executor.specs.Telling.{context_with, leaves_repeats_out, puts_in_order, AreToldAs, ArrangePassing, Holds, MayTell}
-use Rattle.executor.specs.declared.block_rows.BlockRows.{BlockRows}
+use Rattle.block_answers.specs.Telling.{context_with, leaves_repeats_out, puts_in_order, AreToldAs, ArrangePassing, Holds, MayTell}
+use Rattle.block_answers.specs.declared.block_rows.BlockRows.{BlockRows}
 use Rattle.executor.specs.declared.ready_block.ReadyBlock.{ReadyBlock}
-use Rattle.executor.specs.declared.result_rows.RowStore.{RowStore}
-use Rattle.executor.proofs.Ending.{late_told, raise_told, raised_among, text_told}
+use Rattle.block_answers.specs.declared.result_rows.RowStore.{RowStore}
+use Rattle.block_answers.proofs.Ending.{late_told, raise_told, raised_among, text_told}
 use Rattle.executor.proofs.InnerBlocks.{some_is}
 use Rattle.executor.proofs.InnerRows.{surrounded}
 use Rattle.executor.proofs.InnerTelling.{block_at}
-use Rattle.executor.proofs.Taking.{all_typed, one_passed_over, one_taken}
+use Rattle.block_answers.proofs.Taking.{all_typed, one_passed_over, one_taken}
 
 first_order : (blocks : Blocks) (b : Block) → slice_get blocks 0 ≡ Some b → order_of blocks ≡ b.order
 first_order [] b e = absurd cc

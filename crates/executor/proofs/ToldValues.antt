@@ -1,26 +1,24 @@
 -- The values of late conjuncts can be evaluated by what is told of their subqueries.
-use Rattle.std.proofs.Common.{◌≡◌, subst, ℕ, List, [], ◌∷◌, ◌++◌, Option, Some, None, is_some, true≢false, sym, get_or}
-use Rattle.std.specs.Prelude.{flat_map, IsTrue}
+use Rattle.std.proofs.Common.{◌≡◌, ℕ, List, [], ◌∷◌, Some}
+use Rattle.std.specs.Prelude.{flat_map}
 use Rattle.std.specs.List.{AllByRecursion}
-use Rattle.definitions.specs.Value.{Null, SqlType, IsType}
-use Rattle.definitions.specs.Arithmetic.{Meaning, Is}
+use Rattle.definitions.specs.Arithmetic.{Meaning}
 use Rattle.definitions.specs.ValueType.{ValueType}
 use Rattle.definitions.specs.Table.{Database, Row}
 use Rattle.definitions.specs.Invariant.{IsDatabase}
-use Rattle.definitions.specs.Plans.Order.{BlockColumn}
 use Rattle.definitions.specs.Queries.BoundBlock.{ValueExpr, Column, Parameter, Numeral, String, Signed, Chain, AggregateValue, Subquery, Operands, NoOperand, Operand, Condition, Block, Blocks}
 use Rattle.definitions.specs.Queries.BoundTypes.{value_type}
 use Rattle.definitions.specs.Queries.Conjuncts.{blocks_in, blocks_of, operand_blocks, tested_blocks, values_of}
 use Rattle.definitions.specs.Queries.Evaluation.{Combination, Environment}
 use Rattle.definitions.specs.Queries.Laws.{FitsTypes, AllFitTypes, MeansRows}
 use Rattle.definitions.specs.Binding.Formed as formed
-use Rattle.definitions.specs.Binding.Formed.{HasColumn, IsFormedValue, AreFormedOperands, IsTypedValue}
+use Rattle.definitions.specs.Binding.Formed.{IsFormedValue, AreFormedOperands, IsTypedValue}
 use Rattle.expr.specs.Answers.{IsTyped}
 use Rattle.definitions_execution.specs.TypedCombinations.{AreTypedAround, IsTypedCombination}
 use Rattle.definitions_execution.proofs.FormedNames.{OfValues}
 use Rattle.definitions_answers.proofs.Elements.{all_first, all_flat}
 use Rattle.scans.specs.Asks.{CanEvaluate}
-use Rattle.executor.proofs.Formed.{own_type, some_type}
+use Rattle.block_answers.proofs.Formed.{own_type, some_type}
 
 module _ (db : Database) (b : Block) (outer : List Combination) (valid : IsDatabase db) (blocks around : Blocks) (n : ℕ) (typed : AreTypedAround db around outer) (c : Combination) (own : IsTypedCombination db b c) (inner : ℕ → Meaning (List Row)) where
   abbrev env : Environment

@@ -1,18 +1,15 @@
 -- What a block means has the type of its only result column.
-use Rattle.std.proofs.Common.{◌≡◌, ◌∙◌, sym, ap, subst, ℕ, zero, suc, List, [], ◌∷◌, ◌++◌, Bool, true, false, Option, Some, None, map, get_or}
-use Rattle.std.specs.Prelude.{⊤, flat_map, slice_get, unwrap_or, if◌then◌else◌}
+use Rattle.std.proofs.Common.{◌≡◌, sym, subst, ℕ, List, [], ◌∷◌, ◌++◌, Bool, true, false, Some, map, get_or}
+use Rattle.std.specs.Prelude.{⊤, flat_map, if◌then◌else◌}
 use Rattle.std.specs.List.{AllByRecursion}
-use Rattle.definitions.specs.Value.{Value, Null, SqlType}
+use Rattle.definitions.specs.Value.{Value, Null}
 use Rattle.definitions.specs.Arithmetic.{Raise, Meaning, Is, Raises}
 use Rattle.definitions.specs.ValueType.{ValueType, HasValueType}
-use Rattle.definitions.specs.Table.{Database, Row}
+use Rattle.definitions.specs.Table.{Row}
 use Rattle.definitions.specs.Invariant.{IsDatabase}
-use Rattle.definitions.specs.Plans.Order.{BlockColumn}
 use Rattle.definitions.specs.Binding.Answerable.{IsAnswerable, IsRightFunction}
-use Rattle.definitions.specs.Binding.Formed as formed
-use Rattle.definitions.specs.Binding.Formed.{only_type, HasColumn, IsFormedFunction, IsFormedValue, AreFormedOperands, IsTypedValue, IsFormedBlock}
+use Rattle.definitions.specs.Binding.Formed.{only_type, IsFormedFunction, IsFormedValue, AreFormedOperands, IsTypedValue, IsFormedBlock}
 use Rattle.definitions.specs.Queries.BoundBlock.{ValueExpr, Column, Parameter, Numeral, String, Signed, Chain, AggregateValue, Subquery, Operands, NoOperand, Operand, Item, Block, Blocks}
-use Rattle.definitions.specs.Queries.BoundTypes.{value_type}
 use Rattle.definitions.specs.Queries.Conjuncts.{blocks_in, operand_blocks}
 use Rattle.definitions.specs.Queries.Evaluation.{Combination, Environment, on_one, value}
 use Rattle.definitions.specs.Queries.Laws.{FitsTypes, AllFitTypes, MeansOne, MeansRows}
@@ -22,13 +19,12 @@ use Rattle.definitions.specs.Queries.Answer.{answer_after_where, block_answer, c
 use Rattle.definitions.proofs.QueryTheory.Lemmas.{groups_are_all}
 use Rattle.definitions.proofs.QueryTheory.TypedValues.{values_have_their_types}
 use Rattle.definitions_execution.specs.TypedCombinations.{AreTypedAround, IsTypedCombination}
-use Rattle.definitions_answers.proofs.Elements.{all_first}
 use Rattle.definitions_answers.proofs.Reordered.{reordered}
 use Rattle.definitions_answers.proofs.Taken.{all_arranged, all_joined, all_left, all_split}
 use Rattle.definitions_answers.proofs.TypedKept.{kept_are_typed}
 use Rattle.definitions_answers.proofs.ValueShapes.{function_values_have_their_types}
-use Rattle.executor.proofs.Blind.{no_left, no_right}
-use Rattle.executor.proofs.Formed.{all_at, made_at, own_type}
+use Rattle.block_answers.proofs.Blind.{no_left, no_right}
+use Rattle.block_answers.proofs.Formed.{all_at, made_at, own_type}
 
 -- a row that is made has the type in its first column
 abbrev HasFirst : ValueType → Row → Type 0

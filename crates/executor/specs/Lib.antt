@@ -1,13 +1,4 @@
 pub use Rattle.definitions.specs.Queries.Answer
 pub use Rattle.definitions_execution.specs.Total
 pub use Rattle.definitions.specs.Certificates.Explaining
-pub mod Views
-pub mod OneComposite
-pub mod Telling
-pub mod Ready
-pub mod Having
-pub mod Cut
-pub mod Groups
-pub mod BlockRows
-pub mod KeptRows
 pub mod ReadyBlocks

@@ -1,6 +1,5 @@
 -- The blocks of a statement that are ready to be evaluated.
-use Rattle.std.specs.Prelude.{ℕ, ◌<◌, ◌≤◌, ◌≡◌, sum_by, List, [], ◌∷◌, ⊤, Option, None, Some, length, map, slice_get, IsPermutation}
-use Rattle.std.specs.List.{AllByRecursion}
+use Rattle.std.specs.Prelude.{ℕ, ◌<◌, ◌≡◌, sum_by, List, [], ◌∷◌, Option, None, Some, length, map, slice_get, IsPermutation}
 use Rattle.definitions.specs.Arithmetic.{Meaning}
 use Rattle.definitions.specs.Table.{Database, Row}
 use Rattle.definitions.specs.Invariant.{IsDatabase}
@@ -24,10 +23,10 @@ use Rattle.plan_tree.specs.Plans.{plan_of}
 use Rattle.plan_space.specs.Planned.{space_in}
 use Rattle.scans.specs.Sources.{block_in}
 use Rattle.subqueries.specs.BlockText.{Rising}
-use Rattle.subqueries.specs.Keeping.{places_in, told_by, AllKept}
+use Rattle.subqueries.specs.Keeping.{told_by, AllKept}
 use Rattle.subqueries.specs.OuterColumns.{outer_columns_of}
 use Rattle.subqueries.specs.declared.kept_results.KeptResults.{KeptResults}
-use Rattle.executor.specs.Views.{conditions_of}
+use Rattle.block_answers.specs.Views.{conditions_of}
 use Rattle.executor.specs.declared.ready_block.ReadyBlock.{ReadyBlock}
 
 abbrev pub database_in : List ReadyBlock → Database

@@ -14,11 +14,11 @@ ghost use Rattle.grouping.specs.Faults.{IfRaised};
 ghost use Rattle.query_tree.specs.Bound.{block_of};
 ghost use Rattle.executor.specs.ReadyBlocks.{blocks_in, database_in, total_at, AreReady, AreRight};
 
-use crate::block_rows::BlockRows;
 use crate::nested::{sum_of, try_late};
 use crate::ready_block::{ReadyBlock, ready_blocks};
 use crate::running::run_plan;
 use crate::watch::{QueryWatch, WorkCount};
+use block_answers::BlockRows;
 use catalog::Database;
 use grouping::AnswerFault;
 use plan_space::PlanNote;

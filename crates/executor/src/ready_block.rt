@@ -17,8 +17,8 @@ ghost use Rattle.subqueries.specs.OuterColumns.{outer_columns_of};
 ghost use Rattle.executor.specs.declared.ready_block.ReadyBlock.{ReadyBlock as Ready};
 ghost use Rattle.executor.specs.ReadyBlocks.{blocks_in, HasLeast, IsReadyIn};
 
-use crate::late::late_conditions;
 use crate::planning::least_plan;
+use block_answers::late_conditions;
 use catalog::Database;
 use plan_space::Space;
 use plan_tree::Plan;

@@ -1,6 +1,6 @@
 //! What expressions are evaluated in.
 
-ghost use Rattle.std.specs.Prelude.{◌≡◌, ℕ, [], get_or, IfSome, Ok};
+ghost use Rattle.std.specs.Prelude.{◌≡◌, [], get_or, IfSome, Ok};
 ghost use Rattle.definitions.specs.Value.{Null};
 ghost use Rattle.definitions.specs.Arithmetic.{Is};
 ghost use Rattle.definitions.specs.Statement.{Equals};

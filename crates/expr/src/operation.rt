@@ -1,6 +1,6 @@
 //! Operations on what operands give.
 
-ghost use Rattle.std.specs.Prelude.{◌≡◌, List, map};
+ghost use Rattle.std.specs.Prelude.{◌≡◌, List};
 ghost use Rattle.definitions.specs.Arithmetic.{Meaning};
 ghost use Rattle.definitions.specs.Table.{Row};
 ghost use Rattle.definitions.specs.Value as spec;

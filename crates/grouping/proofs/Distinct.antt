@@ -12,7 +12,7 @@ use Rattle.definitions.specs.Lists.{without_repeats}
 use Rattle.definitions.specs.Queries.Grouping.{same_value, same_values, taken}
 use Rattle.definitions_answers.specs.Lines.{IsInBounds, IsRowOf, with_line}
 use Rattle.definitions_answers.specs.Repeats.{with_row}
-use Rattle.definitions_answers.specs.Shapes.{Shape, HasShape, IsThere, Sums}
+use Rattle.definitions_answers.specs.Shapes.{Shape, HasShape, IsThere}
 use Rattle.definitions_answers.proofs.Left.{left_more, value_laws}
 use Rattle.definitions_answers.proofs.LinesBack.{any_line, lines_one_by_one}
 use Rattle.definitions_answers.proofs.Taken.{all_left}

@@ -1,6 +1,6 @@
 -- The order of rows is a total one, and a list that is sorted by it is sorted as rows are.
-use Rattle.std.proofs.Common.{◌≡◌, ◌∙◌, refl, sym, ap, ap₂, subst, ℕ, ◌+◌, ◌<◌, ◌≤◌, List, [], ◌∷◌, Bool, true, false, length, map, drop, get_or, arith}
-use Rattle.std.specs.Prelude.{IsPermutation, IsSorted}
+use Rattle.std.proofs.Common.{◌≡◌, ◌∙◌, refl, sym, ap, ap₂, ℕ, ◌+◌, ◌<◌, List, [], ◌∷◌, Bool, true, false, length, map, drop, get_or, arith}
+use Rattle.std.specs.Prelude.{IsSorted}
 use Rattle.std.specs.Cmp.{IsTotalOrder, IsStrictWeakOrder, on_total, then_total, back_total}
 use Rattle.std.specs.Cmp.Derive.{point_total}
 use Rattle.std.specs.List.Sorted.{IsSortedBy}
@@ -9,7 +9,7 @@ use Rattle.std.specs.declared.cmp.Ordering.{Ordering}
 use Rattle.std.specs.declared.cmp.Ordering.TheVariants.{Less, Equal, Greater}
 use Rattle.std.proofs.lemmas.List.{drop_more, get_or-map, length-map}
 use Rattle.std.proofs.lemmas.List.Sorted.{ranks_by}
-use Rattle.definitions.specs.Value.{Value, Null, rank}
+use Rattle.definitions.specs.Value.{Null, rank}
 use Rattle.definitions.specs.Table.{Row}
 use Rattle.definitions.specs.Queries.BoundBlock.{Key}
 use Rattle.definitions.specs.Queries.Outcomes.{directed, row_order}

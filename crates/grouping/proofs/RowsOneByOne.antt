@@ -1,17 +1,16 @@
 -- Rows that are kept one by one.
-use Rattle.std.proofs.Common.{◌≡◌, ◌∙◌, refl, sym, ap, ap₂, subst, ℕ, List, [], ◌∷◌, ◌++◌, Bool, true, false, cond, map, length, Option, Some, None, is_some, append_assoc, true≢false}
+use Rattle.std.proofs.Common.{◌≡◌, ◌∙◌, refl, sym, ap, ap₂, subst, ℕ, List, [], ◌∷◌, ◌++◌, Bool, true, false, cond, map, Option, Some, None, is_some, append_assoc, true≢false}
 use Rattle.std.specs.Prelude.{not, nat_eq, flat_map, IfSome}
 use Rattle.std.specs.Cmp.Lexicographic.{pointwise}
 use Rattle.std.specs.List.{AllByRecursion, list_any}
 use Rattle.std.proofs.lemmas.Grind.{flat_map-append}
-use Rattle.std.proofs.lemmas.List.{append-nil, length-append}
+use Rattle.std.proofs.lemmas.List.{append-nil}
 use Rattle.definitions.specs.Table.{Row}
 use Rattle.definitions.specs.Printing.{row_line}
 use Rattle.definitions.specs.Queries.Answer.{distinct_rows}
 use Rattle.definitions.specs.Lists.{without_repeats}
 use Rattle.definitions.specs.Queries.Grouping.{same_values}
 use Rattle.definitions_answers.specs.Lines.{IsInBounds, IsRowOf, with_line}
-use Rattle.definitions_answers.specs.Repeats.{with_row}
 use Rattle.definitions_answers.specs.Shapes.{Shape, HasShapes}
 use Rattle.definitions_answers.proofs.Left.{repeats_one_by_one}
 use Rattle.definitions_answers.proofs.LinesBack.{any_line, lines_one_by_one}

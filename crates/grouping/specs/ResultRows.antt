@@ -1,5 +1,5 @@
 -- What is kept of the rows of an answer, and what is printed of them at their end.
-use Rattle.std.specs.Prelude.{ℕ, ◌≡◌, ◌++◌, Bool, true, false, is_some, List, IsPermutation, IsSorted, IfSome, flat_map, length, map}
+use Rattle.std.specs.Prelude.{ℕ, ◌≡◌, ◌++◌, Bool, is_some, List, IsPermutation, IsSorted, IfSome, flat_map, length, map}
 use Rattle.std.specs.List.{AllByRecursion}
 use Rattle.definitions.specs.Table.{Row}
 use Rattle.definitions.specs.Printing.{fields_line, row_line}

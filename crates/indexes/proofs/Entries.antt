@@ -1,6 +1,5 @@
 -- Entries whose keys stand in columns.
-use Rattle.std.proofs.Common.{◌≡◌, ◌∙◌, refl, sym, ap, ap₂, ℕ, zero, suc, ◌+◌, ◌<◌, ◌≤◌, List, [], ◌∷◌, length, map, get_or, arith}
-use Rattle.definitions.specs.Key.{Key}
+use Rattle.std.proofs.Common.{◌≡◌, ◌∙◌, refl, sym, ap, ℕ, zero, suc, ◌+◌, ◌<◌, List, [], ◌∷◌, length, get_or, arith}
 use Rattle.definitions.specs.IndexRun.{Entry, rows_of, keys_of}
 use Rattle.columns.specs.Cells.{CellList}
 use Rattle.indexes.specs.Keys.{key_in}

@@ -1,6 +1,6 @@
 -- The first row whose key repeats an earlier one, found beside its like in the order of keys.
 use Rattle.std.proofs.Common.{◌≡◌, ◌≢◌, ◌∙◌, refl, sym, ap, ap₂, ℕ, zero, suc, ◌+◌, ◌-◌, ◌<◌, ◌≤◌, List, [], ◌∷◌, Bool, true, false, length, map, take, get_or, inl, inr, arith}
-use Rattle.std.specs.Prelude.{IsPermutation, Contains, All, IsTrue, IsFalse, IfSome, IsNone, ◌&&◌, ◌⊎◌, not, nat_lt, Option, Some, None, if◌then◌else◌}
+use Rattle.std.specs.Prelude.{IsPermutation, IsFalse, IfSome, IsNone, ◌&&◌, ◌⊎◌, not, nat_lt, Option, Some, None, if◌then◌else◌}
 use Rattle.std.specs.List.{AllByRecursion, range_with_len}
 use Rattle.std.proofs.lemmas.Bool.{false≢true, cases_lt}
 use Rattle.std.proofs.lemmas.Bool.Decides.{nat_tests}
@@ -10,10 +10,10 @@ use Rattle.std.proofs.lemmas.List.FromFn.{length-range_with_len, get_or-range_wi
 use Rattle.std.specs.Ordering.{nat_cmp, ordering_then, ordering_reverse, is_lt, is_eq}
 use Rattle.std.specs.declared.cmp.Ordering.{Ordering}
 use Rattle.std.specs.declared.cmp.Ordering.TheVariants.{Less, Equal, Greater}
-use Rattle.definitions.specs.Key.{Key, key_rank, has_null, repeats, AreUnique}
-use Rattle.definitions.specs.IndexRun.{Entry, AreRising, comes_before}
+use Rattle.definitions.specs.Key.{Key, has_null, repeats, AreUnique}
+use Rattle.definitions.specs.IndexRun.{AreRising, comes_before}
 use Rattle.columns.specs.Cells.{CellList}
-use Rattle.indexes.specs.Keys.{key_in, keys_in, entry_in, height}
+use Rattle.indexes.specs.Keys.{key_in, entry_in}
 use Rattle.indexes.specs.Repeats.{IsFirstRepeated, repeat_at, lower_of}
 use Rattle.indexes.specs.declared.repeated.RepeatedKey.{RepeatedKey}
 use Rattle.indexes.proofs.KeyOrder.{row_rank, row_order, rows_ranked}

@@ -1,8 +1,7 @@
 -- Columns of keys, taken from a table's columns.
-use Rattle.std.proofs.Common.{◌≡◌, ◌∙◌, refl, sym, ap, ap₂, ℕ, zero, suc, ◌+◌, ◌<◌, ◌≤◌, List, [], ◌∷◌, ◌++◌, length, map, drop, get_or, Bor, arith}
+use Rattle.std.proofs.Common.{◌≡◌, ◌∙◌, refl, sym, ap, ap₂, ℕ, suc, ◌+◌, ◌<◌, ◌≤◌, List, [], ◌∷◌, ◌++◌, length, map, drop, get_or, Bor, arith}
 use Rattle.std.proofs.lemmas.List.{get_or-map, length-map, append-nil, drop_all}
 use Rattle.definitions.specs.Value.{Null, SqlType}
-use Rattle.definitions.specs.IndexRun.{Entry}
 use Rattle.columns.specs.Cells.{CellList}
 use Rattle.columns.specs.Starts.{value_in}
 use Rattle.indexes.specs.Keys.{key_in, entry_in, types_of, AreOfHeight, columns_of}

@@ -1,14 +1,12 @@
 -- Rows by their keys are totally ordered.
-use Rattle.std.proofs.Common.{◌≡◌, ◌≢◌, ◌∙◌, refl, sym, ap, ap₂, ℕ, suc, List, [], ◌∷◌, ◌++◌, Bool, true, false, cond, length, map, get_or, inl, inr, arith}
-use Rattle.std.specs.Prelude.{not, ◌&&◌, ◌||◌}
-use Rattle.std.specs.List.{list_any}
+use Rattle.std.proofs.Common.{◌≡◌, ◌≢◌, refl, ℕ, List, [], ◌∷◌, Bool, true, false}
+use Rattle.std.specs.Prelude.{◌||◌}
 use Rattle.std.specs.Cmp.{IsTotalOrder, on_total, then_total}
-use Rattle.std.specs.Ordering.{nat_cmp, ordering_then, is_eq}
+use Rattle.std.specs.Ordering.{nat_cmp, ordering_then}
 use Rattle.std.specs.declared.cmp.Ordering.{Ordering}
 use Rattle.std.specs.declared.cmp.Ordering.TheVariants.{Less, Equal, Greater}
 use Rattle.std.proofs.lemmas.Cmp.{nat_cmp_total}
-use Rattle.definitions.specs.Value.{rank, is_null}
-use Rattle.definitions.specs.Key.{Key, key_rank, has_null}
+use Rattle.definitions.specs.Key.{key_rank}
 use Rattle.definitions.proofs.Ranking.{rank_total}
 use Rattle.columns.specs.Cells.{CellList}
 use Rattle.columns.specs.Starts.{value_in}

@@ -1,16 +1,16 @@
 -- The keys that begin with values stand together, and are found column by column.
 use Rattle.std.proofs.Common.{◌≡◌, ◌≢◌, ◌∙◌, refl, sym, ap, ap₂, ℕ, zero, suc, ◌+◌, ◌<◌, ◌≤◌, List, [], ◌∷◌, ◌++◌, Bool, true, false, length, map, take, get_or, inl, inr, arith}
-use Rattle.std.specs.Prelude.{◌&&◌, not, nat_lt, Option, Some, None, option_map, unwrap_or, IsTrue, ◌⊎◌}
+use Rattle.std.specs.Prelude.{◌&&◌, Option, Some, None, option_map, unwrap_or, IsTrue, ◌⊎◌}
 use Rattle.std.specs.List.{AllByRecursion}
 use Rattle.std.proofs.lemmas.Bool.{false≢true, cases_lt}
 use Rattle.std.proofs.lemmas.Bool.Decides.{nat_tests}
 use Rattle.std.proofs.lemmas.Cmp.{tied_itself}
-use Rattle.std.specs.Ordering.{nat_cmp, ordering_then, ordering_reverse, is_lt, is_eq, is_ge, is_le}
+use Rattle.std.specs.Ordering.{ordering_then, ordering_reverse, is_lt, is_eq, is_ge, is_le}
 use Rattle.std.specs.declared.cmp.Ordering.{Ordering}
 use Rattle.std.specs.declared.cmp.Ordering.TheVariants.{Less, Equal, Greater}
-use Rattle.definitions.specs.Value.{Value, Null, Number, Text, rank, compare, is_null}
-use Rattle.definitions.specs.Key.{Key, key_rank}
-use Rattle.definitions.specs.IndexRun.{Entry, Limit, Inclusive, AreRising, comes_before, keys_of, is_true_of, is_from, is_up_to, begins_with, lies_in}
+use Rattle.definitions.specs.Value.{Value, Null, Number, Text, rank, compare}
+use Rattle.definitions.specs.Key.{key_rank}
+use Rattle.definitions.specs.IndexRun.{Entry, Limit, Inclusive, AreRising, comes_before, is_true_of, begins_with, lies_in}
 use Rattle.definitions.proofs.Ranking.{rank_total}
 use Rattle.columns.specs.Cells.{CellList}
 use Rattle.columns.specs.Starts.{value_in}

@@ -1,7 +1,6 @@
 -- A search in two levels.
-use Rattle.std.proofs.Common.{◌≡◌, ◌∙◌, refl, sym, ap, length, ℕ, suc, ◌+◌, ◌-◌, ◌*◌, ◌/◌, ◌%◌, ◌<◌, ◌≤◌, Bool, true, false, inl, inr, arith}
+use Rattle.std.proofs.Common.{◌≡◌, ◌∙◌, refl, sym, ap, length, ℕ, ◌+◌, ◌-◌, ◌*◌, ◌/◌, ◌%◌, ◌<◌, ◌≤◌, Bool, true, false, inl, inr, arith}
 use Rattle.std.specs.Prelude.{◌⊎◌, min, max}
-use Rattle.std.specs.Int.{div_ceil}
 use Rattle.std.proofs.lemmas.Bool.{false≢true, cases_lt}
 use Rattle.columns.specs.Cells.{CellList}
 use Rattle.columns.specs.Starts.{AreOrdered, Splits, starts, value_in}

@@ -1,9 +1,9 @@
 -- The entries that pass a test stand together where their places do.
-use Rattle.std.proofs.Common.{◌≡◌, ◌∙◌, refl, sym, ap, ap₂, ℕ, zero, suc, ◌+◌, ◌-◌, ◌<◌, ◌≤◌, List, [], ◌∷◌, Bool, true, false, cond, length, map, take, drop, get_or, arith}
-use Rattle.std.specs.Prelude.{◌&&◌, not, nat_lt, filter, slice_range}
+use Rattle.std.proofs.Common.{◌≡◌, ◌∙◌, refl, sym, ap, ℕ, zero, suc, ◌-◌, ◌<◌, ◌≤◌, List, [], ◌∷◌, Bool, true, false, length, take, drop, arith}
+use Rattle.std.specs.Prelude.{◌&&◌, not, nat_lt, filter}
 use Rattle.std.proofs.lemmas.Bool.Decides.{nat_tests}
 use Rattle.definitions.specs.Key.{Key}
-use Rattle.definitions.specs.IndexRun.{Entry, rows_of, keys_of}
+use Rattle.definitions.specs.IndexRun.{Entry, rows_of}
 use Rattle.indexes.specs.Stretches.{key_at}
 
 take_none : {X : Type 0} (xs : List X) → take 0 xs ≡ []

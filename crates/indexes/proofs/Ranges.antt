@@ -6,7 +6,7 @@ use Rattle.std.proofs.lemmas.Bool.Decides.{nat_tests}
 use Rattle.std.specs.Ordering.{is_lt, is_le, is_gt, is_ge, ordering_reverse}
 use Rattle.std.specs.declared.cmp.Ordering.{Ordering}
 use Rattle.std.specs.declared.cmp.Ordering.TheVariants.{Less, Equal, Greater}
-use Rattle.definitions.specs.Value.{Value, Null, Number, Text, SqlType, rank, compare, kind_place, is_null}
+use Rattle.definitions.specs.Value.{Value, Null, Number, Text, SqlType, rank, compare, is_null}
 use Rattle.definitions.specs.IndexRun.{Limit, Unlimited, Inclusive, Exclusive, is_from, is_up_to, is_true_of}
 use Rattle.definitions.proofs.Ranking.{rank_total}
 use Rattle.indexes.specs.Stretches.{turned_limit}

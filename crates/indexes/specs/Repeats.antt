@@ -1,5 +1,5 @@
 -- Keys that come twice.
-use Rattle.std.specs.Prelude.{ℕ, ◌≡◌, ◌<◌, List, [], take, length, slice_index_or, IsTrue, ◌+◌, ◌&&◌, not, nat_lt, if◌then◌else◌, Option, Some, None}
+use Rattle.std.specs.Prelude.{ℕ, ◌<◌, List, [], take, length, slice_index_or, IsTrue, ◌+◌, ◌&&◌, not, nat_lt, if◌then◌else◌, Option, Some, None}
 use Rattle.std.specs.Ordering.{is_eq}
 use Rattle.columns.specs.Cells.{CellList}
 use Rattle.indexes.specs.Keys.{key_in}

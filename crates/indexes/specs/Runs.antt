@@ -1,6 +1,5 @@
 -- What an index keeps.
-use Rattle.std.specs.Prelude.{ℕ, suc, ◌≡◌, ◌<◌, ◌*◌, List, [], ◌∷◌, length}
-use Rattle.std.specs.List.{AllByRecursion}
+use Rattle.std.specs.Prelude.{ℕ, suc, List, [], ◌∷◌, length}
 use Rattle.definitions.specs.Value.{SqlType}
 use Rattle.definitions.specs.IndexRun.{Entry, AreRising}
 use Rattle.columns.specs.Cells.{CellList}

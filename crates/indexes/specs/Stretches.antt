@@ -1,5 +1,5 @@
 -- Keys that stand together.
-use Rattle.std.specs.Prelude.{ℕ, suc, ◌-◌, ◌==◌, ◌≡◌, ◌≤◌, ◌<◌, ◌≢◌, Bool, ◌&&◌, ◌||◌, not, List, [], length, slice_index_or}
+use Rattle.std.specs.Prelude.{ℕ, ◌-◌, ◌==◌, ◌≡◌, ◌≤◌, ◌<◌, ◌≢◌, Bool, ◌&&◌, ◌||◌, not, List, [], length, slice_index_or}
 use Rattle.std.specs.Ordering.{is_eq}
 use Rattle.definitions.specs.Value.{Value}
 use Rattle.definitions.specs.Key.{Key, has_null, key_rank}

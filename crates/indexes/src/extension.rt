@@ -1,10 +1,9 @@
 //! Indexes of a table that gets further rows.
 
-ghost use Rattle.std.specs.Prelude.{◌≡◌, ◌≤◌, ◌<◌, ℕ, IfOk, IfErr, Option, length, take, map, option_map};
+ghost use Rattle.std.specs.Prelude.{◌≡◌, ◌≤◌, ◌<◌, IfOk, IfErr, Option, length};
 ghost use Rattle.std.specs.List.{AllByRecursion};
 ghost use Rattle.definitions.specs.Limits.{most_rows};
 ghost use Rattle.loading.specs.Stored.{AreFilled, headers, rows_of};
-ghost use Rattle.indexes.specs.Indexes.{StoredIndex};
 ghost use Rattle.indexes.specs.Extension.{IsBeginningOf, AreExtended, RefusesExtension, earlier_repeat};
 
 use crate::index::Index;
@@ -14,7 +13,7 @@ use loading::TableColumn;
 use std::alloc::{AllocFailed, Global};
 
 /// A row whose key in an index repeats that of an earlier one. Rows and indexes count from 0.
-#[derive(Clone, Copy, Debug, PartialEq, Eq)]
+#[derive(Clone, Copy, PartialEq, Eq)]
 pub struct RepeatedRow {
     pub index: usize,
     pub row: u32,
@@ -22,7 +21,7 @@ pub struct RepeatedRow {
 }
 
 /// Why indexes do not get further rows.
-#[derive(Clone, Copy, Debug, PartialEq, Eq)]
+#[derive(Clone, Copy, PartialEq, Eq)]
 pub enum ExtendFault {
     /// The key of a row repeats in a unique index, and of no row before it (ISO/IEC 9075:1992, 8.9).
     Repeated(RepeatedRow),

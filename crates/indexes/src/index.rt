@@ -1,14 +1,9 @@
 //! An index of a table: its columns, whether keys are unique, its statistics, and its order of rows.
 
-ghost use Rattle.std.specs.Prelude.{◌≡◌, ◌≤◌, ◌<◌, ℕ, IfOk, IfErr, length, map, bytes_eq};
-ghost use Rattle.std.specs.List.{AllByRecursion};
-ghost use Rattle.definitions.specs.Limits.{most_columns, most_index_columns, most_rows};
+ghost use Rattle.std.specs.Prelude.{◌≡◌, ◌≤◌, ◌<◌, IfOk, IfErr, length};
+ghost use Rattle.definitions.specs.Limits.{most_rows};
 ghost use Rattle.definitions.specs.Table as spec;
-ghost use Rattle.definitions.specs.Key.{key_of};
-ghost use Rattle.definitions.specs.IndexRun.{IsRun, equal_part, range_part, rows_of as numbers_of};
 ghost use Rattle.loading.specs.Stored.{AreFilled, headers, rows_of};
-ghost use Rattle.sqlvalue.specs.Meaning.{value_of};
-ghost use Rattle.columns.specs.Starts.{limit_of};
 ghost use Rattle.indexes.specs.Meaning.{index_statistics_of};
 ghost use Rattle.indexes.specs.Indexes.{AreIndexColumns, IsIndexOn, RefusesIndexOn, IsBeginning};
 

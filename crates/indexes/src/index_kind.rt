@@ -5,7 +5,7 @@ ghost use Rattle.definitions.specs.Key.{distinct_keys, full_keys};
 ghost use Rattle.definitions.specs.IndexRun.{IsRun, equal_part, keys_of, range_part, rows_of};
 ghost use Rattle.sqlvalue.specs.Meaning.{value_of};
 ghost use Rattle.columns.specs.Starts.{limit_of};
-ghost use Rattle.indexes.specs.Keys.{AreOfHeight, columns_of, height, keys_in, types_of};
+ghost use Rattle.indexes.specs.Keys.{AreOfHeight, columns_of, height, keys_in};
 ghost use Rattle.indexes.specs.Orders.{IsOrderOf, RefusesOrder, is_unique, run_of};
 
 use crate::ordered::OrderedIndex;

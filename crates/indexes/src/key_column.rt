@@ -1,6 +1,6 @@
 //! A column of keys in their order, and look-ups in it.
 
-ghost use Rattle.std.specs.Prelude.{ℕ, ◌≡◌, ◌<◌, ◌≤◌, ◌*◌, ◌&&◌, not, List, [], map, length, slice_index_or, IfOk};
+ghost use Rattle.std.specs.Prelude.{ℕ, ◌≡◌, ◌<◌, ◌≤◌, ◌*◌, ◌&&◌, not, map, length, slice_index_or, IfOk};
 ghost use Rattle.std.specs.List.{AllByRecursion, range_with_len};
 ghost use Rattle.std.specs.Int.{div_ceil};
 ghost use Rattle.definitions.specs.Value.{rank, is_null};

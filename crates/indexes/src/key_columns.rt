@@ -1,6 +1,6 @@
 //! The cells of an index's columns.
 
-ghost use Rattle.std.specs.Prelude.{◌≡◌, ◌≤◌, ◌<◌, ℕ, IfOk, length, take};
+ghost use Rattle.std.specs.Prelude.{◌≡◌, ◌<◌, IfOk, length};
 ghost use Rattle.std.specs.List.{AllByRecursion};
 ghost use Rattle.indexes.specs.Keys.{columns_of};
 ghost use Rattle.indexes.specs.KeyColumns.{key_cells};

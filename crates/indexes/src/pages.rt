@@ -1,10 +1,8 @@
 //! How many pages rows and entries take (own, after Selinger et al. 1979, section 4).
 
-ghost use Rattle.std.specs.Prelude.{◌≡◌, ◌≤◌, ◌<◌, ◌+◌, ◌*◌, ℕ, length, take, sum_by};
+ghost use Rattle.std.specs.Prelude.{◌≡◌, ◌≤◌, ◌<◌, ◌+◌, ◌*◌, length};
 ghost use Rattle.std.specs.List.{AllByRecursion};
 ghost use Rattle.definitions.specs.Limits.{most_columns, most_index_columns, most_rows};
-ghost use Rattle.definitions.specs.Value.{IsType};
-ghost use Rattle.definitions.specs.Table as spec;
 ghost use Rattle.definitions.specs.Statistics as statistics;
 ghost use Rattle.loading.specs.Stored.{headers};
 ghost use Rattle.sqlvalue.specs.Meaning.{type_of};

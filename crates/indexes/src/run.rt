@@ -1,13 +1,13 @@
 //! The rows of a table in the order of their keys, with these.
 
-ghost use Rattle.std.specs.Prelude.{not, ◌≡◌, ◌≤◌, ◌<◌, ◌^◌, ◌-◌, IfOk, drop, map, length, take};
+ghost use Rattle.std.specs.Prelude.{not, ◌≡◌, ◌≤◌, ◌<◌, ◌-◌, IfOk, drop, map, length, take};
 ghost use Rattle.std.specs.Ordering.{is_eq};
 ghost use Rattle.definitions.specs.Key.{distinct_keys, full_keys, has_null, key_rank};
 ghost use Rattle.definitions.specs.IndexRun.{AreRising, equal_part, keys_of, range_part, rows_of};
 ghost use Rattle.sqlvalue.specs.Meaning.{value_of};
 ghost use Rattle.columns.specs.Starts.{limit_of};
-ghost use Rattle.indexes.specs.Stretches.{IsStretchOf, key_at, begins_anew};
-ghost use Rattle.indexes.specs.Keys.{key_in, AreOfHeight, columns_of, entry_in, height, types_of};
+ghost use Rattle.indexes.specs.Stretches.{IsStretchOf, begins_anew};
+ghost use Rattle.indexes.specs.Keys.{key_in, columns_of, entry_in, types_of};
 
 use crate::key_column::{KeyColumn, Stretch};
 use columns::Column;

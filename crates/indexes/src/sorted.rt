@@ -1,8 +1,8 @@
 //! An index in which keys may come again.
 
-ghost use Rattle.std.specs.Prelude.{◌≡◌, ◌≤◌, ◌<◌, ◌^◌, IfOk, take, length};
+ghost use Rattle.std.specs.Prelude.{◌≡◌, ◌<◌, ◌^◌, IfOk, take, length};
 ghost use Rattle.definitions.specs.Key.{distinct_keys, full_keys};
-ghost use Rattle.definitions.specs.IndexRun.{AreRising, IsRun, equal_part, keys_of, range_part, rows_of};
+ghost use Rattle.definitions.specs.IndexRun.{AreRising, IsRun, keys_of};
 ghost use Rattle.indexes.specs.Keys.{AreOfHeight, columns_of, height, keys_in, types_of};
 
 use crate::ordered::OrderedIndex;

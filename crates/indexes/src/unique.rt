@@ -1,8 +1,8 @@
 //! An index in which no key comes again.
 
-ghost use Rattle.std.specs.Prelude.{◌≡◌, ◌≤◌, ◌<◌, ◌^◌, IfOk, IfErr, OnOk, IsPermutation, map, take, length};
+ghost use Rattle.std.specs.Prelude.{◌≡◌, ◌<◌, ◌^◌, IfOk, IfErr, OnOk, IsPermutation, map, take, length};
 ghost use Rattle.definitions.specs.Key.{AreUnique, distinct_keys, full_keys};
-ghost use Rattle.definitions.specs.IndexRun.{AreRising, IsRun, equal_part, keys_of, range_part, rows_of};
+ghost use Rattle.definitions.specs.IndexRun.{AreRising, IsRun, keys_of};
 ghost use Rattle.std.specs.List.{range_with_len};
 ghost use Rattle.indexes.specs.Repeats.{IfRepeated, IsFirstRepeated, IsMemory};
 ghost use Rattle.indexes.specs.Keys.{entry_in, AreOfHeight, columns_of, height, keys_in, types_of};
@@ -24,7 +24,7 @@ pub struct UniqueIndex {
 }
 
 /// Why there is no unique index of a table.
-#[derive(Clone, Copy, Debug, PartialEq, Eq)]
+#[derive(Clone, Copy, PartialEq, Eq)]
 pub enum UniqueFault {
     /// A key comes again (ISO/IEC 9075:1992, 8.9).
     Repeated(RepeatedKey),

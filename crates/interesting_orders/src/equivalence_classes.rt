@@ -1,6 +1,6 @@
 //! Classes of columns under a set of tables.
 
-ghost use Rattle.std.specs.Prelude.{ℕ, ◌≡◌, ◌<◌, ◌≤◌, ◌^◌, length, map, All};
+ghost use Rattle.std.specs.Prelude.{◌≡◌, ◌<◌, ◌≤◌, ◌^◌, length, map, All};
 ghost use Rattle.std.specs.Bool.{Decides};
 ghost use Rattle.definitions.specs.Plans.TableSet.{Has};
 ghost use Rattle.query_tree.specs.Bound.{column_of};

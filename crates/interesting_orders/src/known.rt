@@ -1,6 +1,6 @@
 //! The indexes that a version of the plan space knows.
 
-ghost use Rattle.std.specs.Prelude.{◌≡◌, ◌<◌, [], ◌∷◌, IfOk, IfSome, length, filter_map, position};
+ghost use Rattle.std.specs.Prelude.{◌≡◌, ◌<◌, IfOk, IfSome, length, filter_map};
 ghost use Rattle.std.specs.List.{AllByRecursion, range_with_len};
 ghost use Rattle.definitions.specs.Estimates.Orders as spec;
 ghost use Rattle.definitions.specs.Table.{is_on};

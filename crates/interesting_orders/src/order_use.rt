@@ -1,6 +1,6 @@
 //! What one order serves for.
 
-ghost use Rattle.std.specs.Prelude.{◌≡◌, ◌<◌, All, IfOk, option_map};
+ghost use Rattle.std.specs.Prelude.{◌<◌, All, IfOk, option_map};
 ghost use Rattle.definitions.specs.Plans.Space.{Space};
 ghost use Rattle.plan_tree.specs.Plans.{order_of, orders_in};
 ghost use Rattle.plan_tree.specs.Sets.{set_of};

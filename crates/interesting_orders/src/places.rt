@@ -1,6 +1,6 @@
 //! The columns that conjuncts equate, and their places.
 
-ghost use Rattle.std.specs.Prelude.{ℕ, ◌≡◌, IfOk, OnOk, length, map, option_map, filter_map};
+ghost use Rattle.std.specs.Prelude.{◌≡◌, IfOk, OnOk, map, option_map};
 ghost use Rattle.std.specs.Bool.{Decides};
 ghost use Rattle.query_tree.specs.Bound.{column_of};
 ghost use Rattle.interesting_orders.specs.Classes.{AreDistinct};

@@ -1,6 +1,6 @@
 //! Sets of tables of columns.
 
-ghost use Rattle.std.specs.Prelude.{◌≡◌, Some, None, option_map, true};
+ghost use Rattle.std.specs.Prelude.{◌≡◌, Some, None, option_map};
 ghost use Rattle.definitions.specs.Plans.TableSet.{no_tables};
 ghost use Rattle.plan_tree.specs.Plans.{order_of};
 ghost use Rattle.plan_tree.specs.Sets.{set_of};

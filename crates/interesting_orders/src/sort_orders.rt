@@ -1,6 +1,6 @@
 //! The numbered orders of a block.
 
-ghost use Rattle.std.specs.Prelude.{◌≡◌, ◌<◌, [], ◌∷◌, Bool, IfOk, OnOk, IfSome, fold, if◌then◌else◌, length, map, option_map};
+ghost use Rattle.std.specs.Prelude.{◌≡◌, ◌<◌, [], IfOk, OnOk, IfSome, fold, if◌then◌else◌, length, map};
 ghost use Rattle.definitions.specs.Estimates.BlockTables.{table_at};
 ghost use Rattle.definitions.specs.Estimates.Orders as spec;
 ghost use Rattle.definitions.specs.Estimates.Version.{directions};

@@ -5,7 +5,7 @@ use Rattle.definitions.specs.Plans.TableSet.{only, with_table}
 use Rattle.definitions.specs.Plans.Path.{Path, table_of}
 use Rattle.definitions.specs.Plans.Plan.{Plan, Access, Sort}
 use Rattle.definitions.specs.Plans.Space.{Space}
-use Rattle.definitions.specs.Plans.PlanSpace.{IsPath, CanSort, tables_of, order_of, IsPlan, access, loop, merge, sort}
+use Rattle.definitions.specs.Plans.PlanSpace.{IsPath, CanSort, order_of, access, loop, merge, sort}
 use Rattle.definitions.specs.Plans.Folding.{Folds, IsOn}
 use Rattle.definitions.specs.Plans.Cost.{saturated, loop_cost, merge_cost, cost_of}
 use Rattle.definitions.proofs.PlanTheory.Orders.{refold, merge_order}

@@ -1,7 +1,6 @@
 //! A least plan, with its certificate.
 
-ghost use Rattle.std.specs.Prelude.{ℕ, ◌+◌, ◌*◌, ◌≤◌, ◌≡◌, List, IfOk, length, map};
-ghost use Rattle.definitions.specs.Plans.Certificate.{StateCost};
+ghost use Rattle.std.specs.Prelude.{ℕ, ◌+◌, ◌≤◌, ◌≡◌, IfOk, length};
 ghost use Rattle.definitions.specs.Plans.Exact.{IsExact};
 ghost use Rattle.definitions.specs.Plans.Least.{IsLeast};
 ghost use Rattle.definitions.specs.Plans.Search.{certificate_below};
@@ -25,7 +24,7 @@ use std::alloc::{AllocError, Global};
 
 /// How much a search did: the states that it solved, and the steps on the way, each an access, a join or a sort whose cost was
 /// added up.
-#[derive(Clone, Copy, Debug, PartialEq, Eq)]
+#[derive(Clone, Copy, PartialEq, Eq)]
 pub struct Tried {
     pub solutions: u64,
     pub steps: u64,

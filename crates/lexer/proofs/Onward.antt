@@ -5,7 +5,7 @@ use Rattle.std.proofs.lemmas.List.{map_push, get_or-take, get_or-drop, take_rest
 use Rattle.std.specs.Str.{IsAscii, IsUtf8, IsCharBoundary}
 use Rattle.std.proofs.lemmas.Str.{IsCharBoundary-before_ascii, IsCharBoundary-after_ascii}
 use Rattle.definitions.specs.Lexing as lexing
-use Rattle.definitions.specs.Lexing.{IsCut, Reads, LexFails, tokens_from, token_of, first_then, token_or_none, LexFault}
+use Rattle.definitions.specs.Lexing.{IsCut, Reads, LexFails, tokens_from, token_of, first_then, LexFault}
 use Rattle.definitions.specs.Token.{Token}
 use Rattle.definitions.proofs.Lexing.{cut_some}
 use Rattle.lexer.specs.Lexeme.{IsFirst, lexeme_of, outcome_of}

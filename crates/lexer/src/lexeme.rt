@@ -1,9 +1,8 @@
 //! What begins a text, and where it ends.
 
-ghost use Rattle.std.specs.Prelude.{◌≡◌, ◌+◌, ◌<◌, ◌≤◌, ◌==◌, [], ◌∷◌, Some, false, not, if◌then◌else◌, IsTrue, length, option_map, slice_index};
+ghost use Rattle.std.specs.Prelude.{◌≡◌, ◌+◌, ◌<◌, ◌≤◌, ◌==◌, [], ◌∷◌, Some, false, not, IsTrue, length, slice_index};
 ghost use Rattle.std.specs.List.{prefix_len};
 ghost use Rattle.definitions.specs.Characters as characters;
-ghost use Rattle.definitions.specs.Lexing as lexing;
 ghost use Rattle.lexer.specs.Lexeme as spec;
 
 use crate::byte::{is_blank, is_digit, is_letter, is_word_byte};

@@ -1,6 +1,6 @@
 //! Finds how long a number token is, and what is wrong with it.
 
-ghost use Rattle.std.specs.Prelude.{◌≡◌, ◌+◌, ◌<◌, ◌≤◌, ◌^◌, Some, IfSome, length, option_map};
+ghost use Rattle.std.specs.Prelude.{◌≡◌, ◌+◌, ◌<◌, ◌^◌, Some, IfSome, length, option_map};
 ghost use Rattle.std.specs.Str.Parse.{digits_value as value_of};
 ghost use Rattle.definitions.specs.Grammar.{numeral_in};
 ghost use Rattle.definitions.specs.Lexing as lexing;

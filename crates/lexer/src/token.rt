@@ -39,7 +39,7 @@ pub enum TokenKind {
 }
 
 /// A token of a script.
-#[derive(Clone, Copy, Debug, PartialEq, Eq)]
+#[derive(Clone, Copy, PartialEq, Eq)]
 pub struct Token<'a> {
     pub kind: TokenKind,
     /// Its slice of the script.

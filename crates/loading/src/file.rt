@@ -82,7 +82,7 @@ fn tell<W: LoadWatch>(watch: &W, records: u64, last: &ByteRecord, file: &[u8]) {
 }
 
 /// Where a record of a file begins, as `csv` says it.
-#[derive(Clone, Copy, Debug, PartialEq, Eq)]
+#[derive(Clone, Copy, PartialEq, Eq)]
 pub struct RecordStart {
     /// The byte of the file behind the record before it.
     pub start: u64,

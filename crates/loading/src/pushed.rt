@@ -3,7 +3,7 @@
 use crate::fault::RefusedRecord;
 
 /// Why further records of a file are not added.
-#[derive(Clone, Copy, Debug, PartialEq, Eq)]
+#[derive(Clone, Copy, PartialEq, Eq)]
 pub enum StopReason {
     /// The next record is no row.
     Record(RefusedRecord),
@@ -12,7 +12,7 @@ pub enum StopReason {
 }
 
 /// How many rows were added, and why no more, unless these are all.
-#[derive(Clone, Copy, Debug, PartialEq, Eq)]
+#[derive(Clone, Copy, PartialEq, Eq)]
 pub struct Pushed {
     pub rows: u64,
     pub stopped: Option<StopReason>,

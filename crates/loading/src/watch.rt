@@ -1,7 +1,7 @@
 //! Who is told how far a LOAD is.
 
 /// How far a LOAD is (own).
-#[derive(Clone, Copy, Debug, PartialEq, Eq)]
+#[derive(Clone, Copy, PartialEq, Eq)]
 pub struct LoadProgress {
     /// How many records are loaded so far.
     pub records: u64,

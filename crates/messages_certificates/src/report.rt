@@ -73,13 +73,16 @@ impl<'r> FileReport<'r> {
         offset: usize,
     ) -> fmt::Result {
         self.write_place(f, page.locate(offset))?;
-        match self.block_count {
-            1 => f.write_str("rest: the query has 1 block, and this stands behind its text\n")?,
-            count => writeln!(
-                f,
-                "rest: the query has {count} blocks, and this stands behind their texts"
-            )?,
-        }
+        let count = self.block_count;
+        let (blocks, texts) = if count == 1 {
+            ("block", "its text")
+        } else {
+            ("blocks", "their texts")
+        };
+        writeln!(
+            f,
+            "rest: the query has {count} {blocks}, and this stands behind {texts}"
+        )?;
         page.write_line(f, offset)
     }
 }

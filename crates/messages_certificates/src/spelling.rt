@@ -52,28 +52,36 @@ pub(crate) fn from_one(number: usize) -> usize {
 
 impl Display for SpelledPath {
     fn fmt<W: fmt::Write>(&self, f: &mut Formatter<W>) -> fmt::Result {
-        let index = self.index;
         match &self.path {
             Path::Segment { table } => write!(f, "SEG {}", from_one(*table)),
             Path::Index {
                 table,
                 backward,
                 ..
-            } => {
-                write!(f, "IDX {}.{index}", from_one(*table))?;
-                write_direction(f, *backward)
-            }
+            } => self.write_by_index(f, "IDX", *table, &[], *backward),
             Path::Match {
                 table,
                 conjuncts,
                 backward,
                 ..
-            } => {
-                write!(f, "MATCH {}.{index}", from_one(*table))?;
-                write_conjuncts(f, conjuncts.as_slice())?;
-                write_direction(f, *backward)
-            }
+            } => self.write_by_index(f, "MATCH", *table, conjuncts.as_slice(), *backward),
         }
+    }
+}
+
+impl SpelledPath {
+    /// `MATCH 2.1/3 BACK`.
+    fn write_by_index<W: fmt::Write>(
+        &self,
+        f: &mut Formatter<W>,
+        word: &str,
+        table: usize,
+        conjuncts: &[usize],
+        backward: bool,
+    ) -> fmt::Result {
+        write!(f, "{word} {}.{}", from_one(table), self.index)?;
+        write_conjuncts(f, conjuncts)?;
+        f.write_str(if backward { " BACK" } else { "" })
     }
 }
 
@@ -82,10 +90,6 @@ fn write_conjuncts<W: fmt::Write>(f: &mut Formatter<W>, conjuncts: &[usize]) -> 
         write!(f, "/{}", from_one(*conjunct))?;
     }
     Ok(())
-}
-
-fn write_direction<W: fmt::Write>(f: &mut Formatter<W>, backward: bool) -> fmt::Result {
-    f.write_str(if backward { " BACK" } else { "" })
 }
 
 /// A state without its cost, by the numbers of its line STATE.

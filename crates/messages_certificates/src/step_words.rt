@@ -10,16 +10,16 @@ pub(crate) fn write_step<W: fmt::Write>(f: &mut Formatter<W>, low: &LowStep) -> 
         write!(f, "from {state} for {cost} ")?;
     }
     write_kind(f, &low.step)?;
-    write!(f, " leads to {} for {}, ", low.to, low.cost)?;
-    if low.bound == low.target {
-        write!(
-            f,
-            "less than the target {}, which is its bound as it isn't listed",
-            low.target
-        )
+    let (than, behind) = if low.bound == low.target {
+        ("the target", ", which is its bound as it isn't listed")
     } else {
-        write!(f, "less than its bound {}", low.bound)
-    }
+        ("its bound", "")
+    };
+    write!(
+        f,
+        " leads to {} for {}, less than {than} {}{behind}",
+        low.to, low.cost, low.bound
+    )
 }
 
 /// `: a sort into order 2 can't stand on table 1 in order 0`.

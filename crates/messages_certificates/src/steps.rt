@@ -15,9 +15,12 @@ use plan_tree::{Certificate, State, TableSet, saturate};
 
 /// Where a state stands in the list, if it does.
 pub(crate) fn state_at(certificate: &Certificate, place: StateKey) -> Option<usize> {
-    certificate.states.iter().position(|state| {
-        state.tables.place() == place.tables.place() && state.order == place.order
-    })
+    for (number, state) in certificate.states.iter().enumerate() {
+        if state.tables.place() == place.tables.place() && state.order == place.order {
+            return Some(number);
+        }
+    }
+    None
 }
 
 /// A step to a state for a cost, and the bound that it may be below.

@@ -43,19 +43,25 @@ fn write_missing<W: fmt::Write>(f: &mut Formatter<W>, lack: Lack) -> fmt::Result
     } = lack;
     match missing {
         Missing::Block(number) => write!(f, "this is the text of block {number}"),
-        Missing::Table(table) => {
-            write!(f, "there is no table {table}")?;
-            write_count(f, "the block has", count, "table", "tables")
-        }
+        Missing::Table(table) => write_absent(f, table, count, "table", "tables"),
         Missing::Index { table, index } => write_no_index(f, version, table, index, count),
-        Missing::Conjunct(conjunct) => {
-            write!(f, "there is no conjunct {conjunct}")?;
-            write_count(f, "the block has", count, "conjunct", "conjuncts")
-        }
+        Missing::Conjunct(number) => write_absent(f, number, count, "conjunct", "conjuncts"),
         Missing::Order(order) => write_no_order(f, order, count),
         Missing::StateTables { tables, .. } => write_no_tables(f, tables, count),
         Missing::StateOrder { order, .. } => write_state_order(f, order, count),
     }
+}
+
+/// `there is no table 3: the block has 2 tables`.
+fn write_absent<W: fmt::Write>(
+    f: &mut Formatter<W>,
+    number: u64,
+    count: Option<usize>,
+    one: &str,
+    many: &str,
+) -> fmt::Result {
+    write!(f, "there is no {one} {number}")?;
+    write_count(f, "the block has", count, one, many)
 }
 
 /// `: the block has 2 tables`, if the number is known.
@@ -69,8 +75,10 @@ fn write_count<W: fmt::Write>(
     match count {
         None => Ok(()),
         Some(0) => write!(f, ": {has} no {many}"),
-        Some(1) => write!(f, ": {has} 1 {one}"),
-        Some(count) => write!(f, ": {has} {count} {many}"),
+        Some(count) => {
+            let noun = if count == 1 { one } else { many };
+            write!(f, ": {has} {count} {noun}")
+        }
     }
 }
 

@@ -66,11 +66,9 @@ impl<'a> Lines<'a> {
 /// The place of a byte that stands before a place.
 fn before(script: &str, last: Located, offset: usize) -> LineColumn {
     let between = script.get(offset..last.offset).unwrap_or("");
-    let breaks = between
-        .as_bytes()
-        .iter()
-        .filter(|byte| **byte == b'\n')
-        .count();
+    let breaks = behind(Located::first().place, between)
+        .line
+        .saturating_sub(1);
     let head = script.get(..offset).unwrap_or("");
     let line_head = match head.rsplit_once('\n') {
         Some((_, line_head)) => line_head,

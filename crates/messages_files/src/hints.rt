@@ -80,12 +80,12 @@ fn is_heading(table: &Table, record: &FileRecord, column: usize) -> bool {
 
 /// Whether a heading names a column, in letters of whatever case and with other signs between its words.
 fn names(heading: &[u8], column: &str) -> bool {
-    let column = column.as_bytes();
+    for (one, other) in heading.iter().zip(column.as_bytes()) {
+        if folded(*one) != folded(*other) {
+            return false;
+        }
+    }
     heading.len() == column.len()
-        && heading
-            .iter()
-            .zip(column.iter())
-            .all(|(one, other)| folded(*one) == folded(*other))
 }
 
 fn folded(byte: u8) -> u8 {
@@ -114,10 +114,7 @@ fn lacks_numbers(table: &Table, record: &FileRecord) -> bool {
 
 /// Which character of a text can't be stored.
 fn write_character_hint<W: fmt::Write>(f: &mut Formatter<W>, field: &[u8]) -> fmt::Result {
-    let before = field
-        .iter()
-        .take_while(|byte| matches!(**byte, 0x20..=0x7e))
-        .count();
+    let before = printable_length(field);
     let rest = field.get(before..).unwrap_or(b"");
     write!(f, "hint: character {} is ", before.saturating_add(1))?;
     match rest {
@@ -135,10 +132,24 @@ fn write_character_hint<W: fmt::Write>(f: &mut Formatter<W>, field: &[u8]) -> fm
     }
 }
 
+/// How many bytes of printable ASCII a field begins with.
+fn printable_length(field: &[u8]) -> usize {
+    let mut length: usize = 0;
+    for byte in field {
+        if !matches!(*byte, 0x20..=0x7e) {
+            break;
+        }
+        length = length.saturating_add(1);
+    }
+    length
+}
+
 /// The character that some bytes begin with, if they are UTF-8 there.
 fn first_character(bytes: &[u8]) -> Option<char> {
-    for length in 1..=4 {
-        let head = bytes.get(..length)?;
+    for length in 1..5 {
+        let Some(head) = bytes.get(..length) else {
+            return None;
+        };
         if let Ok(text) = str::from_utf8(head) {
             return text.chars().next();
         }

@@ -9,5 +9,5 @@ mod survey;
 
 pub use hints::write_record_hint;
 pub use record::{FileRecord, write_record};
-pub use repeated::write_repeated;
+pub use repeated::{write_key, write_repeated};
 pub use survey::write_survey;

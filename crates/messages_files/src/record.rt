@@ -28,12 +28,8 @@ impl<'a> FileRecord<'a> {
     /// it has no fields.
     pub fn new(alloc: Global, bytes: &'a [u8], start: u64, line: u64) -> FileRecord<'a> {
         let behind = bytes.get(start as usize..).unwrap_or(b"");
-        let ends = behind
-            .iter()
-            .take_while(|byte| matches!(**byte, b'\n' | b'\r'))
-            .count();
-        let (blank, rest) = behind.split_at(ends.min(behind.len()));
-        let feeds = blank.iter().filter(|byte| **byte == b'\n').count();
+        let (blank, rest) = behind.split_at(blank_length(behind).min(behind.len()));
+        let feeds = count_of(b'\n', blank);
         let (fields, length) = match fields_at(alloc, rest) {
             Ok((fields, length)) => (Some(fields), length),
             Err(_) => (None, 0),
@@ -60,8 +56,7 @@ impl<'a> FileRecord<'a> {
         if self.length < self.rest.len() || !self.rest.contains(&b'\n') {
             return false;
         }
-        let quotes = self.rest.iter().filter(|byte| **byte == b'"').count();
-        quotes % 2 == 1
+        count_of(b'"', self.rest) % 2 == 1
     }
 
     /// Whether its first field holds a byte.
@@ -73,6 +68,27 @@ impl<'a> FileRecord<'a> {
     pub(crate) fn is_utf16(&self) -> bool {
         self.is_utf16
     }
+}
+
+/// How many bytes stand before the first that ends no line.
+fn blank_length(bytes: &[u8]) -> usize {
+    for (length, byte) in bytes.iter().enumerate() {
+        if !matches!(*byte, b'\n' | b'\r') {
+            return length;
+        }
+    }
+    bytes.len()
+}
+
+/// How often a byte stands in a text.
+fn count_of(wanted: u8, bytes: &[u8]) -> usize {
+    let mut count: usize = 0;
+    for byte in bytes {
+        if *byte == wanted {
+            count = count.saturating_add(1);
+        }
+    }
+    count
 }
 
 /// Whether bytes begin with a mark of UTF-16.

@@ -20,7 +20,7 @@ pub fn write_repeated<W: fmt::Write>(
 }
 
 /// The columns of an index: `(A, B)`.
-fn write_key<W: fmt::Write>(f: &mut Formatter<W>, table: &Table, index: &Index) -> fmt::Result {
+pub fn write_key<W: fmt::Write>(f: &mut Formatter<W>, table: &Table, index: &Index) -> fmt::Result {
     let mut separator = "(";
     for column in index.columns() {
         if *column < table.width() {

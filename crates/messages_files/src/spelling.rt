@@ -40,21 +40,31 @@ pub(crate) fn spelling_of(field: &[u8]) -> Spelling {
 
 /// Whether a sign of a currency or % stands in a field.
 fn has_sign(field: &[u8]) -> bool {
-    match str::from_utf8(field) {
-        Ok(text) => text.chars().any(|character| matches!(
-            character,
-            '$' | '%' | '\u{a3}' | '\u{a5}' | '\u{20ac}'
-        )),
-        Err(_) => false,
+    for character in str::from_utf8(field).unwrap_or("").chars() {
+        if matches!(character, '$' | '%' | '\u{a3}' | '\u{a5}' | '\u{20ac}') {
+            return true;
+        }
     }
+    false
 }
 
 pub(crate) fn has_digit(field: &[u8]) -> bool {
-    field.iter().any(|byte| byte.is_ascii_digit())
+    for byte in field {
+        if byte.is_ascii_digit() {
+            return true;
+        }
+    }
+    false
 }
 
 /// Whether a field says that nothing is there, as other programs write it.
 fn is_missing(field: &[u8]) -> bool {
-    let words: [&[u8]; 6] = [b"\\N", b"NULL", b"NONE", b"NA", b"N/A", b"NAN"];
-    words.iter().any(|word| field.eq_ignore_ascii_case(word))
+    for word in &MISSING {
+        if field.eq_ignore_ascii_case(word) {
+            return true;
+        }
+    }
+    false
 }
+
+static MISSING: [&[u8]; 6] = [b"\\N", b"NULL", b"NONE", b"NA", b"N/A", b"NAN"];

@@ -48,15 +48,25 @@ impl Kind {
 
     /// What is told of fields of the kind, behind how many they are.
     fn write<W: fmt::Write>(self, f: &mut Formatter<W>, sql_type: SqlType) -> fmt::Result {
+        let words = self.words();
         match self {
-            Kind::Null => f.write_str("null"),
-            Kind::NoNumber(spelling) => f.write_str(words_of(spelling)),
-            Kind::ManyDigits => write!(f, "with more than {MAX_DIGITS} digits"),
-            Kind::TooFine => write!(f, "with too many digits behind the point for {sql_type}"),
-            Kind::TooGreat => write!(f, "out of the range of {sql_type}"),
-            Kind::TooLong => write!(f, "too long for {sql_type}"),
-            Kind::LineBreak => f.write_str("with a line break"),
-            Kind::Unprintable => f.write_str("with a character that is not printable ASCII"),
+            Kind::TooFine | Kind::TooGreat | Kind::TooLong => write!(f, "{words} {sql_type}"),
+            Kind::ManyDigits => write!(f, "{words} {MAX_DIGITS} digits"),
+            _ => f.write_str(words),
+        }
+    }
+
+    /// The words of it before a type or a number, if it tells one.
+    fn words(self) -> &'static str {
+        match self {
+            Kind::Null => "null",
+            Kind::NoNumber(spelling) => words_of(spelling),
+            Kind::ManyDigits => "with more than",
+            Kind::TooFine => "with too many digits behind the point for",
+            Kind::TooGreat => "out of the range of",
+            Kind::TooLong => "too long for",
+            Kind::LineBreak => "with a line break",
+            Kind::Unprintable => "with a character that is not printable ASCII",
         }
     }
 
@@ -86,30 +96,27 @@ struct Tally {
     example: Vec<u8>,
 }
 
-/// The kinds of faults of a column, in the order in which they were met.
-#[derive(Drop)]
-struct ColumnFaults {
-    tallies: Vec<Tally>,
-}
-
-impl ColumnFaults {
-    fn count(&mut self, alloc: Global, kind: Kind, field: &[u8]) -> Result<(), AllocError> {
-        for tally in self.tallies.iter_mut() {
-            if tally.kind == kind {
-                tally.count = tally.count.saturating_add(1);
-                return Ok(());
-            }
+/// Counts a fault of a column, whose tallies stand in the order in which their kinds were met.
+fn count_fault(
+    alloc: Global,
+    tallies: &mut Vec<Tally>,
+    kind: Kind,
+    field: &[u8],
+) -> Result<(), AllocError> {
+    for tally in tallies.iter_mut() {
+        if tally.kind == kind {
+            tally.count = tally.count.saturating_add(1);
+            return Ok(());
         }
-        let shown = field.get(..EXAMPLE).unwrap_or(field);
-        let mut example = Vec::new(alloc);
-        example.extend_from_slice(shown)?;
-        self.tallies.push(Tally {
-            kind,
-            count: 1,
-            example,
-        })?;
-        Ok(())
     }
+    let mut example = Vec::new(alloc);
+    example.extend_from_slice(field.get(..EXAMPLE).unwrap_or(field))?;
+    tallies.push(Tally {
+        kind,
+        count: 1,
+        example,
+    })?;
+    Ok(())
 }
 
 /// What is wrong with the records of a file for a table.
@@ -120,7 +127,8 @@ struct Survey<'t> {
     faulty: u64,
     /// How many records have another number of fields than the table has columns.
     of_other_width: u64,
-    columns: Vec<ColumnFaults>,
+    /// What is wrong with the fields of each column.
+    columns: Vec<Vec<Tally>>,
 }
 
 impl<'t> Survey<'t> {
@@ -134,9 +142,7 @@ impl<'t> Survey<'t> {
             columns: Vec::new(alloc),
         };
         for _ in 0..table.width() {
-            survey.columns.push(ColumnFaults {
-                tallies: Vec::new(alloc),
-            })?;
+            survey.columns.push(Vec::new(alloc))?;
         }
         let mut reader = ReaderBuilder::new()
             .has_headers(false)
@@ -156,27 +162,29 @@ impl<'t> Survey<'t> {
 
     fn count_record(&mut self, alloc: Global, record: &ByteRecord) -> Result<(), AllocError> {
         self.records = self.records.saturating_add(1);
-        let table = self.table;
-        if record.len() != table.width() {
+        if record.len() != self.table.width() {
             self.of_other_width = self.of_other_width.saturating_add(1);
             self.faulty = self.faulty.saturating_add(1);
-            return Ok(());
-        }
-        let mut is_faulty = false;
-        for column in 0..table.width() {
-            let field = record.get(column).unwrap_or(b"");
-            let Some(fault) = table.judge_field(column, field) else {
-                continue;
-            };
-            is_faulty = true;
-            if let Some(faults) = self.columns.get_mut(column) {
-                faults.count(alloc, Kind::of(fault, field), field)?;
-            }
-        }
-        if is_faulty {
+        } else if self.count_fields(alloc, record)? {
             self.faulty = self.faulty.saturating_add(1);
         }
         Ok(())
+    }
+
+    /// Counts the faults of a record's fields, and tells whether there is one.
+    fn count_fields(&mut self, alloc: Global, record: &ByteRecord) -> Result<bool, AllocError> {
+        let mut is_faulty = false;
+        let table = self.table;
+        for column in 0..table.width() {
+            let field = record.get(column).unwrap_or(b"");
+            if let Some(fault) = table.judge_field(column, field)
+                && let Some(tallies) = self.columns.get_mut(column)
+            {
+                is_faulty = true;
+                count_fault(alloc, tallies, Kind::of(fault, field), field)?;
+            }
+        }
+        Ok(is_faulty)
     }
 
     fn write<W: fmt::Write>(&self, f: &mut Formatter<W>) -> fmt::Result {
@@ -189,14 +197,14 @@ impl<'t> Survey<'t> {
             let (count, width) = (self.of_other_width, self.table.width());
             writeln!(f, "  {count} with another number of fields than {width}")?;
         }
-        for (column, faults) in self.columns.iter().enumerate() {
-            if column < self.table.width() && !faults.tallies.is_empty() {
+        for (column, tallies) in self.columns.iter().enumerate() {
+            if column < self.table.width() && !tallies.is_empty() {
                 let (name, sql_type) = (
                     self.table.column_name(column),
                     self.table.sql_type(column),
                 );
                 write!(f, "  {name}: ")?;
-                write_faults(f, faults, sql_type)?;
+                write_faults(f, tallies, sql_type)?;
             }
         }
         Ok(())
@@ -206,11 +214,11 @@ impl<'t> Survey<'t> {
 /// `140 empty, 153 with a comma ('1,200')`.
 fn write_faults<W: fmt::Write>(
     f: &mut Formatter<W>,
-    faults: &ColumnFaults,
+    tallies: &[Tally],
     sql_type: SqlType,
 ) -> fmt::Result {
     let mut separator = "";
-    for tally in &faults.tallies {
+    for tally in tallies {
         write!(f, "{separator}{} ", tally.count)?;
         tally.kind.write(f, sql_type)?;
         if tally.kind.has_example() {

@@ -11,27 +11,13 @@ pub(crate) fn blocks_around<'q>(
     query: &'q Select,
     offset: usize,
 ) -> Result<Vec<&'q Block>, AllocError> {
-    let mut path = Path {
-        offset,
-        blocks: Vec::new(alloc),
-        begun: 0,
-        wanted: usize::MAX,
-        found: None,
-    };
-    path.enter_block(&query.block)?;
+    let path = walk(alloc, query, offset, usize::MAX)?;
     Ok(path.blocks)
 }
 
 /// How many query blocks a query has. An `Err` is want of memory.
 pub(crate) fn count_blocks(alloc: Global, query: &Select) -> Result<usize, AllocError> {
-    let mut path = Path {
-        offset: usize::MAX,
-        blocks: Vec::new(alloc),
-        begun: 0,
-        wanted: usize::MAX,
-        found: None,
-    };
-    path.enter_block(&query.block)?;
+    let path = walk(alloc, query, usize::MAX, usize::MAX)?;
     Ok(path.begun)
 }
 
@@ -41,15 +27,26 @@ pub fn block_of_number<'q>(
     query: &'q Select,
     number: usize,
 ) -> Result<Option<&'q Block>, AllocError> {
+    let path = walk(alloc, query, usize::MAX, number)?;
+    Ok(path.found)
+}
+
+/// The way to a byte of a query, which looks for the block of a number.
+fn walk<'q>(
+    alloc: Global,
+    query: &'q Select,
+    offset: usize,
+    wanted: usize,
+) -> Result<Path<'q>, AllocError> {
     let mut path = Path {
-        offset: usize::MAX,
+        offset,
         blocks: Vec::new(alloc),
         begun: 0,
-        wanted: number,
+        wanted,
         found: None,
     };
     path.enter_block(&query.block)?;
-    Ok(path.found)
+    Ok(path)
 }
 
 /// A way from the outermost block to a place.

@@ -32,17 +32,19 @@ fn write_lacking<W: fmt::Write>(
 ) -> fmt::Result {
     write!(f, "table {table} has no column {name}")?;
     match sight.with_column(name) {
-        Ok(others) if !others.is_empty() => {
-            f.write_str(": ")?;
-            others.write_tables(f)?;
-            f.write_str(if others.only().is_some() {
-                " has it"
-            } else {
-                " have it"
-            })
-        }
-        _ => Ok(()),
+        Some(others) => write_having(f, &others),
+        None => Ok(()),
     }
+}
+
+/// `: PUPILS has it`.
+fn write_having<W: fmt::Write>(f: &mut Formatter<W>, others: &TablesInSight) -> fmt::Result {
+    write_list(f, others)?;
+    f.write_str(if others.only().is_some() {
+        " has it"
+    } else {
+        " have it"
+    })
 }
 
 /// That no table is called by a column's qualifier.
@@ -54,15 +56,27 @@ fn write_not_called<W: fmt::Write>(
 ) -> fmt::Result {
     let wanted = qualifier.text.as_str();
     write!(f, "there is no column {wanted}.{name}: ")?;
-    match sight.of_table(wanted) {
-        Ok(named) if !named.is_empty() => {
-            write!(f, "table {wanted} is called ")?;
-            named.write_called(f)?;
-            f.write_str(" here")
-        }
-        _ if sight.is_one_block() => write!(f, "this FROM has no table {wanted}"),
-        _ => write!(f, "no FROM around it has a table {wanted}"),
+    if let Ok(named) = sight.of_table(wanted)
+        && !named.is_empty()
+    {
+        return write_called(f, &named, wanted);
     }
+    if sight.is_one_block() {
+        write!(f, "this FROM has no table {wanted}")
+    } else {
+        write!(f, "no FROM around it has a table {wanted}")
+    }
+}
+
+/// `table PUPILS is called P here`.
+fn write_called<W: fmt::Write>(
+    f: &mut Formatter<W>,
+    named: &TablesInSight,
+    wanted: &str,
+) -> fmt::Result {
+    write!(f, "table {wanted} is called ")?;
+    named.write_called(f)?;
+    f.write_str(" here")
 }
 
 /// Writes which column may have been meant as a line, where one is sure.
@@ -78,14 +92,17 @@ pub(crate) fn write_no_column_hint<W: fmt::Write>(
     let wanted = qualifier.text.as_str();
     if let Some(table) = sight.called(wanted) {
         return match sight.with_column(name) {
-            Ok(others) if !others.is_empty() => write_to_write(f, &others, name),
-            _ => write_near_in(f, sight, table, name),
+            Some(others) => write_to_write(f, &others, name),
+            None => write_near_in(f, sight, table, name),
         };
     }
-    match sight.of_table(wanted) {
-        Ok(named) if !named.is_empty() => write_renamed(f, &named, name),
-        Ok(_) => write_near_table(f, sight, wanted, name),
-        Err(_) => Ok(()),
+    let Ok(named) = sight.of_table(wanted) else {
+        return Ok(());
+    };
+    if named.is_empty() {
+        write_near_table(f, sight, wanted, name)
+    } else {
+        write_renamed(f, &named, name)
     }
 }
 
@@ -96,10 +113,10 @@ pub(crate) fn write_unknown_value_hint<W: fmt::Write>(
     column: &ColumnReference,
 ) -> fmt::Result {
     let name = column.name.text.as_str();
-    match (&column.qualifier, sight.with_column(name)) {
-        (None, Ok(those)) if those.is_empty() => writeln!(f, "hint: there is no column {name}"),
-        _ => Ok(()),
+    if column.qualifier.is_some() || sight.has_column(name) {
+        return Ok(());
     }
+    writeln!(f, "hint: there is no column {name}")
 }
 
 /// The column of a table that isn't called by its own name here.
@@ -109,8 +126,8 @@ fn write_renamed<W: fmt::Write>(
     name: &str,
 ) -> fmt::Result {
     match named.with_column(name) {
-        Ok(those) if !those.is_empty() => write_to_write(f, &those, name),
-        _ => write_nearest_of(f, named, name),
+        Some(those) => write_to_write(f, &those, name),
+        None => write_nearest_of(f, named, name),
     }
 }
 
@@ -136,12 +153,8 @@ fn write_nearest_of<W: fmt::Write>(
         return Ok(());
     };
     match sight.with_column(near) {
-        Ok(those) => {
-            f.write_str("hint: did you mean ")?;
-            those.write_columns(f, near)?;
-            f.write_str("?\n")
-        }
-        Err(_) => Ok(()),
+        Some(those) => write_columns_hint(f, "hint: did you mean ", &those, near, "?\n"),
+        None => Ok(()),
     }
 }
 
@@ -178,9 +191,20 @@ fn write_to_write<W: fmt::Write>(
     those: &TablesInSight,
     name: &str,
 ) -> fmt::Result {
-    f.write_str("hint: write ")?;
+    write_columns_hint(f, "hint: write ", those, name, "\n")
+}
+
+/// A hint of the columns of a name, between words.
+fn write_columns_hint<W: fmt::Write>(
+    f: &mut Formatter<W>,
+    before: &str,
+    those: &TablesInSight,
+    name: &str,
+    behind: &str,
+) -> fmt::Result {
+    f.write_str(before)?;
     those.write_columns(f, name)?;
-    f.write_str("\n")
+    f.write_str(behind)
 }
 
 /// Writes that several tables have a column, as one line without its end.
@@ -191,12 +215,15 @@ pub(crate) fn write_ambiguous<W: fmt::Write>(
 ) -> fmt::Result {
     write!(f, "more than one table has a column {name}")?;
     match sight.with_column(name) {
-        Ok(those) => {
-            f.write_str(": ")?;
-            those.write_tables(f)
-        }
-        Err(_) => Ok(()),
+        Some(those) => write_list(f, &those),
+        None => Ok(()),
     }
+}
+
+/// `: A and B`.
+fn write_list<W: fmt::Write>(f: &mut Formatter<W>, those: &TablesInSight) -> fmt::Result {
+    f.write_str(": ")?;
+    those.write_tables(f)
 }
 
 /// Writes the ways to name such a column as a line.
@@ -206,7 +233,7 @@ pub(crate) fn write_ambiguous_hint<W: fmt::Write>(
     name: &str,
 ) -> fmt::Result {
     match sight.with_column(name) {
-        Ok(those) => write_to_write(f, &those, name),
-        Err(_) => Ok(()),
+        Some(those) => write_to_write(f, &those, name),
+        None => Ok(()),
     }
 }

@@ -17,61 +17,49 @@ pub(crate) fn write_limit<W: fmt::Write>(
     query: &Select,
     fault: QueryFault,
 ) -> fmt::Result {
-    match fault {
-        QueryFault::ManyTables(name) => {
-            write!(f, "a FROM has at most {MAX_FROM_TABLES} tables")?;
-            write_found(f, tables_around(alloc, query, name))
-        }
-        QueryFault::ManyBlocks(_) => {
-            write!(
-                f,
-                "a query has at most {MAX_BLOCKS} SELECTs, those of its subqueries among them"
-            )?;
-            write_found(f, count_blocks(alloc, query).ok())
-        }
-        QueryFault::ManyKeys(_) => {
-            write!(f, "ORDER BY takes at most {MAX_KEYS} keys")?;
-            write_found(f, Some(query.order.len()))
-        }
-        QueryFault::GreatScale(numeral) => {
-            write!(
-                f,
-                "a number has at most {MAX_SCALE} digits behind the point"
-            )?;
-            write_found(f, Some(usize::from(numeral.scale)))
-        }
-        QueryFault::GreatProduct(_) => write!(
-            f,
-            "a product has at most {MAX_SCALE} digits behind the point"
-        ),
-        QueryFault::ManyConjuncts(condition) => {
-            write!(
-                f,
-                "a WHERE has at most {MAX_CONJUNCTS} conditions joined by AND"
-            )?;
-            write_found(f, Some(count_conjuncts(condition)))
-        }
-        QueryFault::ManyMembers(list) => {
-            write!(f, "a list of IN has at most {MAX_MEMBERS} members")?;
-            write_found(f, members_of(list))
-        }
-        QueryFault::ManyItems(block) => {
-            write!(f, "a select list has at most {MAX_ITEMS} items")?;
-            write_found(f, items_of(block))
-        }
-        QueryFault::ManyGroups(block) => {
-            write!(f, "GROUP BY takes at most {MAX_GROUP_COLUMNS} columns")?;
-            write_found(f, Some(block.groups.len()))
-        }
-        _ => Ok(()),
+    let Some((whole, most, parts)) = limit_of(fault) else {
+        return Ok(());
+    };
+    write!(f, "{whole} at most {most} {parts}")?;
+    match count_of(alloc, query, fault) {
+        Some(count) => write!(f, ", and this one has {count}"),
+        None => Ok(()),
     }
 }
 
-/// How many there are, where it is known.
-fn write_found<W: fmt::Write>(f: &mut Formatter<W>, count: Option<usize>) -> fmt::Result {
-    match count {
-        Some(count) => write!(f, ", and this one has {count}"),
-        None => Ok(()),
+/// A limit of queries: what has it, the number, and of what.
+fn limit_of(fault: QueryFault) -> Option<(&'static str, usize, &'static str)> {
+    let limit = match fault {
+        QueryFault::ManyTables(_) => ("a FROM has", MAX_FROM_TABLES, "tables"),
+        QueryFault::ManyBlocks(_) => ("a query has", MAX_BLOCKS, SELECTS),
+        QueryFault::ManyKeys(_) => ("ORDER BY takes", MAX_KEYS, "keys"),
+        QueryFault::GreatScale(_) => ("a number has", usize::from(MAX_SCALE), DIGITS),
+        QueryFault::GreatProduct(_) => ("a product has", usize::from(MAX_SCALE), DIGITS),
+        QueryFault::ManyConjuncts(_) => ("a WHERE has", MAX_CONJUNCTS, "conditions joined by AND"),
+        QueryFault::ManyMembers(_) => ("a list of IN has", MAX_MEMBERS, "members"),
+        QueryFault::ManyItems(_) => ("a select list has", MAX_ITEMS, "items"),
+        QueryFault::ManyGroups(_) => ("GROUP BY takes", MAX_GROUP_COLUMNS, "columns"),
+        _ => return None,
+    };
+    Some(limit)
+}
+
+const SELECTS: &str = "SELECTs, those of its subqueries among them";
+
+const DIGITS: &str = "digits behind the point";
+
+/// How many there are of what passes a limit, where that is known.
+fn count_of(alloc: Global, query: &Select, fault: QueryFault) -> Option<usize> {
+    match fault {
+        QueryFault::ManyTables(name) => tables_around(alloc, query, name),
+        QueryFault::ManyBlocks(_) => count_blocks(alloc, query).ok(),
+        QueryFault::ManyKeys(_) => Some(query.order.len()),
+        QueryFault::GreatScale(numeral) => Some(usize::from(numeral.scale)),
+        QueryFault::ManyConjuncts(condition) => Some(count_conjuncts(condition)),
+        QueryFault::ManyMembers(list) => members_of(list),
+        QueryFault::ManyItems(block) => items_of(block),
+        QueryFault::ManyGroups(block) => Some(block.groups.len()),
+        _ => None,
     }
 }
 

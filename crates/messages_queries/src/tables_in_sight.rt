@@ -115,7 +115,7 @@ impl<'s> TablesInSight<'s> {
         None
     }
 
-    /// Those of the table of a name, whatever they are called.
+    /// Those of the table of a name, whatever they are called. An `Err` is want of memory.
     pub(crate) fn of_table(&self, name: &str) -> Result<TablesInSight<'s>, AllocError> {
         let mut found = self.none();
         for table in &self.tables {
@@ -126,8 +126,8 @@ impl<'s> TablesInSight<'s> {
         Ok(found)
     }
 
-    /// Those of the innermost block that has a column of a name.
-    pub(crate) fn with_column(&self, name: &str) -> Result<TablesInSight<'s>, AllocError> {
+    /// Those of the innermost block that has a column of a name; nothing where there is none, or memory is wanting.
+    pub(crate) fn with_column(&self, name: &str) -> Option<TablesInSight<'s>> {
         let mut found = self.none();
         let mut level = 0;
         for table in &self.tables {
@@ -138,9 +138,21 @@ impl<'s> TablesInSight<'s> {
                 found.tables.clear();
                 level = table.level;
             }
-            found.tables.extend_from_slice(&[*table])?;
+            if found.tables.extend_from_slice(&[*table]).is_err() {
+                return None;
+            }
         }
-        Ok(found)
+        if found.is_empty() { None } else { Some(found) }
+    }
+
+    /// Whether one of them has a column of a name.
+    pub(crate) fn has_column(&self, name: &str) -> bool {
+        for table in &self.tables {
+            if table.has_column(name) {
+                return true;
+            }
+        }
+        false
     }
 
     fn none(&self) -> TablesInSight<'s> {
@@ -173,7 +185,10 @@ impl<'s> TablesInSight<'s> {
         for table in self.tables.iter().rev() {
             nearest.offer(table.called());
         }
-        self.called(nearest.name()?)
+        match nearest.name() {
+            Some(name) => self.called(name),
+            None => None,
+        }
     }
 
     /// `A, B (called X) and C`.

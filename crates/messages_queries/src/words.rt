@@ -105,20 +105,19 @@ fn write_misplaced<W: fmt::Write>(
     fault: QueryFault,
     column: Written,
 ) -> fmt::Result {
-    match fault {
-        QueryFault::GroupNotOwn(_) => write!(
-            f,
-            "GROUP BY takes columns of its own FROM, and {column} is none"
-        ),
-        QueryFault::OuterInFunction(_) => write!(
-            f,
-            "a set function can't take {column}, a column of the query around"
-        ),
-        _ => write!(
-            f,
-            "{column} stands neither in GROUP BY nor in a set function"
-        ),
-    }
+    let (before, behind) = match fault {
+        QueryFault::GroupNotOwn(_) => {
+            ("GROUP BY takes columns of its own FROM, and ", " is none")
+        }
+        QueryFault::OuterInFunction(_) => {
+            (
+                "a set function can't take ",
+                ", a column of the query around",
+            )
+        }
+        _ => ("", " stands neither in GROUP BY nor in a set function"),
+    };
+    write!(f, "{before}{column}{behind}")
 }
 
 /// That a key of ORDER BY stands for no result column.

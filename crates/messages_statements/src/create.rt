@@ -41,10 +41,7 @@ pub(crate) fn write_create<W: fmt::Write>(
         CreateFault::ManyKeys => write!(
             f,
             "a table has at most {MAX_INDEXES} indexes, and this one has {} columns that are UNIQUE or PRIMARY KEY",
-            columns
-                .iter()
-                .filter(|column| is_key(column.constraint))
-                .count()
+            count_keys(columns)
         ),
         CreateFault::TwoPrimaryKeys { .. } => {
             write!(f, "{at_fault} can't be PRIMARY KEY: ")?;
@@ -71,8 +68,18 @@ fn write_first_primary<W: fmt::Write>(
     Ok(())
 }
 
-fn is_key(constraint: Constraint) -> bool {
-    matches!(constraint, Constraint::Unique | Constraint::PrimaryKey)
+/// How many columns are UNIQUE or PRIMARY KEY.
+fn count_keys(columns: &[ColumnDefinition]) -> usize {
+    let mut count: usize = 0;
+    for column in columns {
+        if matches!(
+            column.constraint,
+            Constraint::Unique | Constraint::PrimaryKey
+        ) {
+            count = count.saturating_add(1);
+        }
+    }
+    count
 }
 
 fn write_type<W: fmt::Write>(

@@ -2,7 +2,7 @@
 
 use crate::list::{Listed, name_at, name_in_list, write_list};
 use catalog::{Database, IndexFault, MAX_INDEXES, RepeatedKey};
-use sqlr::ColumnList;
+use diagnostics::ColumnList;
 use std::fmt::{self, Formatter};
 use syntax::{Constraint, Name};
 

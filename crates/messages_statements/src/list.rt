@@ -1,8 +1,8 @@
 //! Lists of columns of a table, and why they stand for none.
 
 use catalog::{Database, ListFault, MAX_INDEX_COLUMNS};
+use diagnostics::ColumnList;
 use messages_queries::{write_near_column, write_near_table};
-use sqlr::ColumnList;
 use std::alloc::Global;
 use std::fmt::{self, Display, Formatter};
 use syntax::Name;

@@ -3,9 +3,9 @@
 use crate::create::name_at_fault;
 use crate::index::name_of_index;
 use crate::statistics::{offset_of_statistics, offset_of_table_statistics};
+use diagnostics::Cause;
 use lexer::LexFault;
 use messages_queries::offset_of_fault;
-use sqlr::Cause;
 
 /// The byte of the script that a cause is about. A missing token is told behind the one before it.
 pub(crate) fn offset_of(cause: &Cause) -> usize {

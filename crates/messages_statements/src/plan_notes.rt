@@ -4,10 +4,11 @@ ghost use Rattle.std.specs.Prelude.{◌<◌, length};
 
 use crate::refused_loads::RefusedLoads;
 use catalog::{Database, Table};
+use diagnostics::{PlanNote, PlanNoteKind, Planned, TableSet};
 use messages_excerpts::{LineColumn, Lines};
+use messages_files::write_key;
 use messages_queries::{block_of_number, name_in_sight};
 use query_tree::Block;
-use sqlr::{PlanNote, PlanNoteKind, Planned, TableSet};
 use std::alloc::Global;
 use std::fmt::{self, Display, Formatter};
 use syntax::Block as WrittenBlock;
@@ -26,13 +27,19 @@ pub struct PlanReport<'r> {
 impl PlanReport<'_> {
     /// Whether there is nothing to tell.
     pub fn is_empty(&self) -> bool {
-        let has_refused = self.planned.blocks.iter().any(|block| {
-            block
-                .tables
-                .iter()
-                .any(|table| self.refused_load(*table).is_some())
-        });
-        self.planned.notes.is_empty() && !has_refused
+        self.planned.notes.is_empty() && !self.has_refused_load()
+    }
+
+    /// Whether the LOAD of a table was refused that is empty.
+    fn has_refused_load(&self) -> bool {
+        for block in self.planned.blocks {
+            for table in &block.tables {
+                if self.refused_load(*table).is_some() {
+                    return true;
+                }
+            }
+        }
+        false
     }
 
     /// Where the LOAD of a table was refused that is empty, by its place in the database.
@@ -64,11 +71,13 @@ impl PlanReport<'_> {
             block,
             written,
         };
-        for note in self.planned.notes.iter().filter(|it| it.block == number) {
-            self.write_place(f, place)?;
-            write!(f, "block {}: ", number.saturating_add(1))?;
-            noted.write_note(f, note)?;
-            f.write_str("\n")?;
+        for note in self.planned.notes {
+            if note.block == number {
+                self.write_place(f, place)?;
+                write!(f, "block {}: ", number.saturating_add(1))?;
+                noted.write_note(f, note)?;
+                f.write_str("\n")?;
+            }
         }
         Ok(())
     }
@@ -90,7 +99,7 @@ impl PlanReport<'_> {
         let before = self.planned.blocks.get(..number).unwrap_or(&[]);
         let mut seen: &[usize] = &[];
         for (count, table) in block.tables.iter().enumerate() {
-            let is_told = seen.contains(table) || before.iter().any(|it| it.tables.contains(table));
+            let is_told = seen.contains(table) || has_table(before, *table);
             seen = block.tables.get(..=count).unwrap_or(&[]);
             if !is_told {
                 self.write_refused_load(f, place, *table)?;
@@ -120,6 +129,16 @@ impl PlanReport<'_> {
         }
         Ok(())
     }
+}
+
+/// Whether a table stands in one of some blocks.
+fn has_table(blocks: &[Block], table: usize) -> bool {
+    for block in blocks {
+        if block.tables.contains(&table) {
+            return true;
+        }
+    }
+    false
 }
 
 impl Display for PlanReport<'_> {
@@ -250,13 +269,6 @@ fn write_empty_table<W: fmt::Write>(f: &mut Formatter<W>, table: &Table) -> fmt:
 fn write_index<W: fmt::Write>(f: &mut Formatter<W>, table: &Table, index: usize) -> fmt::Result
     requires { index < length table.now.indexes }
 {
-    f.write_str(table.name())?;
-    let mut separator = " (";
-    for column in table.index(index).columns() {
-        if *column < table.width() {
-            write!(f, "{separator}{}", table.column_name(*column))?;
-            separator = ", ";
-        }
-    }
-    f.write_str(")")
+    write!(f, "{} ", table.name())?;
+    write_key(f, table, table.index(index))
 }

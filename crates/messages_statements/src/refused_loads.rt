@@ -1,8 +1,8 @@
 //! The tables whose LOAD was refused, so that a query over one that is empty can say why it is.
 
 use catalog::Database;
+use diagnostics::Cause;
 use messages_excerpts::LineColumn;
-use sqlr::Cause;
 use std::alloc::{AllocError, Global};
 use syntax::Name;
 
@@ -24,8 +24,7 @@ impl RefusedLoads {
         let Some(name) = loaded_table(cause) else {
             return;
         };
-        let name = name.text.as_str();
-        if let Some(table) = database.tables().iter().position(|it| it.name() == name) {
+        if let Some(table) = place_of(database, name.text.as_str()) {
             let _ = self.put(table, place);
         }
     }
@@ -44,6 +43,16 @@ impl RefusedLoads {
     pub(crate) fn place(&self, table: usize) -> Option<LineColumn> {
         self.places.get(table).copied()?
     }
+}
+
+/// The place of a table in the database.
+fn place_of(database: &Database, name: &str) -> Option<usize> {
+    for (place, table) in database.tables().iter().enumerate() {
+        if table.name() == name {
+            return Some(place);
+        }
+    }
+    None
 }
 
 fn loaded_table<'a>(cause: &Cause<'a>) -> Option<&'a Name> {

@@ -17,6 +17,7 @@ use catalog::{
     Database, IndexFault, ListFault, MAX_ROWS, RefusedRecord, RepeatedRecord, StatisticsFault,
     TableStatisticsFault,
 };
+use diagnostics::{Cause, CheckedFile, ColumnList, FileLoad, Planned, Refused};
 use messages_certificates::FileReport;
 use messages_excerpts::{LineColumn, Lines, write_excerpt};
 use messages_files::{FileRecord, write_record, write_record_hint, write_repeated, write_survey};
@@ -24,7 +25,6 @@ use messages_queries::{QueryWords, write_near_table};
 use messages_syntax::{
     write_lexical, write_lexical_hint, write_too_deep, write_unexpected, write_unexpected_hint,
 };
-use sqlr::{Cause, CheckedFile, ColumnList, FileLoad, Planned, Refused};
 use sqlvalue::Raise;
 use std::alloc::Global;
 use std::fmt::{self, Display, Formatter};
@@ -242,13 +242,23 @@ impl Report<'_> {
         refused: &RefusedRecord,
     ) -> fmt::Result {
         let record = FileRecord::new(self.alloc, &load.bytes, refused.start, refused.line);
-        self.write_line(f, load, &record)?;
+        self.write_read_record(f, load, refused, &record)
+    }
+
+    fn write_read_record<W: fmt::Write>(
+        &self,
+        f: &mut Formatter<W>,
+        load: &FileLoad,
+        refused: &RefusedRecord,
+        record: &FileRecord,
+    ) -> fmt::Result {
+        self.write_line(f, load, record.line)?;
         let Some(table) = self.database.table(load.table.text.as_str()) else {
             return Ok(());
         };
-        write_record(f, table, refused, &record)?;
+        write_record(f, table, refused, record)?;
         self.write_load(f)?;
-        write_record_hint(f, table, refused, &record)?;
+        write_record_hint(f, table, refused, record)?;
         write_survey(f, self.alloc, table, &load.bytes)
     }
 
@@ -259,7 +269,17 @@ impl Report<'_> {
         repeated: &RepeatedRecord,
     ) -> fmt::Result {
         let record = FileRecord::new(self.alloc, &load.bytes, repeated.start, repeated.line);
-        self.write_line(f, load, &record)?;
+        self.write_repeated_at(f, load, repeated, record.line)
+    }
+
+    fn write_repeated_at<W: fmt::Write>(
+        &self,
+        f: &mut Formatter<W>,
+        load: &FileLoad,
+        repeated: &RepeatedRecord,
+        line: u64,
+    ) -> fmt::Result {
+        self.write_line(f, load, line)?;
         if let Some(table) = self.database.table(load.table.text.as_str()) {
             write_repeated(f, table, repeated)?;
         }
@@ -271,9 +291,9 @@ impl Report<'_> {
         &self,
         f: &mut Formatter<W>,
         load: &FileLoad,
-        record: &FileRecord,
+        line: u64,
     ) -> fmt::Result {
-        write!(f, "{}:{}: ", load.file.text, record.line)?;
+        write!(f, "{}:{line}: ", load.file.text)?;
         self.write_label(f)
     }
 

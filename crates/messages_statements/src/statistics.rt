@@ -2,7 +2,7 @@
 
 use crate::list::{Listed, name_at, name_in_list, write_list};
 use catalog::{Database, MAX_STATISTIC, RangeEnd, StatisticsFault, TableStatisticsFault};
-use sqlr::{ColumnList, StatisticsCause, TableStatisticsCause};
+use diagnostics::{ColumnList, StatisticsCause, TableStatisticsCause};
 use std::fmt::{self, Display, Formatter};
 use syntax::{Bound, Count, Range};
 
@@ -119,8 +119,16 @@ impl Display for Written<'_> {
             f.write_str("-")?;
         }
         let behind = self.0.get(self.1.number.start..).unwrap_or("");
-        let bytes = behind.as_bytes().iter();
-        let digits = bytes.take_while(|byte| matches!(**byte, b'0'..=b'9' | b'.'));
-        f.write_str(behind.get(..digits.count()).unwrap_or(""))
+        f.write_str(behind.get(..number_length(behind)).unwrap_or(""))
     }
+}
+
+/// How many digits and points a text begins with.
+fn number_length(text: &str) -> usize {
+    for (length, byte) in text.as_bytes().iter().enumerate() {
+        if !matches!(*byte, b'0'..=b'9' | b'.') {
+            return length;
+        }
+    }
+    text.len()
 }

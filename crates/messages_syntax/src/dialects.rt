@@ -40,6 +40,14 @@ impl<'s> Seen<'s> {
         self.before.eq_ignore_ascii_case(word)
     }
 
+    /// The token there where it is one byte; 0 where it is more.
+    fn found_sign(&self) -> u8 {
+        match self.found.as_bytes() {
+            [sign] => *sign,
+            _ => 0,
+        }
+    }
+
     fn is_name(&self) -> bool {
         self.unexpected.found == Some(TokenKind::Name)
     }
@@ -65,6 +73,16 @@ impl<'s> Seen<'s> {
 /// Whether a text begins with a word, behind blanks and in letters of whatever case.
 pub(crate) fn begins_with_word(text: &str, word: &str) -> bool {
     first_word(text).eq_ignore_ascii_case(word)
+}
+
+/// Whether a word, in letters of whatever case, is one of some words.
+pub(crate) fn is_one_of(word: &str, words: &[&str]) -> bool {
+    for one in words {
+        if word.eq_ignore_ascii_case(one) {
+            return true;
+        }
+    }
+    false
 }
 
 /// The letters, digits and underscores at the beginning of a text, behind blanks.
@@ -109,19 +127,23 @@ pub(crate) fn hint_for(script: &str, unexpected: &Unexpected) -> Option<&'static
 
 /// Of signs and remarks.
 fn sign_hint(seen: &Seen) -> Option<&'static str> {
-    let joined = seen.is_joined();
-    match (seen.sign, seen.found) {
-        (b'/', "*") if joined => Some(REMARK),
-        (_, "/") if seen.rest.starts_with("*") => Some(REMARK),
-        (b'=', "=") if joined => Some("equal is a single ="),
-        (b'.', "*") => Some("there is no .* here: name the columns, or write * alone"),
-        (b'*', ",") if seen.wants(TokenClass::Word(Word::From)) => {
+    if seen.is_joined() {
+        match (seen.sign, seen.found_sign()) {
+            (b'/', b'*') => return Some(REMARK),
+            (b'=', b'=') => return Some("equal is a single ="),
+            _ => {}
+        }
+    }
+    match (seen.sign, seen.found_sign()) {
+        (_, b'/') if seen.rest.starts_with("*") => Some(REMARK),
+        (b'.', b'*') => Some("there is no .* here: name the columns, or write * alone"),
+        (b'*', b',') if seen.wants(TokenClass::Word(Word::From)) => {
             Some("* stands alone: name the columns, or leave out the others")
         }
         (b'=' | b'>', _) if seen.is_word(Word::Null) => {
             Some("IS NULL asks whether a value is missing, and IS NOT NULL whether it is there")
         }
-        (b';', ";") => Some("a single ; ends a statement"),
+        (b';', b';') => Some("a single ; ends a statement"),
         (b',', _) if ends_list(seen) => Some("the comma before it is one too many"),
         _ => None,
     }
@@ -159,20 +181,14 @@ fn query_hint(seen: &Seen) -> Option<&'static str> {
 
 /// Where a query could have ended.
 fn end_hint(seen: &Seen) -> Option<&'static str> {
-    if seen.finds("JOIN") && is_outer(seen) {
-        return Some("there is no outer join: only rows that meet the condition are joined");
+    if seen.follows("JOIN") && seen.is_name() {
+        return Some(JOIN);
     }
-    if seen.finds("JOIN") || (seen.follows("JOIN") && seen.is_name()) {
-        return Some("to join tables write a comma between them, and the condition behind WHERE");
+    if seen.follows("LIMIT") && seen.is_number() {
+        return Some(LIMIT);
     }
-    if seen.finds("LIMIT") || (seen.follows("LIMIT") && seen.is_number()) {
-        return Some("there is no LIMIT: all rows are printed");
-    }
-    if seen.follows("FETCH") && (seen.finds("FIRST") || seen.finds("NEXT")) {
-        return Some("there is no FETCH: all rows are printed");
-    }
-    if seen.is_word(Word::Select) && is_set_word(seen) {
-        return Some("there is no UNION, EXCEPT or INTERSECT: a query is one SELECT");
+    if let Some(hint) = pair_hint(seen) {
+        return Some(hint);
     }
     if seen.is_word(Word::As) && seen.wants(TokenClass::Name) {
         return Some("the other name of a table stands behind it without AS");
@@ -180,9 +196,40 @@ fn end_hint(seen: &Seen) -> Option<&'static str> {
     call_hint(seen)
 }
 
-fn is_outer(seen: &Seen) -> bool {
-    seen.follows("LEFT") || seen.follows("RIGHT") || seen.follows("FULL") || seen.follows("OUTER")
+/// The hint of the first line whose two words stand there, behind one another.
+fn pair_hint(seen: &Seen) -> Option<&'static str> {
+    for (before, word, hint) in &PAIRS {
+        if seen.finds(word) && (before.is_empty() || seen.follows(before)) {
+            return Some(*hint);
+        }
+    }
+    None
 }
+
+const OUTER_JOIN: &str = "there is no outer join: only rows that meet the condition are joined";
+
+const JOIN: &str = "to join tables write a comma between them, and the condition behind WHERE";
+
+const LIMIT: &str = "there is no LIMIT: all rows are printed";
+
+const FETCH: &str = "there is no FETCH: all rows are printed";
+
+const SET_OPERATION: &str = "there is no UNION, EXCEPT or INTERSECT: a query is one SELECT";
+
+/// A word, or none for whatever stands there, and the word behind it.
+static PAIRS: [(&str, &str, &str); 11] = [
+    ("LEFT", "JOIN", OUTER_JOIN),
+    ("RIGHT", "JOIN", OUTER_JOIN),
+    ("FULL", "JOIN", OUTER_JOIN),
+    ("OUTER", "JOIN", OUTER_JOIN),
+    ("", "JOIN", JOIN),
+    ("", "LIMIT", LIMIT),
+    ("FETCH", "FIRST", FETCH),
+    ("FETCH", "NEXT", FETCH),
+    ("UNION", "SELECT", SET_OPERATION),
+    ("EXCEPT", "SELECT", SET_OPERATION),
+    ("INTERSECT", "SELECT", SET_OPERATION),
+];
 
 /// Of a parenthesis right behind a word that is no function. Where no argument stands behind it, another word or sign was meant.
 fn call_hint(seen: &Seen) -> Option<&'static str> {
@@ -206,27 +253,10 @@ fn begins_argument(text: &str) -> bool {
         text.trim_start().as_bytes(),
         [b'=' | b'<' | b'>' | b',' | b';', ..]
     );
-    let word = first_word(text);
-    !has_sign
-        && !NO_ARGUMENTS
-            .iter()
-            .any(|it| it.as_str().eq_ignore_ascii_case(word))
+    !has_sign && !is_one_of(first_word(text), &NO_ARGUMENTS)
 }
 
-static NO_ARGUMENTS: [Word; 8] = [
-    Word::Select,
-    Word::In,
-    Word::Is,
-    Word::Like,
-    Word::Between,
-    Word::And,
-    Word::Or,
-    Word::Not,
-];
-
-fn is_set_word(seen: &Seen) -> bool {
-    seen.follows("UNION") || seen.follows("EXCEPT") || seen.follows("INTERSECT")
-}
+static NO_ARGUMENTS: [&str; 8] = ["SELECT", "IN", "IS", "LIKE", "BETWEEN", "AND", "OR", "NOT"];
 
 /// Of CREATE TABLE and CREATE INDEX.
 fn definition_hint(seen: &Seen) -> Option<&'static str> {
@@ -236,11 +266,10 @@ fn definition_hint(seen: &Seen) -> Option<&'static str> {
     if seen.is_word(Word::Primary) || seen.is_word(Word::Unique) {
         return key_hint(seen);
     }
-    let is_whole = seen.follows("INT") || seen.follows("INTEGER") || seen.follows("SMALLINT");
-    if seen.found == "(" && is_whole {
+    if seen.found == "(" && is_one_of(seen.before, &WHOLE_TYPES) {
         return Some("INTEGER and SMALLINT take no number of digits");
     }
-    if seen.follows("NUMERIC") || seen.follows("DECIMAL") || seen.follows("DEC") {
+    if is_one_of(seen.before, &EXACT_TYPES) {
         return digits_hint(seen);
     }
     if seen.follows("INDEX") && seen.is_name() {
@@ -251,6 +280,12 @@ fn definition_hint(seen: &Seen) -> Option<&'static str> {
     }
     None
 }
+
+/// The types of whole numbers.
+static WHOLE_TYPES: [&str; 3] = ["INT", "INTEGER", "SMALLINT"];
+
+/// The types of numbers that tell their digits.
+static EXACT_TYPES: [&str; 3] = ["NUMERIC", "DECIMAL", "DEC"];
 
 /// Of types of numbers without their digits.
 fn digits_hint(seen: &Seen) -> Option<&'static str> {
@@ -274,32 +309,44 @@ fn key_hint(seen: &Seen) -> Option<&'static str> {
 
 /// Of types: that of the same values.
 fn type_hint(seen: &Seen) -> Option<&'static str> {
-    if seen.finds("VARCHAR")
-        || seen.finds("TEXT")
-        || seen.finds("STRING")
-        || seen.finds("NVARCHAR")
-    {
-        Some("texts are CHAR(n)")
-    } else if seen.finds("DATE")
-        || seen.finds("TIME")
-        || seen.finds("TIMESTAMP")
-        || seen.finds("DATETIME")
-    {
-        Some("dates are kept as texts: CHAR(10) for '2026-01-05', which compare right")
-    } else if seen.finds("BIGINT") {
-        Some("NUMERIC(18) has whole numbers of up to 18 digits")
-    } else if seen.finds("FLOAT")
-        || seen.finds("REAL")
-        || seen.finds("DOUBLE")
-        || seen.finds("MONEY")
-    {
-        Some("numbers with a point are NUMERIC(p,s), and exact")
-    } else if seen.finds("BOOLEAN") || seen.finds("BOOL") {
-        Some("SMALLINT with 0 and 1 serves for it")
-    } else {
-        None
-    }
+    hint_in(&TYPES, seen)
 }
+
+/// The hint of the first line whose word stands there.
+fn hint_in(lines: &[(&str, &'static str)], seen: &Seen) -> Option<&'static str> {
+    for (word, hint) in lines {
+        if seen.finds(word) {
+            return Some(*hint);
+        }
+    }
+    None
+}
+
+const TEXTS: &str = "texts are CHAR(n)";
+
+const DATES: &str = "dates are kept as texts: CHAR(10) for '2026-01-05', which compare right";
+
+const POINTS: &str = "numbers with a point are NUMERIC(p,s), and exact";
+
+const TRUTHS: &str = "SMALLINT with 0 and 1 serves for it";
+
+static TYPES: [(&str, &str); 15] = [
+    ("VARCHAR", TEXTS),
+    ("TEXT", TEXTS),
+    ("STRING", TEXTS),
+    ("NVARCHAR", TEXTS),
+    ("DATE", DATES),
+    ("TIME", DATES),
+    ("TIMESTAMP", DATES),
+    ("DATETIME", DATES),
+    ("BIGINT", "NUMERIC(18) has whole numbers of up to 18 digits"),
+    ("FLOAT", POINTS),
+    ("REAL", POINTS),
+    ("DOUBLE", POINTS),
+    ("MONEY", POINTS),
+    ("BOOLEAN", TRUTHS),
+    ("BOOL", TRUTHS),
+];
 
 /// Of the words that begin statements.
 fn statement_hint(seen: &Seen) -> Option<&'static str> {
@@ -309,18 +356,21 @@ fn statement_hint(seen: &Seen) -> Option<&'static str> {
     if !seen.wants(TokenClass::Word(Word::Load)) {
         return None;
     }
-    if seen.finds("INSERT") || seen.finds("COPY") {
-        Some("rows come from LOAD name FROM 'file'")
-    } else if seen.finds("DROP")
-        || seen.finds("DELETE")
-        || seen.finds("UPDATE")
-        || seen.finds("ALTER")
-    {
-        Some("tables last until the script ends, and what is loaded isn't changed")
-    } else {
-        None
-    }
+    hint_in(&STATEMENTS, seen)
 }
+
+const ROWS: &str = "rows come from LOAD name FROM 'file'";
+
+const LASTING: &str = "tables last until the script ends, and what is loaded isn't changed";
+
+static STATEMENTS: [(&str, &str); 6] = [
+    ("INSERT", ROWS),
+    ("COPY", ROWS),
+    ("DROP", LASTING),
+    ("DELETE", LASTING),
+    ("UPDATE", LASTING),
+    ("ALTER", LASTING),
+];
 
 fn begins_statement(seen: &Seen) -> bool {
     matches!(

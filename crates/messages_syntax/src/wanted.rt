@@ -1,47 +1,49 @@
 //! What could have stood where a script goes wrong.
 
-use crate::dialects::{begins_with_word, first_word, hint_for, last_word};
+use crate::dialects::{begins_with_word, first_word, hint_for, is_one_of, last_word};
 use crate::nearest::Nearest;
 use lexer::{Symbol, TokenKind, Word};
 use messages_excerpts::Visible;
 use std::alloc::Global;
-use std::fmt::{self, Display, Formatter};
+use std::fmt::{self, Formatter};
 use syntax::{MAX_LEVELS, TokenClass, Unexpected};
 
-/// A class of tokens as people call it, and whether it is the last of a list.
-#[derive(Clone, Copy)]
-struct Called {
-    class: TokenClass,
-    is_last: bool,
-}
-
-impl Called {
-    /// What stands before it in a list.
-    fn separator(&self) -> &'static str {
-        if self.is_last && !matches!(self.class, TokenClass::Quantifier) {
-            " or "
-        } else {
-            ", "
-        }
+/// What stands before a class in a list.
+fn separator_before(class: TokenClass, is_last: bool) -> &'static str {
+    if is_last && !matches!(class, TokenClass::Quantifier) {
+        " or "
+    } else {
+        ", "
     }
 }
 
-impl Display for Called {
-    fn fmt<W: fmt::Write>(&self, f: &mut Formatter<W>) -> fmt::Result {
-        match self.class {
-            TokenClass::Name => f.write_str("a name"),
-            TokenClass::Number => f.write_str("a number"),
-            TokenClass::WholeNumber => f.write_str("a whole number"),
-            TokenClass::String => f.write_str("a string"),
-            TokenClass::Type => f.write_str("a type"),
-            TokenClass::Value => f.write_str("a value"),
-            TokenClass::Quantifier if self.is_last => f.write_str("ALL, ANY or SOME"),
-            TokenClass::Quantifier => f.write_str("ALL, ANY, SOME"),
-            TokenClass::Arithmetic => f.write_str("an arithmetic operator"),
-            TokenClass::Operator => f.write_str("an operator"),
-            TokenClass::Word(word) => f.write_str(word.as_str()),
-            TokenClass::Symbol(symbol) => write!(f, "\"{}\"", symbol.as_str()),
-        }
+/// A class as people call it, which may be the last of a list.
+fn write_class<W: fmt::Write>(
+    f: &mut Formatter<W>,
+    class: TokenClass,
+    is_last: bool,
+) -> fmt::Result {
+    match class {
+        TokenClass::Symbol(symbol) => write!(f, "\"{}\"", symbol.as_str()),
+        class => f.write_str(name_of(class, is_last)),
+    }
+}
+
+/// The name of a class, which may be the last of a list.
+fn name_of(class: TokenClass, is_last: bool) -> &'static str {
+    match class {
+        TokenClass::Name => "a name",
+        TokenClass::Number => "a number",
+        TokenClass::WholeNumber => "a whole number",
+        TokenClass::String => "a string",
+        TokenClass::Type => "a type",
+        TokenClass::Value => "a value",
+        TokenClass::Quantifier if is_last => "ALL, ANY or SOME",
+        TokenClass::Quantifier => "ALL, ANY, SOME",
+        TokenClass::Arithmetic => "an arithmetic operator",
+        TokenClass::Operator => "an operator",
+        TokenClass::Word(word) => word.as_str(),
+        TokenClass::Symbol(symbol) => symbol.as_str(),
     }
 }
 
@@ -58,15 +60,12 @@ pub fn write_unexpected<W: fmt::Write>(
         if is_taken_in(*class, classes) {
             continue;
         }
-        let called = Called {
-            class: *class,
-            is_last: place + 1 == classes.len(),
-        };
+        let is_last = place + 1 == classes.len();
         if !is_first {
-            f.write_str(called.separator())?;
+            f.write_str(separator_before(*class, is_last))?;
         }
         is_first = false;
-        write!(f, "{called}")?;
+        write_class(f, *class, is_last)?;
     }
     match unexpected.found {
         Some(_) => write!(f, ", found {}", Visible(token_text(script, unexpected))),
@@ -231,18 +230,11 @@ fn begins_from(text: &str) -> bool {
     let text = text.trim_start();
     let is_from = begins_with_word(text, "FROM");
     let table = first_word(text.get("FROM".len()..).unwrap_or(""));
-    is_from && !table.is_empty() && !goes_on_with(table)
-}
-
-/// Whether a word, in letters of whatever case, goes on with a query behind FROM.
-fn goes_on_with(word: &str) -> bool {
-    BEHIND_FROM
-        .iter()
-        .any(|it| it.as_str().eq_ignore_ascii_case(word))
+    is_from && !table.is_empty() && !is_one_of(table, &BEHIND_FROM)
 }
 
 /// The words that come behind the tables of FROM.
-static BEHIND_FROM: [Word; 4] = [Word::Where, Word::Group, Word::Having, Word::Order];
+static BEHIND_FROM: [&str; 4] = ["WHERE", "GROUP", "HAVING", "ORDER"];
 
 fn offer(nearest: &mut Nearest, words: &[Word]) {
     for word in words {

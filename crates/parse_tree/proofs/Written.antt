@@ -8,7 +8,7 @@ use Rattle.definitions.proofs.WrittenParts.{WrittenExpr, WrittenOperands, Writte
 use Rattle.parse_tree.specs.Trees.{OperandTree, source_of, expr_of, list_of, block_of, item_of, operand_of, expr_layer, list_layer, block_layer, item_layer, operand_layer}
 use Rattle.parse_tree.specs.declared.expr.Expr.{Expr}
 use Rattle.parse_tree.specs.declared.expr.Expr.TheOpen as o
-use Rattle.parse_tree.specs.declared.expr.Expr.TheOpen.{Expr-F, SelectList-F, Item-F, Operand-F, Block-F}
+use Rattle.parse_tree.specs.declared.expr.Expr.TheOpen.{Expr-F, SelectList-F, Block-F}
 use Rattle.parse_tree.specs.declared.expr.Expr.TheFolds as folds
 use Rattle.parse_tree.specs.declared.expr.SelectList.{SelectList}
 use Rattle.parse_tree.specs.declared.expr.Block.{Block}

@@ -1,25 +1,14 @@
 -- The estimates of a space are those of its block.
-use Rattle.std.proofs.Common.{◌≡◌, ◌<◌, refl, sym, subst, ℕ, Bool, List, [], ◌∷◌, length, map, arith}
-use Rattle.std.specs.List.{AllByRecursion}
-use Rattle.std.proofs.lemmas.List.Elements.{All-from_recursion}
-use Rattle.std.proofs.lemmas.Nat.Bits.{bit_at-pow_same}
+use Rattle.std.proofs.Common.{◌≡◌, ◌<◌, refl, length, arith}
 use Rattle.definitions.specs.Table.{Database}
-use Rattle.definitions.specs.Plans.TableSet.{TableSet, Has, no_tables, only}
-use Rattle.definitions.specs.Plans.Order.{SortKey, Order}
-use Rattle.definitions.specs.Plans.Path.{Path, SegmentScan, IndexScan, MatchingScan, table_of}
-use Rattle.definitions.specs.Plans.Space.{order_at}
-use Rattle.definitions.specs.Estimates.BlockTables.{index_columns}
-use Rattle.definitions.specs.Estimates.Laws.{HasPlans}
-use Rattle.definitions.proofs.EstimateTheory.Complete.{complete}
-use Rattle.definitions.proofs.EstimateTheory.PathOrders.{path_order_numbered}
+use Rattle.definitions.specs.Plans.TableSet.{TableSet}
 use Rattle.definitions.specs.Estimates.BlockSpace.{space_of}
 use Rattle.definitions.specs.Estimates.Cardinality.{cardinality, sort_cost}
-use Rattle.definitions.specs.Estimates.Orders.{orders_of, order_of_path}
+use Rattle.definitions.specs.Estimates.Orders.{orders_of}
 use Rattle.definitions.specs.Estimates.Version.{Version}
 use Rattle.definitions.specs.Queries.BoundBlock.{Block}
 use Rattle.query_tree.specs.Bound.{block_of}
 use Rattle.plan_space.specs.Planned.{Planned, space_in}
-use Rattle.definitions.specs.Plans.Search.{IsComplete}
 
 pub is_space : (p : Planned) → space_in p ≡ space_of p.version p.database (block_of p.block)
 unfolding space_in

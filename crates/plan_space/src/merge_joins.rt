@@ -1,8 +1,6 @@
 //! The merge joins that may bring a table, given one after another with their costs.
 
-ghost use Rattle.std.specs.Prelude.{◌≡◌, ◌≤◌, map};
-ghost use Rattle.definitions.specs.Estimates.Fractions.{million};
-ghost use Rattle.definitions.specs.Plans.Cost as costs;
+ghost use Rattle.std.specs.Prelude.{◌≡◌, map};
 ghost use Rattle.plan_tree.specs.Sets.{set_of};
 ghost use Rattle.plan_space.specs.MergeListed.{merge_told};
 ghost use Rattle.plan_space.specs.Merge.{open_merges, with_pairs};

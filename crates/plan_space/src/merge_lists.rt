@@ -1,14 +1,13 @@
 //! The merges that may bring tables, for every set of tables.
 
-ghost use Rattle.std.specs.Prelude.{ℕ, ◌≡◌, ◌<◌, ◌≤◌, ◌*◌, ◌^◌, IfOk, IfSome, OnOk, length, map};
+ghost use Rattle.std.specs.Prelude.{◌≡◌, ◌<◌, ◌*◌, ◌^◌, IfOk, IfSome, OnOk, length, map};
 ghost use Rattle.definitions.specs.Limits.{most_from_tables};
-ghost use Rattle.definitions.specs.Plans.Cost.{limit, saturated};
+ghost use Rattle.definitions.specs.Plans.Cost.{saturated};
 ghost use Rattle.definitions.specs.Plans.PlanSpace.{IsPath};
 ghost use Rattle.definitions.specs.Plans.Space.{Space};
 ghost use Rattle.definitions.specs.Plans.TableSet.{no_tables, only};
 ghost use Rattle.definitions.specs.Estimates.BlockSpace.{space_of};
 ghost use Rattle.definitions.specs.Estimates.Cardinality as estimates;
-ghost use Rattle.definitions.specs.Estimates.Fractions.{million};
 ghost use Rattle.definitions.specs.Estimates.PlanConjuncts as plans;
 ghost use Rattle.definitions.specs.Estimates.Version as versions;
 ghost use Rattle.query_tree.specs.Bound.{block_of};

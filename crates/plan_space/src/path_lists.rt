@@ -1,6 +1,6 @@
 //! The paths of tables, for every set of tables whose rows are known.
 
-ghost use Rattle.std.specs.Prelude.{ℕ, ◌≡◌, ◌<◌, IfOk, length, map};
+ghost use Rattle.std.specs.Prelude.{◌≡◌, ◌<◌, IfOk, length, map};
 ghost use Rattle.std.specs.List.{AllByRecursion};
 ghost use Rattle.definitions.specs.Estimates.BlockSpace.{space_of};
 ghost use Rattle.definitions.specs.Estimates.Orders as spec;

@@ -6,7 +6,7 @@ ghost use Rattle.definitions.specs.Plans.Cost.{limit};
 use plan_tree::TableSet;
 
 /// The tables of a plan, the number of the order of its rows, and what it costs, at most 10^18.
-#[derive(Clone, Copy, Debug)]
+#[derive(Clone, Copy)]
 pub struct PlanSummary {
     pub tables: TableSet,
     pub order: usize,

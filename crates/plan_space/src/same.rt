@@ -1,6 +1,6 @@
 //! Whether two paths are one.
 
-ghost use Rattle.std.specs.Prelude.{ℕ, ◌≡◌};
+ghost use Rattle.std.specs.Prelude.{◌≡◌};
 ghost use Rattle.std.specs.Bool.{Decides};
 ghost use Rattle.definitions.specs.Plans.Path as spec;
 ghost use Rattle.plan_tree.specs.Plans.{path_of};

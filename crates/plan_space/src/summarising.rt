@@ -8,7 +8,6 @@ ghost use Rattle.definitions.specs.Plans.Plan as trees;
 ghost use Rattle.definitions.specs.Plans.PlanSpace.{MayFollow};
 ghost use Rattle.plan_tree.specs.Plans.{path_of, inner_of, plan_of};
 ghost use Rattle.plan_tree.specs.Sets.{set_of};
-ghost use Rattle.interesting_orders.specs.Merges.{GoesBy};
 ghost use Rattle.plan_space.specs.Items.{item_of};
 ghost use Rattle.plan_space.specs.Merges.{merge_of};
 ghost use Rattle.plan_space.specs.Planned.{space_in};

@@ -7,7 +7,7 @@ use Rattle.definitions.specs.Lists.{AnyOf}
 use Rattle.definitions.specs.Invariant.{IsDatabase, IsTable}
 use Rattle.definitions.specs.Statement.{Column, ColumnReference}
 use Rattle.definitions.specs.Table as table
-use Rattle.definitions.specs.Table.{Database, Table}
+use Rattle.definitions.specs.Table.{Database}
 use Rattle.definitions.specs.Value.{SqlType, Smallint, Integer, Numeric, Char, IsType}
 use Rattle.definitions.specs.ValueType.{ValueType, type_of}
 use Rattle.definitions.specs.Binding.Scopes.{Scopes, Found, NotThere, Ambiguous, Named, resolve}

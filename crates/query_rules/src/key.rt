@@ -7,7 +7,7 @@ ghost use Rattle.definitions.specs.Refusal.{UnknownKey};
 ghost use Rattle.definitions.specs.Binding.BoundForm.{has_name, key_item, result_name, result_names};
 ghost use Rattle.definitions.specs.Binding.Faults.{IsUnknownKey};
 ghost use Rattle.query_tree.specs.Bound.{item_of, key_of};
-ghost use Rattle.parse_tree.specs.Trees.{item_of as listed_item_of, key_name_of, key_of as tree_key_of, list_of, name_of};
+ghost use Rattle.parse_tree.specs.Trees.{item_of as listed_item_of, key_name_of, key_of as tree_key_of, list_of};
 ghost use Rattle.query_rules.specs.Keys.{bound_keys, header_of, known_name, known_names, names_by, IsKnownKey, RefusesOrder, SomeKeyIsUnknown};
 ghost use Rattle.query_rules.specs.Meaning.{bind_refusal};
 

@@ -1,6 +1,6 @@
 //! Binds column references and literals, with their types.
 
-ghost use Rattle.std.specs.Prelude.{◌≡◌, ◌⊎◌, true, IfOk, IfErr, IfSome, OnOk, map};
+ghost use Rattle.std.specs.Prelude.{◌≡◌, true, IfOk, IfErr, IfSome, OnOk, map};
 ghost use Rattle.std.specs.Bool.{Decides};
 ghost use Rattle.definitions.specs.Lists.{AnyOf};
 ghost use Rattle.definitions.specs.Statement.{Column, String};

@@ -1,6 +1,6 @@
 //! A block whose rows are read.
 
-ghost use Rattle.std.specs.Prelude.{◌≡◌, ◌≤◌, ◌<◌, [], IfOk, IfSome, Some, get_or, length, map, option_map};
+ghost use Rattle.std.specs.Prelude.{◌≡◌, ◌≤◌, ◌<◌, [], IfOk, Some, get_or, length, map};
 ghost use Rattle.std.specs.List.{AllByRecursion};
 ghost use Rattle.definitions.specs.Limits.{most_from_tables};
 ghost use Rattle.definitions.specs.Value.{Null};
@@ -9,7 +9,7 @@ ghost use Rattle.definitions.specs.Binding.Formed.{IsFormedSomewhere};
 ghost use Rattle.definitions.specs.Estimates.BlockTables.{index_columns, table_at};
 ghost use Rattle.definitions.specs.Queries.Conjuncts as queries;
 ghost use Rattle.sqlvalue.specs.Meaning.{value_of};
-ghost use Rattle.query_tree.specs.Bound.{block_of, column_of};
+ghost use Rattle.query_tree.specs.Bound.{block_of};
 ghost use Rattle.conjuncts.specs.Parts.{condition_in, HasItsTables, IsJudged};
 ghost use Rattle.definitions_execution.specs.OfBlock.{index_run, rows_in};
 ghost use Rattle.scans.specs.Inside.{AreTablesOf, tables_of};

@@ -1,13 +1,8 @@
 //! What early conjuncts are evaluated in.
 
-ghost use Rattle.std.specs.Prelude.{◌≡◌, [], get_or};
+ghost use Rattle.std.specs.Prelude.{◌≡◌, []};
 ghost use Rattle.definitions.specs.Value.{Null};
-ghost use Rattle.definitions.specs.Arithmetic.{Is};
-ghost use Rattle.definitions.specs.Queries.Evaluation.{cell, column_values, on_one};
-ghost use Rattle.definitions.specs.Queries.Telling.{MayAnswer};
-ghost use Rattle.sqlvalue.specs.Meaning.{value_of};
-ghost use Rattle.query_tree.specs.Bound.{column_of};
-ghost use Rattle.expr.specs.Answers.{answer_of, values_answer_of};
+ghost use Rattle.definitions.specs.Queries.Evaluation.{cell};
 ghost use Rattle.scans.specs.Sources.{environment_at};
 ghost use Rattle.definitions_execution.specs.Stored.{row_number as number_in};
 

@@ -4,10 +4,10 @@ use Rattle.definitions.specs.Statement as tree
 use Rattle.definitions.specs.Statement.{Name, Statement}
 use Rattle.definitions.specs.Table.{Database, table_named}
 use Rattle.definitions_execution.specs.Step as step
-use Rattle.definitions_execution.specs.Step.{Answering, Failing, State, Break, StepBreaks, SinkFailed}
+use Rattle.definitions_execution.specs.Step.{Answering, Failing, State}
 use Rattle.sqlr.specs.declared.outcome.StepFault.{StepFault}
 use Rattle.sqlr.specs.declared.outcome.StepFault.TheVariants as f
-use Rattle.sqlr.specs.Sessions.{BreaksAt, IsStepBlamed, step_break}
+use Rattle.sqlr.specs.Sessions.{BreaksAt, IsStepBlamed}
 use Rattle.sqlr.proofs.Taking.{load_accepted}
 
 abbrev state_of : {L : Type 0} → L → Database → ℕ → State L

@@ -24,7 +24,7 @@ use Rattle.sqlr.specs.Sessions.{BreaksLine, IsLibraryBlamed, IsSinkBlamed, Print
 use Rattle.query_tree.specs.Bound.{block_of}
 use Rattle.certificate_files.specs.Telling.{check_ended_of}
 use Rattle.sqlr.specs.declared.checked.Checked.TheVariants as c
-use Rattle.sqlr.specs.declared.checked.CheckedFile.{CheckedFile}
+use Rattle.diagnostics.specs.declared.checked_file.CheckedFile.{CheckedFile}
 use Rattle.sqlr.specs.Checking.{IsChecked, end_of_file, ArePrepared, BreaksChecking, BreaksLast, BreaksPreparing, Checks, ChecksLast, LastChecked, QueryChecked, refused, told, end_of_check}
 use Rattle.sqlr.proofs.Running.{took_all, took_nothing, took_up_to}
 

@@ -11,13 +11,13 @@ use Rattle.definitions.specs.Value.{SqlType, scale_of}
 use Rattle.definitions.specs.Token.{Token, TokenKind}
 use Rattle.definitions.specs.Lexing.{LexFault, Lexes}
 use Rattle.definitions.specs.Grammar as g
-use Rattle.definitions.specs.Grammar.{ScriptAt, Derives, BeginsNone, IsWrong, SyntaxFails, kinds}
+use Rattle.definitions.specs.Grammar.{Derives, BeginsNone, IsWrong, kinds}
 use Rattle.definitions.specs.Limits.{most_levels}
 use Rattle.definitions.specs.Statement as tree
 use Rattle.definitions.specs.Statement.{Name, Select, Statement, Bound, Range, IndexStatistics as Given}
 use Rattle.definitions.specs.Table.{Table, Database, KeyRange, IndexStatistics, table_named, column_numbers}
 use Rattle.definitions.specs.Change as made
-use Rattle.definitions.specs.Change.{bound_units, bound_value, KeptAs, RangeKept, StatisticsKept, Makes, RepeatsKeys, with_index, with_index_statistics, with_table_statistics, new_table, changed, first_type}
+use Rattle.definitions.specs.Change.{bound_units, KeptAs, RangeKept, StatisticsKept, Makes, RepeatsKeys, with_index, with_index_statistics, with_table_statistics, new_table, changed, first_type}
 use Rattle.definitions.specs.Faults as faulty
 use Rattle.definitions.specs.Faults.{Faulty}
 use Rattle.definitions.specs.Loading.{Record, AreFileRecords}
@@ -28,7 +28,7 @@ use Rattle.definitions.specs.Queries.Outcomes.{Told, Rows, Exception, Allowed, A
 use Rattle.definitions.specs.Binding.BoundForm.{bound_form}
 use Rattle.definitions_execution.specs.RunLaws.{LoadHasOneOutcome}
 use Rattle.definitions_execution.specs.Step as step
-use Rattle.definitions_execution.specs.Step.{Answering, State, Step, Steps, Ended, Well, Faulted, Loaded, FaultLine, AreStatements, Run, both_ended, told_ended}
+use Rattle.definitions_execution.specs.Step.{Answering, State, Step, Steps, Ended, Loaded, FaultLine, AreStatements, both_ended, told_ended}
 use Rattle.definitions_execution.specs.RunLaws.{AnswersOnce, AreOneButForWork, AreAlike, same, faults, outcomes, plans, AllAlike, fault_lines, printed, RunsEndAlike}
 use Rattle.definitions.proofs.Loading.{factor}
 use Rattle.definitions.proofs.Lexing.{reads_once}

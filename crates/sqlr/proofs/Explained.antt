@@ -1,5 +1,5 @@
 -- What a query is refused for that is explained, and what is told of its blocks.
-use Rattle.std.proofs.Common.{◌≡◌, ◌≤◌, refl, sym, ap, subst, List, Result, Ok, Err, IfOk, length, map, arith}
+use Rattle.std.proofs.Common.{◌≡◌, ◌≤◌, sym, ap, subst, List, Result, Ok, Err, IfOk, length, map, arith}
 use Rattle.std.specs.List.{AllByRecursion}
 use Rattle.std.proofs.lemmas.List.{length-map}
 use Rattle.definitions.specs.Limits.{most_blocks}

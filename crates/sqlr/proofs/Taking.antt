@@ -1,5 +1,5 @@
 -- What a statement's call gives is a step of the definitions.
-use Rattle.std.proofs.Common.{ℕ, ◌≡◌, ◌≢◌, ◌∙◌, refl, sym, ap, List, [], Option, Some, None, Result, Ok, Err, IfOk, Bor}
+use Rattle.std.proofs.Common.{ℕ, ◌≡◌, ◌≢◌, ◌∙◌, refl, sym, ap, List, Option, Some, None, Result, Ok, Err, IfOk, Bor}
 use Rattle.std.specs.Prelude.{true, false, is_some, unwrap_or}
 use Rattle.std.specs.Option.{option_copied}
 use Rattle.definitions.specs.Statement as tree

@@ -6,9 +6,9 @@ ghost use Rattle.parse_tree.specs.Trees.{definitions_of, statistics_of, name_of}
 ghost use Rattle.sqlr.specs.declared.outcome.StepFault.TheVariants as fault;
 ghost use Rattle.sqlr.specs.Outcomes.{Changes};
 
-use crate::cause::{Cause, ColumnList, StatisticsCause, TableStatisticsCause};
 use crate::outcome::{Printed, StepFault, done, refusal_line, refused_by};
 use catalog::Database;
+use diagnostics::{Cause, ColumnList, StatisticsCause, TableStatisticsCause};
 use std::alloc::Global;
 use syntax::{ColumnDefinition, Count, IndexStatistics, Name};
 

@@ -5,24 +5,14 @@ ghost use Rattle.definitions_execution.specs.CheckingRun as run;
 ghost use Rattle.parse_tree.specs.Trees.{select_of, statement_of};
 ghost use Rattle.sqlr.specs.Checking.{IsChecked, end_of_file};
 
-use crate::cause::{Cause, QueryCause};
 use crate::ended::Ended;
 use crate::outcome::{Printed, StepFault, refusal_line};
 use binder::{BindFault, bind};
 use catalog::Database;
-use certificate_files::{FileEnded, FileTold, check_file};
-use query_tree::Block;
+use certificate_files::{FileEnded, check_file};
+use diagnostics::{Cause, CheckedFile, QueryCause};
 use std::alloc::Global;
 use syntax::{Select, Statement};
-
-/// A file of certificates, and what was told of it (own).
-#[derive(Drop)]
-pub struct CheckedFile<'a> {
-    pub file: &'a [u8],
-    /// The blocks of the query, in the order of their numbers.
-    pub blocks: Vec<Block>,
-    pub told: FileTold,
-}
 
 /// What comes of a query's certificates.
 pub(crate) enum Checked<'a> {

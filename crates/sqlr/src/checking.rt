@@ -15,11 +15,11 @@ use crate::checked::{Checked, check_query, end_of, query_of};
 use crate::ended::{Ended, RunFault};
 use crate::library::Library;
 use crate::outcome::{Printed, StepFault};
-use crate::progress::Planned;
 use crate::script::{ScriptFault, parse_script};
 use crate::session::{Session, place_of, tell_cause};
 use crate::sink::Sink;
 use catalog::Database;
+use diagnostics::Planned;
 use syntax::Statement;
 
 /// The line of a script whose last statement has no query.

@@ -6,7 +6,7 @@ ghost use Rattle.sqlr.specs.Meaning.{status_of};
 use thiserror::Error;
 
 /// How a run ended.
-#[derive(Clone, Copy, Debug, PartialEq, Eq)]
+#[derive(Clone, Copy, PartialEq, Eq)]
 pub enum Ended {
     /// No error line was printed.
     Well,

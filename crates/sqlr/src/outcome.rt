@@ -9,10 +9,17 @@ ghost use Rattle.sqlr.specs.declared.ended.Ended.TheVariants as ended;
 ghost use Rattle.sqlr.specs.Outcomes.{Tells};
 ghost use Rattle.sqlr.specs.declared.outcome.StepFault.TheVariants as fault;
 
-use crate::cause::{Cause, Refused, Told};
 use crate::ended::Ended;
+use diagnostics::{Cause, Refused};
 use sqlvalue::{Raise, Refusal, write_exception, write_record_refusal, write_refusal};
 use std::alloc::{AllocError, Global};
+
+/// What is told of a statement beside its line.
+#[derive(Drop)]
+pub(crate) enum Told<'a> {
+    Refused(Refused<'a>),
+    Raised(Raise),
+}
 
 /// What a statement prints, how it ended, what is told of it, if it is refused or raises an exception, and the work of a SELECT that
 /// printed rows: how many it opened.
@@ -25,7 +32,7 @@ pub struct Printed<'a> {
 }
 
 /// Why a statement broke off.
-#[derive(Clone, Copy, Debug)]
+#[derive(Clone, Copy)]
 pub enum StepFault {
     Memory,
     Library,

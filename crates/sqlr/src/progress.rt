@@ -2,26 +2,10 @@
 
 use crate::sink::Sink;
 use catalog::{Database, LoadProgress, LoadWatch};
-use executor::{PlanNote, QueryWatch};
+use diagnostics::{PlanNote, Planned, Progress};
+use executor::QueryWatch;
 use query_tree::Block;
 use syntax::Select;
-
-/// How far a statement is (own).
-#[derive(Clone, Copy, Debug, PartialEq, Eq)]
-pub enum Progress {
-    Load(LoadProgress),
-    /// The outermost block's plan has delivered so many combinations of rows.
-    Select { combinations: u64 },
-}
-
-/// What there is to know of the figures that the plans of a query rest on (own).
-#[derive(Clone, Copy)]
-pub struct Planned<'a> {
-    pub query: &'a Select,
-    /// The blocks of the query, in the order of their numbers.
-    pub blocks: &'a [Block],
-    pub notes: &'a [PlanNote],
-}
 
 /// Tells a sink how far a LOAD is.
 #[derive(Drop)]

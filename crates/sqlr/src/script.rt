@@ -6,7 +6,7 @@ ghost use Rattle.lexer.specs.Meaning.{fault_of};
 ghost use Rattle.definitions_execution.specs.Step.{AreStatements};
 ghost use Rattle.sqlr.specs.Scripts.{IsFault, line_of, lexical_line};
 
-use crate::cause::{Cause, Refused};
+use diagnostics::{Cause, Refused};
 use lexer::{LexFault, lex};
 use sqlvalue::Refusal;
 use std::alloc::Global;

@@ -5,12 +5,12 @@ ghost use Rattle.parse_tree.specs.Trees.{select_of};
 ghost use Rattle.sqlr.specs.declared.outcome.StepFault.TheVariants as fault;
 ghost use Rattle.sqlr.specs.Selecting.{Answers};
 
-use crate::cause::{Cause, QueryCause};
 use crate::outcome::{Printed, StepFault, done, exception_line, refusal_line};
 use crate::progress::WatchedQuery;
 use crate::sink::Sink;
 use binder::{BindFault, bind};
 use catalog::Database;
+use diagnostics::{Cause, QueryCause};
 use executor::{AnswerFault, answer_text};
 use std::alloc::Global;
 use syntax::Select;

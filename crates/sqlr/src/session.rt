@@ -4,7 +4,6 @@ ghost use Rattle.std.specs.Prelude.{◌≡◌, ◌≢◌, ℕ, List, [], None, I
 ghost use Rattle.definitions.specs.Printing.{fault_text};
 ghost use Rattle.definitions.specs.Statement as tree;
 ghost use Rattle.definitions_execution.specs.Headline.{KeepsHeadline};
-ghost use Rattle.definitions_execution.specs.Step.{AreStatements};
 ghost use Rattle.definitions.specs.Table.{table_named};
 ghost use Rattle.sqlvalue.specs.RefusalMeaning.{refusal_of};
 ghost use Rattle.parse_tree.specs.Trees.{name_of, select_of, statement_of, statements_of, text_of};
@@ -12,17 +11,17 @@ ghost use Rattle.sqlr.specs.declared.outcome.StepFault.TheVariants as fault;
 ghost use Rattle.sqlr.specs.Devices.{Took};
 ghost use Rattle.sqlr.specs.Sessions.{BreaksAt, BreaksIn, BreaksLine, BreaksOff, IsBoth, IsLibraryBlamed, IsSinkBlamed, IsStepBlamed, Prints, Runs, RunsAll, Takes, TakesBytes};
 
-use crate::cause::{Cause, FileLoad, Told};
 use crate::changes::{create_index, create_table, set_index_statistics, set_table_statistics};
 use crate::ended::{Ended, RunFault};
 use crate::explaining::explain;
 use crate::library::{FetchFault, Fetched, Library};
-use crate::outcome::{Printed, StepFault, done, refusal_line, refused_record};
+use crate::outcome::{Printed, StepFault, Told, done, refusal_line, refused_record};
 use crate::progress::WatchedLoad;
 use crate::script::{ScriptFault, parse_script};
 use crate::select::select;
 use crate::sink::Sink;
 use catalog::{Database, LoadFault};
+use diagnostics::{Cause, FileLoad};
 use sqlvalue::{LOADED_ROOM, Refusal, write_fault, write_loaded};
 use std::alloc::Global;
 use std::marker::Model;

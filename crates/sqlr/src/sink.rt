@@ -6,10 +6,8 @@ ghost use Rattle.definitions.specs.Binding.Formed.{IsFormedSomewhere};
 ghost use Rattle.query_tree.specs.Bound.{block_of};
 ghost use Rattle.sqlr.specs.Devices.{Took, TookBeginning};
 
-use crate::cause::Refused;
-use crate::checked::CheckedFile;
-use crate::progress::{Planned, Progress};
 use catalog::Database;
+use diagnostics::{CheckedFile, Planned, Progress, Refused};
 use sqlvalue::Raise;
 use thiserror::Error;
 

@@ -44,18 +44,16 @@ impl<L: Ledger, R: Runtime + AllocGlobal> Library for Folder<'_, L, R> {
             Ok(bytes) => return Ok(Fetched::Bytes(bytes)),
             Err(reason) => reason,
         };
-        match reason.kind() {
-            ErrorKind::NotFound => Ok(Fetched::Absent),
-            ErrorKind::OutOfMemory => {
-                self.fault = FileFault::new(self.rt.alloc(), name, reason);
-                Err(FetchFault::Memory)
-            }
-            _ => {
-                self.fault = FileFault::new(self.rt.alloc(), name, reason);
-                self.failures.rise();
-                Err(FetchFault::Device)
-            }
+        let kind = reason.kind();
+        if matches!(kind, ErrorKind::NotFound) {
+            return Ok(Fetched::Absent);
         }
+        self.fault = FileFault::new(self.rt.alloc(), name, reason);
+        if matches!(kind, ErrorKind::OutOfMemory) {
+            return Err(FetchFault::Memory);
+        }
+        self.failures.rise();
+        Err(FetchFault::Device)
     }
 }
 

@@ -2,8 +2,8 @@
 
 use crate::standard_error::StandardError;
 use crate::{BROKEN_OFF, broken_off};
+use command_line::requests::{Request, Source};
 use messages_statements::{LineColumn, Lines};
-use sqlr::requests::{Request, Source};
 use std::fs;
 use std::io::{self, Read};
 use std::rt::Runtime;
@@ -30,19 +30,10 @@ impl<'r> Given<'r> {
         let script_name = name_of(script);
         let script_bytes = read(rt, standard_error, is_typed, script)?;
         let script = text_of(standard_error, script_name, script_bytes)?;
-        let (certificates_name, certificates) = match request {
-            Request::Run(_) => ("", None),
-            Request::Check {
-                script: Source::StandardInput,
-                certificates: Source::StandardInput,
-            } => {
-                standard_error.tell("only one of script and certificates can be standard input");
-                return Err(BROKEN_OFF);
-            }
-            Request::Check { certificates, .. } => (
-                name_of(certificates),
-                Some(read(rt, standard_error, is_typed, certificates)?),
-            ),
+        let certificates = read_certificates(rt, standard_error, is_typed, request)?;
+        let certificates_name = match request {
+            Request::Run(_) => "",
+            Request::Check { certificates, .. } => name_of(certificates),
         };
         Ok(Given {
             script_name,
@@ -50,6 +41,28 @@ impl<'r> Given<'r> {
             certificates_name,
             certificates,
         })
+    }
+}
+
+/// The bytes of the certificates, if they are to be checked, or the status to end with where they can't be read.
+fn read_certificates<R: Runtime + AllocGlobal>(
+    rt: &R,
+    standard_error: &StandardError<R>,
+    is_typed: bool,
+    request: &Request,
+) -> Result<Option<Vec<u8>>, u8> {
+    match request {
+        Request::Run(_) => Ok(None),
+        Request::Check {
+            script: Source::StandardInput,
+            certificates: Source::StandardInput,
+        } => {
+            standard_error.tell("only one of script and certificates can be standard input");
+            Err(BROKEN_OFF)
+        }
+        Request::Check { certificates, .. } => {
+            Ok(Some(read(rt, standard_error, is_typed, certificates)?))
+        }
     }
 }
 
@@ -72,7 +85,10 @@ fn read<R: Runtime + AllocGlobal>(
         Source::File(name) => fs::read(rt, name),
         Source::StandardInput => read_standard_input(rt, standard_error, is_typed),
     };
-    bytes.map_err(|reason| broken_off(standard_error, name_of(source), reason))
+    match bytes {
+        Ok(bytes) => Ok(bytes),
+        Err(reason) => Err(broken_off(standard_error, name_of(source), reason)),
+    }
 }
 
 /// The bytes of standard input; where someone types them, a line says what is waited for.

@@ -8,12 +8,13 @@ mod standard_error;
 
 ghost use Rattle.std.specs.Prelude.{◌≡◌, ◌<◌};
 
+use command_line::request;
+use command_line::requests::Request;
 use folder::{FileFault, Folder};
 use given::Given;
 use messages_statements::{LineColumn, Lines, Reporter};
 use output::Output;
-use sqlr::requests::Request;
-use sqlr::{Failures, RunFault, Session, request, status};
+use sqlr::{Failures, RunFault, Session, status};
 use standard_error::StandardError;
 use std::alloc::AllocError;
 use std::cell::Cell;
@@ -157,10 +158,9 @@ fn tell_left_out<R: Runtime + AllocGlobal>(
     script_name: &str,
     count: u64,
 ) {
-    match count {
-        0 => {}
-        1 => standard_error.tell(format_args!("{script_name}: and 1 more message")),
-        _ => standard_error.tell(format_args!("{script_name}: and {count} more messages")),
+    if count > 0 {
+        let plural = if count == 1 { "" } else { "s" };
+        standard_error.tell(format_args!("{script_name}: and {count} more message{plural}"));
     }
 }
 

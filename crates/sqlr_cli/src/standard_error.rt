@@ -55,9 +55,12 @@ impl<'a, R: Runtime + AllocGlobal> StandardError<'a, R> {
 
     /// How many whole seconds the statement has run; none where no clock tells it.
     fn seconds(&self) -> u64 {
-        match self.began.get() {
-            Some(began) => began.elapsed(self.rt).map_or(0, |it| it.as_secs()),
-            None => 0,
+        let Some(began) = self.began.get() else {
+            return 0;
+        };
+        match began.elapsed(self.rt) {
+            Ok(elapsed) => elapsed.as_secs(),
+            Err(_) => 0,
         }
     }
 

@@ -1,3 +1,4 @@
 pub mod Comparing
 mod Calculating
 pub mod Likeness
+pub mod NumberKeys

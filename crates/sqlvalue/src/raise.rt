@@ -5,7 +5,7 @@ ghost use Rattle.definitions.specs.Queries.Outcomes.{raise_state};
 ghost use Rattle.sqlvalue.specs.Raises.{exception_of};
 
 /// An exception that evaluating an expression may raise (ISO/IEC 9075:1992, 22.1).
-#[derive(Clone, Copy, Debug, PartialEq, Eq)]
+#[derive(Clone, Copy, PartialEq, Eq)]
 pub enum Exception {
     /// 22003: a number of more than 38 digits.
     OutOfRange,
@@ -30,7 +30,7 @@ impl Exception {
 
 /// An exception, and the byte of the script at which stands what raised it: an operator, a set function or a subquery. The
 /// place is for messages, and nothing is promised of it.
-#[derive(Clone, Copy, Debug, PartialEq, Eq)]
+#[derive(Clone, Copy, PartialEq, Eq)]
 pub struct Raise {
     pub exception: Exception,
     pub place: usize,

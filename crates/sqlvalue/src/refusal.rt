@@ -7,7 +7,7 @@ ghost use Rattle.sqlvalue.specs.RefusalMeaning.{refusal_of};
 use crate::field::FieldFault;
 
 /// Why a script or a statement is refused.
-#[derive(Clone, Copy, Debug, PartialEq, Eq)]
+#[derive(Clone, Copy, PartialEq, Eq)]
 pub enum Refusal {
     /// A character that begins no token.
     StrayCharacter,

@@ -15,7 +15,7 @@ pub const MAX_PRECISION: u8 = 18;
 pub const MAX_LENGTH: u8 = 254;
 
 /// A type as a statement writes it, its parameters not judged yet.
-#[derive(Clone, Copy, Debug, PartialEq, Eq)]
+#[derive(Clone, Copy, PartialEq, Eq)]
 pub enum DeclaredType {
     Smallint,
     Integer,

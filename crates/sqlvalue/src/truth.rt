@@ -10,7 +10,7 @@ use crate::op::ComparisonOperator;
 use crate::value::Value;
 
 /// A truth value (ISO/IEC 9075:1992, 8.12).
-#[derive(Clone, Copy, Debug, PartialEq, Eq)]
+#[derive(Clone, Copy, PartialEq, Eq)]
 pub enum Tri {
     False,
     Unknown,

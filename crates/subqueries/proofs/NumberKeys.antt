@@ -11,8 +11,8 @@ use Rattle.definitions.specs.Value.{Value, rank}
 use Rattle.sqlvalue.specs.Owned.{owned_value}
 use Rattle.sqlvalue.specs.declared.owned_value.OwnedValue.{OwnedValue}
 use Rattle.sqlvalue.specs.declared.owned_value.OwnedValue.TheVariants as own
-use Rattle.tuple_sort.specs.Keys.{HasNumberKey}
-use Rattle.tuple_sort.proofs.KeyedRows.{number_keys_rank}
+use Rattle.sqlvalue.specs.NumberKeys.{HasNumberKey}
+use Rattle.sqlvalue.proofs.NumberKeys.{number_keys_rank}
 use Rattle.subqueries.specs.NumberKeys.{RankByKeys, AreKeys}
 use Rattle.subqueries.proofs.OrderedValues.{parted}
 

@@ -4,7 +4,7 @@ use Rattle.std.specs.Ordering.{is_lt}
 use Rattle.definitions.specs.Value.{Value, rank}
 use Rattle.sqlvalue.specs.Owned.{owned_value}
 use Rattle.sqlvalue.specs.declared.owned_value.OwnedValue.{OwnedValue}
-use Rattle.tuple_sort.specs.Keys.{HasNumberKey}
+use Rattle.sqlvalue.specs.NumberKeys.{HasNumberKey}
 
 -- the first so many values rank before a null or a number of the scale where their keys are less than its key
 abbrev pub RankByKeys : ℕ → ℕ → List OwnedValue → List ℤ → Type 0

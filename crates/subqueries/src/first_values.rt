@@ -14,10 +14,9 @@ ghost use Rattle.sqlvalue.specs.Owned.{owned_value};
 ghost use Rattle.sqlvalue.specs.Truths.{truth_of};
 ghost use Rattle.subqueries.specs.NumberKeys.{AreKeys};
 
-use sqlvalue::{OwnedValue, Tri, Value, compare, rank};
+use sqlvalue::{OwnedValue, Tri, Value, compare, number_key, rank};
 use std::alloc::{AllocError, Global};
 use std::cmp::Ordering;
-use tuple_sort::number_key;
 
 /// Whole numbers that rank as values do, which are nulls and numbers of one scale (own).
 #[derive(Drop)]

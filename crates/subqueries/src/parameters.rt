@@ -11,7 +11,7 @@ use std::alloc::{AllocError, Global};
 
 /// A column of a block around: how many blocks lie between, and which column of that block (ISO/IEC 9075:1992, 6.4, an outer
 /// reference).
-#[derive(Clone, Copy, Debug, PartialEq, Eq)]
+#[derive(Clone, Copy, PartialEq, Eq)]
 pub struct OuterColumn {
     pub between: usize,
     pub column: BlockColumn,

@@ -7,14 +7,14 @@ use Rattle.std.specs.Prelude.{slice_get}
 use Rattle.definitions.specs.Token.{TokenKind}
 use Rattle.definitions.specs.Rule.{Rule, Gives, Then}
 use Rattle.definitions.specs.Grammar as g
-use Rattle.definitions.specs.Grammar.{LineKind, LineOf, operator_in, line, operands, within}
+use Rattle.definitions.specs.Grammar.{LineKind, LineOf, operator_in, line, operands}
 use Rattle.definitions.specs.Statement as s
 use Rattle.definitions.specs.Statement.{Expr, LineOperator}
 use Rattle.parse_tree.specs.Trees.{operand_of}
 use Rattle.definitions.proofs.Alike.{Alike, then_alike, gives_alike}
 use Rattle.definitions.proofs.Grammar.{within_alike, conjunction_alike, negation_alike, product_alike, sign_alike}
 use Rattle.syntax_cursor.specs.declared.stop.ParseStop.{ParseStop}
-use Rattle.syntax_cursor.specs.Reading.{Place, IsNext, Outcome, viewed}
+use Rattle.syntax_cursor.specs.Reading.{Place, IsNext, Outcome}
 use Rattle.syntax.specs.Reading.{LineAt, OperandAt}
 use Rattle.syntax_cursor.specs.Reading as r
 use Rattle.syntax_cursor.proofs.Outcomes.{then_on, then_fails}

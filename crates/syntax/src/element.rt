@@ -1,6 +1,6 @@
 //! Lists of what has no levels: names, columns, sources, keys.
 
-ghost use Rattle.std.specs.Prelude.{◌≡◌, ◌<◌, map, length, IfOk};
+ghost use Rattle.std.specs.Prelude.{◌<◌, map, length, IfOk};
 ghost use Rattle.definitions.specs.Grammar.{ListOf};
 ghost use Rattle.syntax_cursor.specs.Places.{Stands};
 ghost use Rattle.syntax_cursor.specs.Reading.{ParsesFlat, viewed};
@@ -11,7 +11,7 @@ use syntax_cursor::{Cursor, ParseStop};
 
 /// What stands between commas.
 pub trait Element: Drop {
-    ghost use Rattle.std.specs.Prelude.{List, ℕ, IfOk};
+    ghost use Rattle.std.specs.Prelude.{List, IfOk};
     ghost use Rattle.definitions.specs.Rule.{Rule};
     ghost use Rattle.definitions.proofs.Alike.{Alike};
     ghost use Rattle.syntax_cursor.specs.Places.{Placed, Stands};

@@ -1,6 +1,6 @@
 //! Expressions. Each function reads one rule of the grammar; what a token opens is read within the levels below.
 
-ghost use Rattle.std.specs.Prelude.{◌≡◌, ◌+◌, ◌*◌, ◌++◌, [], IfOk, map, Ok};
+ghost use Rattle.std.specs.Prelude.{◌+◌, ◌++◌, [], IfOk, map, Ok};
 ghost use Rattle.definitions.specs.Grammar as grammar;
 ghost use Rattle.definitions.specs.Grammar.{within};
 ghost use Rattle.definitions.specs.Token.{OpenParen, Reserved};
@@ -148,9 +148,9 @@ fn null_test(cursor: &mut Cursor, start: usize, value: Expr) -> Result<Expr, Par
     ensures placed { IfOk result (λ expr. GoesOn (expr_leaves value ++ one (leaf.Reserved words.Is) start) cursor.old
         cursor.new (expr_leaves expr)) }
 {
+    let value = Box::new(cursor.alloc, value)?;
     let negated = cursor.eat_word(Word::Not);
     cursor.expect_word(Word::Null)?;
-    let value = Box::new(cursor.alloc, value)?;
     Ok(Expr::IsNull {
         start,
         negated,
@@ -207,11 +207,11 @@ fn between(
     ensures placed { IfOk result (λ expr. GoesOn (expr_leaves value ++ one (leaf.Reserved words.Between) start)
         cursor.old cursor.new (expr_leaves expr)) }
 {
+    let value = Box::new(cursor.alloc, value)?;
     let low = line(cursor, LineKind::Sum, levels)?;
+    let low = Box::new(cursor.alloc, low)?;
     cursor.expect_word(Word::And)?;
     let high = line(cursor, LineKind::Sum, levels)?;
-    let value = Box::new(cursor.alloc, value)?;
-    let low = Box::new(cursor.alloc, low)?;
     let high = Box::new(cursor.alloc, high)?;
     Ok(Expr::Between {
         start,
@@ -228,8 +228,8 @@ fn like(cursor: &mut Cursor, start: usize, negated: bool, value: Expr) -> Result
     ensures placed { IfOk result (λ expr. GoesOn (expr_leaves value ++ one (leaf.Reserved words.Like) start)
         cursor.old cursor.new (expr_leaves expr)) }
 {
-    let pattern = cursor.string()?;
     let value = Box::new(cursor.alloc, value)?;
+    let pattern = cursor.string()?;
     Ok(Expr::Like {
         start,
         negated,
@@ -386,8 +386,8 @@ fn argument(
     }
     let distinct = query::distinct(cursor);
     let argument = line(cursor, LineKind::Disjunction, levels)?;
-    cursor.expect_symbol(Symbol::CloseParen)?;
     let argument = Box::new(cursor.alloc, argument)?;
+    cursor.expect_symbol(Symbol::CloseParen)?;
     Ok(Expr::Function {
         start,
         function,
@@ -431,8 +431,8 @@ fn subquery(cursor: &mut Cursor, levels: u8) -> Result<Box<Block>, ParseStop>
     ensures placed { IfOk result (λ query. Stands cursor.old cursor.new (block_leaves query.value)) }
 {
     let query = query::block(cursor, levels)?;
-    cursor.expect_symbol(Symbol::CloseParen)?;
     let query = Box::new(cursor.alloc, query)?;
+    cursor.expect_symbol(Symbol::CloseParen)?;
     Ok(query)
 }
 

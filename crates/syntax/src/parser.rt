@@ -1,6 +1,6 @@
 //! Reads a whole script.
 
-ghost use Rattle.std.specs.Prelude.{◌≡◌, [], IfOk, IfErr};
+ghost use Rattle.std.specs.Prelude.{[], IfOk, IfErr};
 ghost use Rattle.definitions.specs.Grammar.{Derives};
 ghost use Rattle.lexer.specs.Meaning.{kinds_of, tokens_of};
 ghost use Rattle.parse_tree.specs.Trees.{statements_of};

@@ -1,6 +1,6 @@
 //! Reads the statements other than queries.
 
-ghost use Rattle.std.specs.Prelude.{◌≡◌, [], IfOk, map, option_map};
+ghost use Rattle.std.specs.Prelude.{[], IfOk, map, option_map};
 ghost use Rattle.definitions.specs.Grammar as grammar;
 ghost use Rattle.definitions.specs.Grammar.{within};
 ghost use Rattle.parse_tree.specs.Trees.{bound_of, constraint_of, statistics_of, name_of, range_of, statement_of};

@@ -7,7 +7,7 @@ use Rattle.definitions.specs.Rule as g
 use Rattle.definitions.specs.Grammar.{ListOf, comma_in}
 use Rattle.definitions.proofs.Alike.{Alike}
 use Rattle.syntax_cursor.specs.declared.stop.ParseStop.{ParseStop}
-use Rattle.syntax_cursor.specs.Reading.{Place, IsNext, Agree, Nowhere, Outcome, viewed}
+use Rattle.syntax_cursor.specs.Reading.{Place, IsNext, Outcome, viewed}
 use Rattle.syntax_cursor.specs.Reading as r
 use Rattle.syntax_cursor.proofs.Stopping.{nowhere_first, nowhere_joined, nowhere_repeats, stops_as, gives_here}
 use Rattle.syntax_cursor.proofs.Tokens.{inside}

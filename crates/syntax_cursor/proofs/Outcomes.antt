@@ -8,7 +8,7 @@ use Rattle.definitions.specs.Grammar.{Maybe}
 use Rattle.definitions.proofs.Alike.{Alike}
 use Rattle.syntax_cursor.specs.declared.stop.ParseStop.{ParseStop}
 use Rattle.syntax_cursor.specs.declared.stop.ParseStop.TheVariants as s
-use Rattle.syntax_cursor.specs.Reading.{Place, IsNext, Eats, Takes, Agree, Nowhere, Stops, Outcome, ParsesFlat, Given, viewed, opened}
+use Rattle.syntax_cursor.specs.Reading.{Place, IsNext, Eats, Takes, Agree, Nowhere, Stops, Outcome, ParsesFlat, Given, viewed}
 use Rattle.syntax_cursor.specs.Reading as r
 use Rattle.syntax_cursor.proofs.Stopping.{nowhere_past, nowhere_sees, nowhere_misses, nowhere_past_none, nowhere_reads, nowhere_reads_not, nowhere_never, nowhere_first, nowhere_next, stops_as, past_made, reads_made, gives_here}
 

@@ -2,7 +2,7 @@
 use Rattle.std.proofs.Common.{◌≡◌, ◌∙◌, refl, sym, ap, ℕ, zero, suc, ◌+◌, ◌≤◌, List, [], ◌∷◌, Option, Some, None, arith}
 use Rattle.std.specs.Prelude.{slice_get}
 use Rattle.definitions.specs.Token.{TokenKind}
-use Rattle.definitions.specs.Rule.{Rule, At, NotAt, Never, Gives, Past, Sees, If, Reads, Then, Repeats}
+use Rattle.definitions.specs.Rule.{Rule, At, NotAt, Never, Gives, Past, Sees, Reads, Then, Repeats}
 use Rattle.definitions.specs.Rule as g
 use Rattle.definitions.specs.Grammar.{opens}
 use Rattle.definitions.proofs.Alike.{Alike, moved}

@@ -1,11 +1,11 @@
 //! The words that the rules are written in: a cursor over the tokens of a script.
 
-ghost use Rattle.std.specs.Prelude.{◌≡◌, ◌↔◌, option_copied, ◌+◌, ◌-◌, ◌≤◌, ◌<◌, length, slice_get, Some, None, IsTrue, IfOk, IfErr, IfSome, IfNone, OnSome, option_map, suc};
+ghost use Rattle.std.specs.Prelude.{◌≡◌, ◌↔◌, option_copied, ◌+◌, ◌-◌, ◌≤◌, ◌<◌, length, slice_get, Some, None, IsTrue, IfOk, IfErr, IfSome, IfNone, OnSome, suc};
 ghost use Rattle.std.specs.Bool.{OnTrue, OnFalse};
 ghost use Rattle.definitions.specs.Characters.{folded};
 ghost use Rattle.definitions.specs.Token.{Mark, Reserved};
 ghost use Rattle.definitions.specs.Rule.{At};
-ghost use Rattle.definitions.specs.Grammar.{NameAt, CountAt, StringAt, name_in, count_in, string_in, numeral_in};
+ghost use Rattle.definitions.specs.Grammar.{NameAt, CountAt, StringAt, name_in, count_in, string_in};
 ghost use Rattle.lexer.specs.Meaning.{kind_of, kinds_of, symbol_of, word_of};
 ghost use Rattle.lexer.specs.Quoted.{quoted_text};
 ghost use Rattle.syntax_cursor.specs.declared.stop.ParseStop.TheVariants as stop;

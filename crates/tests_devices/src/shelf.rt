@@ -4,7 +4,7 @@ use sqlr::{FetchFault, Fetched, Library};
 use std::alloc::Global;
 
 /// A file: its name and what it holds.
-#[derive(Clone, Copy, Debug)]
+#[derive(Clone, Copy)]
 pub struct File<'a> {
     pub name: &'a str,
     pub bytes: &'a [u8],

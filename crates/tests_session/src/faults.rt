@@ -49,6 +49,7 @@ struct Job<'a> {
     second: &'a str,
 }
 
+/// How both scripts of a job end, and what they print.
 fn run_faulty(alloc: Global, job: Job) -> (Ran, Ran) {
     run_faulty_job::<Brand>(alloc, job, Blank::new(1))
 }
@@ -68,60 +69,67 @@ fn run_faulty_job<L: Ledger>(alloc: Global, job: Job, fetches: Blank) -> (Ran, R
         failures: Failures::new(book, share),
     };
     let mut session = Session::new(alloc, library);
-    let first = run(alloc, &mut session, Vec::new(alloc), Part::whole(job.first));
-    let second = run(
-        alloc,
-        &mut session,
-        Vec::new(alloc),
-        Part::whole(job.second),
-    );
+    let first = run(&mut session, Vec::new(alloc), Part::whole(job.first));
+    let second = run(&mut session, Vec::new(alloc), Part::whole(job.second));
     (first, second)
 }
 
-#[test]
-fn faulty_file_changes_nothing(rt: HostRuntime) {
-    let first =
-        "CREATE TABLE T (A INTEGER, B CHAR(3)); LOAD T FROM 'two.csv'; SELECT A FROM T; LOAD T FROM 'faulty.csv'; SELECT B FROM T;";
-    let second = "SELECT A, B FROM T; LOAD T FROM 'two.csv';";
-    // The file's name stands at byte 91 of the script.
-    for (fault, end) in [
-        (FetchFault::Device, RunFault::Library { offset: 91 }),
-        (FetchFault::Memory, RunFault::Memory { offset: 91 }),
-    ] {
-        let job = Job {
-            fault,
-            first,
-            second,
-        };
-        let (broken, after) = run_faulty(rt.alloc(), job);
-        assert_eq!(rt; broken.end, Err(end));
-        assert_eq!(rt;
-            broken.printed.as_slice(),
-            b"OK\n2 rows loaded\nA\n1\n2\n2 rows\n".as_slice()
-        );
-        assert_eq!(rt; after.end, Ok(Ended::Well));
-        assert_eq!(rt;
-            after.printed.as_slice(),
-            b"A|B\n1|'a  '\n2|'b  '\n2 rows\n2 rows loaded\n".as_slice()
-        );
-    }
+/// Whether a file that cannot be fetched ends a run so, and leaves what the statements before it made.
+fn changes_nothing(alloc: Global, fault: FetchFault, end: RunFault) -> bool {
+    let job = Job {
+        fault,
+        first: "CREATE TABLE T (A INTEGER, B CHAR(3)); LOAD T FROM 'two.csv'; SELECT A FROM T; LOAD T FROM 'faulty.csv'; SELECT B FROM T;",
+        second: "SELECT A, B FROM T; LOAD T FROM 'two.csv';",
+    };
+    let (broken, after) = run_faulty(alloc, job);
+    broken.is(Err(end), "OK\n2 rows loaded\nA\n1\n2\n2 rows\n")
+        && after.is(
+            Ok(Ended::Well),
+            "A|B\n1|'a  '\n2|'b  '\n2 rows\n2 rows loaded\n",
+        )
 }
 
+// The file's name stands at byte 91 of the script.
 #[test]
-fn file_of_no_table_is_not_fetched(rt: HostRuntime) {
+fn faulty_file_changes_nothing(rt: HostRuntime) {
+    let alloc = rt.alloc();
+    assert!(rt; changes_nothing(alloc, FetchFault::Device, RunFault::Library { offset: 91 }));
+    assert!(rt; changes_nothing(alloc, FetchFault::Memory, RunFault::Memory { offset: 91 }));
+}
+
+/// Whether LOAD of a table that isn't there asks for no file, and of one that is there does.
+fn asks_for_no_file(alloc: Global) -> bool {
     let job = Job {
         fault: FetchFault::Device,
         first: "LOAD T FROM 'faulty.csv'; CREATE TABLE T (A INTEGER);",
         second: "LOAD T FROM 'faulty.csv';",
     };
-    let (refused, broken) = run_faulty(rt.alloc(), job);
-    assert_eq!(rt; refused.end, Ok(Ended::Faulted));
-    assert_eq!(rt;
-        refused.printed.as_slice(),
-        b"error E08 42000\nOK\n".as_slice()
-    );
-    assert_eq!(rt; broken.end, Err(RunFault::Library { offset: 12 }));
-    assert!(rt; broken.printed.is_empty());
+    let (refused, broken) = run_faulty(alloc, job);
+    refused.is(Ok(Ended::Faulted), "error E08 42000\nOK\n")
+        && broken.is(Err(RunFault::Library { offset: 12 }), "")
+}
+
+#[test]
+fn file_of_no_table_is_not_fetched(rt: HostRuntime) {
+    assert!(rt; asks_for_no_file(rt.alloc()));
+}
+
+/// Whether a run ends so over a sink of so much room, with a beginning of the text in it, and leaves what the statements did whose texts
+/// it took and the one that it broke off in.
+fn ends_over(
+    alloc: Global,
+    script: &str,
+    text: &str,
+    room: usize,
+    end: Result<Ended, RunFault>,
+) -> bool {
+    let files = &FILES;
+    let mut session = Session::new(alloc, Shelf { alloc, files });
+    let cut = run(&mut session, Vec::new(alloc), Part { script, room });
+    let look = run(&mut session, Vec::new(alloc), Part::whole(LOOK));
+    cut.end == end
+        && text.as_bytes().get(..room) == Some(cut.printed.as_slice())
+        && look.printed.as_slice() == seen_behind(steps_run(room)).as_bytes()
 }
 
 #[test]
@@ -129,42 +137,11 @@ fn sinks_fail_at_each_byte(rt: HostRuntime) -> Result<(), AllocError> {
     let alloc = rt.alloc();
     let (script, text) = (script(alloc)?, text(alloc)?);
     for room in 0..text.len() {
-        let files = &FILES;
-        let mut session = Session::new(alloc, Shelf { alloc, files });
-        let part = Part {
-            script: &script,
-            room,
-        };
-        let cut = run(alloc, &mut session, Vec::new(alloc), part);
-        assert_eq!(rt; cut.end, Err(RunFault::Sink), "with room for {room}");
-        assert_eq!(rt;
-            cut.printed.as_slice(),
-            &text.as_bytes()[..room],
-            "with room for {room}"
-        );
-        let look = run(alloc, &mut session, Vec::new(alloc), Part::whole(LOOK));
-        let seen = seen_behind(steps_run(room));
-        assert_eq!(rt;
-            look.printed.as_slice(),
-            seen.as_bytes(),
+        assert!(rt;
+            ends_over(alloc, &script, &text, room, Err(RunFault::Sink)),
             "with room for {room}"
         );
     }
-    Ok(())
-}
-
-#[test]
-fn sink_with_room_for_all_takes_all(rt: HostRuntime) -> Result<(), AllocError> {
-    let alloc = rt.alloc();
-    let (script, text) = (script(alloc)?, text(alloc)?);
-    let files = &FILES;
-    let mut session = Session::new(alloc, Shelf { alloc, files });
-    let part = Part {
-        script: &script,
-        room: text.len(),
-    };
-    let ran = run(alloc, &mut session, Vec::new(alloc), part);
-    assert_eq!(rt; ran.end, Ok(Ended::Faulted));
-    assert_eq!(rt; ran.printed.as_slice(), text.as_bytes());
+    assert!(rt; ends_over(alloc, &script, &text, text.len(), Ok(Ended::Faulted)));
     Ok(())
 }

@@ -4,7 +4,7 @@
 use crate::steps::{FILES, LOOK, STEPS, script, seen_behind, steps_printed};
 use sqlr::{Ended, RunFault, Session};
 use std::test::Fail;
-use tests_devices::{Part, Ran, Shelf, run};
+use tests_devices::{Part, Shelf, run};
 
 /// Room for all that is printed, so that no sink wants memory.
 const ROOM: usize = 256;
@@ -22,23 +22,19 @@ fn refused_allocation_leaves_whole_statements(rt: HostRuntime) -> Result<(), Fai
     };
     let files = &FILES;
     let mut session = Session::new(alloc, Shelf { alloc, files });
-    let Ran { end, printed, .. } = run(alloc, &mut session, tape, Part::whole(&script));
-    let done = steps_printed(&printed).ok_or("no whole texts")?;
-    assert!(rt; is_end_behind(end, done), "behind {done} statements");
-    let look = run(alloc, &mut session, second_tape, Part::whole(LOOK));
+    let ran = run(&mut session, tape, Part::whole(&script));
+    let done = steps_printed(&ran.printed).ok_or("no whole texts")?;
+    assert!(rt; is_end_behind(ran.end, done), "behind {done} statements");
+    let look = run(&mut session, second_tape, Part::whole(LOOK));
     if done < STEPS.len() {
         println!(rt; "refused behind {done} statements")?;
     } else if look.end.is_err() {
         println!(rt; "refused behind the run")?;
-        assert!(rt; matches!(look.end, Err(RunFault::Memory { .. })));
-        assert!(rt; look.printed.is_empty());
+        assert!(rt; matches!(look.end, Err(RunFault::Memory { .. })) && look.printed.is_empty());
         return Ok(());
     }
-    assert_eq!(rt;
-        look.printed.as_slice(),
-        seen_behind(done).as_bytes(),
-        "behind {done} statements"
-    );
+    let is_seen = look.printed.as_slice() == seen_behind(done).as_bytes();
+    assert!(rt; is_seen, "behind {done} statements");
     Ok(())
 }
 

@@ -2,7 +2,6 @@
 
 use sqlr::{Ended, Session};
 use std::alloc::Global;
-use std::test::Fail;
 use tests_devices::{File, Part, Ran, Shelf, check, run};
 
 static FILES: [File; 5] = [
@@ -46,56 +45,80 @@ fn session<'a>(alloc: Global) -> Session<Shelf<'a>> {
 }
 
 fn ran<'a>(alloc: Global, session: &mut Session<Shelf<'a>>, script: &str) -> Ran {
-    run(alloc, session, Vec::new(alloc), Part::whole(script))
+    run(session, Vec::new(alloc), Part::whole(script))
+}
+
+/// What a session's work is behind a script.
+fn work_behind<'a>(alloc: Global, session: &mut Session<Shelf<'a>>, script: &str) -> u64 {
+    let _printed = ran(alloc, session, script);
+    session.work()
+}
+
+/// Whether the join of the pairs prints its two rows, in either order.
+fn joins_pairs<'a>(alloc: Global, session: &mut Session<Shelf<'a>>) -> bool {
+    let printed = ran(alloc, session, "SELECT P, Q FROM T1, T2 WHERE X = Y;");
+    printed.is(Ok(Ended::Well), "P|Q\n10|5\n30|5\n2 rows\n")
+        || printed.is(Ok(Ended::Well), "P|Q\n30|5\n10|5\n2 rows\n")
 }
 
 // The loop that begins with T2 costs 34, that from T1 46 and each merge 71: two rows of T2 are opened, and for each the three of T1.
 #[test]
-fn joined_rows_are_counted(rt: HostRuntime) -> Result<(), Fail> {
+fn joined_rows_are_counted(rt: HostRuntime) {
     let alloc = rt.alloc();
     let mut session = session(alloc);
-    assert_eq!(rt; session.work(), 0);
-    let _made = ran(alloc, &mut session, PAIRS);
-    assert_eq!(rt; session.work(), 0);
-    let Ran { end, printed, .. } = ran(alloc, &mut session, "SELECT P, Q FROM T1, T2 WHERE X = Y;");
-    assert!(rt; matches!(end, Ok(Ended::Well)));
-    let text = str::from_utf8(&printed)?;
-    assert!(rt; text == "P|Q\n10|5\n30|5\n2 rows\n" || text == "P|Q\n30|5\n10|5\n2 rows\n");
-    assert_eq!(rt; session.work(), 8);
-    Ok(())
+    assert!(rt; session.work() == 0);
+    assert!(rt; work_behind(alloc, &mut session, PAIRS) == 0);
+    assert!(rt; joins_pairs(alloc, &mut session));
+    assert!(rt; session.work() == 8);
+}
+
+/// Whether the plan that EXPLAIN prints of the tie begins with its first table.
+fn begins_with_first<'a>(alloc: Global, session: &mut Session<Shelf<'a>>) -> Option<bool> {
+    let told = ran(alloc, session, "EXPLAIN SELECT X, Y FROM T1, T2;");
+    let text = str::from_utf8(&told.printed).ok()?;
+    if text.contains("\nTARGET 220\n") {
+        Some(text.contains("\nPLAN LOOP(ACCESS(SEG 1)"))
+    } else {
+        None
+    }
 }
 
 // One row of T1 and for it three of T2, or three of T2 and for each the one of T1.
 #[test]
-fn work_is_that_of_the_plan_that_explain_prints(rt: HostRuntime) -> Result<(), Fail> {
+fn work_is_that_of_the_plan_that_explain_prints(rt: HostRuntime) {
     let alloc = rt.alloc();
     let mut session = session(alloc);
     let _made = ran(alloc, &mut session, TIE);
-    let told = ran(alloc, &mut session, "EXPLAIN SELECT X, Y FROM T1, T2;");
-    let text = str::from_utf8(&told.printed)?;
-    assert!(rt; text.contains("\nTARGET 220\n"));
-    let from_first = text.contains("\nPLAN LOOP(ACCESS(SEG 1)");
-    let _printed = ran(alloc, &mut session, "SELECT X, Y FROM T1, T2;");
-    assert_eq!(rt; session.work(), if from_first { 4 } else { 6 });
-    Ok(())
+    let opened = match begins_with_first(alloc, &mut session) {
+        Some(true) => 4,
+        Some(false) => 6,
+        None => 0,
+    };
+    assert!(rt; work_behind(alloc, &mut session, "SELECT X, Y FROM T1, T2;") == opened);
+}
+
+/// Whether what prints no rows leaves a work of 8 as it is: an exception, a refusal, EXPLAIN and a check.
+fn leaves_work<'a>(alloc: Global, session: &mut Session<Shelf<'a>>) -> bool {
+    let raised = ran(alloc, session, "SELECT A / B FROM R;");
+    let behind_raise = session.work();
+    let behind_refusal = work_behind(alloc, session, "SELECT Z FROM R;");
+    let behind_explain = work_behind(alloc, session, "EXPLAIN SELECT A FROM R;");
+    let last = Part::whole("SELECT A FROM R;");
+    let _checked = check(session, Vec::new(alloc), last, b"");
+    raised.end == Ok(Ended::Faulted)
+        && behind_raise == 8
+        && behind_refusal == 8
+        && behind_explain == 8
+        && session.work() == 8
 }
 
 #[test]
-fn work_stays_where_no_rows_are_printed(rt: HostRuntime) -> Result<(), Fail> {
+fn work_stays_where_no_rows_are_printed(rt: HostRuntime) {
     let alloc = rt.alloc();
     let mut session = session(alloc);
     let _made = ran(alloc, &mut session, PAIRS);
     let _more = ran(alloc, &mut session, QUOTIENTS);
-    let _printed = ran(alloc, &mut session, "SELECT P, Q FROM T1, T2 WHERE X = Y;");
-    let raised = ran(alloc, &mut session, "SELECT A / B FROM R;");
-    assert!(rt; matches!(raised.end, Ok(Ended::Faulted)));
-    assert_eq!(rt; session.work(), 8);
-    let _refused = ran(alloc, &mut session, "SELECT Z FROM R;");
-    let _told = ran(alloc, &mut session, "EXPLAIN SELECT A FROM R;");
-    let last = Part::whole("SELECT A FROM R;");
-    let _checked = check(alloc, &mut session, Vec::new(alloc), last, b"");
-    assert_eq!(rt; session.work(), 8);
-    let _one = ran(alloc, &mut session, "SELECT A FROM R WHERE A > B;");
-    assert_eq!(rt; session.work(), 1);
-    Ok(())
+    assert!(rt; joins_pairs(alloc, &mut session));
+    assert!(rt; leaves_work(alloc, &mut session));
+    assert!(rt; work_behind(alloc, &mut session, "SELECT A FROM R WHERE A > B;") == 1);
 }

@@ -11,4 +11,3 @@ mod sorting;
 
 pub use list::Composites;
 pub use rows::sort_rows;
-pub use sort_tuple::number_key;

@@ -4,12 +4,12 @@ ghost use Rattle.std.specs.Prelude.{◌≡◌, ◌<◌, IfSome, map};
 ghost use Rattle.std.specs.List.{All};
 ghost use Rattle.query_tree.specs.Bound.{column_of};
 ghost use Rattle.sqlvalue.specs.Meaning.{value_of};
-ghost use Rattle.tuple_sort.specs.Keys.{packed_in, text_number, HasKey, HasNumberKey, HaveKeys};
+ghost use Rattle.tuple_sort.specs.Keys.{packed_in, text_number, HasKey, HaveKeys};
 
 use crate::packing::row_in;
 use query_tree::BlockColumn;
 use scans::BlockSource;
-use sqlvalue::Value;
+use sqlvalue::{Value, number_key};
 
 /// The rows of some tables, and what they are sorted by first.
 #[derive(Clone, Copy)]
@@ -88,30 +88,27 @@ fn form_in<const WIDTH: usize>(
     KeyForm::Prefix
 }
 
-/// A whole number that ranks as a null or a number of a scale does among such, if its units are not too many (own).
-pub fn number_key(value: &Value, scale: u8) -> Option<i64>
-    ensures { IfSome result (HasNumberKey scale (value_of value.now)) }
-{
-    key_of(value, KeyForm::Units(scale))
-}
-
 /// The key of a null, which is before all others, of a number of a scale, whose units are not too many, or of a text.
 fn key_of(value: &Value, form: KeyForm) -> Option<i64>
     ensures { IfSome result (HasKey form (value_of value.now)) }
 {
-    match (value, form) {
-        (Value::Null, _) => Some(i64::MIN),
-        (Value::Num(number), KeyForm::Units(scale)) if number.scale == scale => match i64::try_from(
-            number.units,
-        ) {
-            Ok(units) if units > i64::MIN => Some(units),
-            _ => None,
-        },
-        (Value::Text(text), KeyForm::Prefix) => match i64::try_from(prefix_of(text.as_bytes())) {
+    match form {
+        KeyForm::Units(scale) => number_key(value, scale),
+        KeyForm::Prefix => prefix_key(value),
+    }
+}
+
+/// The key of a null or of a text.
+fn prefix_key(value: &Value) -> Option<i64>
+    ensures { IfSome result (HasKey KeyForm.Prefix (value_of value.now)) }
+{
+    match value {
+        Value::Null => Some(i64::MIN),
+        Value::Text(text) => match i64::try_from(prefix_of(text.as_bytes())) {
             Ok(prefix) => Some(prefix),
             Err(_) => None,
         },
-        _ => None,
+        Value::Num(_) => None,
     }
 }
 

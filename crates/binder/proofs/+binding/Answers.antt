@@ -5,7 +5,7 @@ use Rattle.definitions.specs.ValueType.{NumberType, TextType}
 use Rattle.query_tree.specs.Bound.{block_of, value_of, value_type_of, operand_of as bound_operand_of, bound_function_of, item_of, condition_of as bound_condition_of, column_of as block_column_of, conditions, member_of as bound_member_of}
 use Rattle.query_tree.proofs.Views.{of_signed as bound_signed, of_chain as bound_chain, of_subquery as bound_subquery, of_compare as bound_compare, of_quantified as bound_quantified, of_is_null as bound_is_null, of_between as bound_between, of_like as bound_like, of_in_list as bound_in_list, of_in_query as bound_in_query, of_exists as bound_exists, of_not as bound_not, of_and as bound_and, of_or as bound_or}
 use Rattle.parse_tree.specs.Trees.{column_of, expr_of, text_of, operand_of, member_of, block_of as query_of, operator_of, function_of, condition_of, item_of as listed_item_of, list_of, name_of, source_of, quantifier_of}
-use Rattle.parse_tree.proofs.Views.{of_column, of_numeral, of_string, of_signed, of_not, of_compare, of_compare_all, of_is_null, of_between, of_like, of_in_query, of_exists, of_scalar, of_count_rows, of_function, of_in_list, of_line, of_asterisk, of_items}
+use Rattle.parse_tree.proofs.Views.{of_column, of_numeral, of_string, of_signed, of_compare, of_compare_all, of_between, of_in_query, of_scalar, of_count_rows, of_function, of_in_list, of_line, of_asterisk, of_items}
 use Rattle.std.specs.Prelude.{IfSome, option_map, IsTrue}
 use Rattle.definitions.specs.Grammar.{operands, items, members}
 use Rattle.parse_tree.specs.declared.expr.Expr.{the_lemmas}

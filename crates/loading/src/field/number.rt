@@ -1,18 +1,18 @@
 //! Numbers as fields write them.
 
-ghost use Rattle.std.specs.Prelude.{◌≡◌, ◌<◌, ◌≤◌, ◌*◌, ◌^◌, ◌++◌, ◌||◌, ◌==◌, filter, ℕ, List, Some, Ok, Err, Bool, IsTrue, IfOk, IfErr, IfSome, IfNone, length, unwrap_or, pos};
+ghost use Rattle.std.specs.Prelude.{◌≡◌, ◌<◌, ◌≤◌, ◌*◌, ◌^◌, ◌++◌, ◌||◌, ◌==◌, filter, ℕ, List, Some, Ok, Err, Bool, IsTrue, IfOk, IfErr, IfSome, length, unwrap_or};
 ghost use Rattle.std.specs.Str.Parse.{digits_value as value_of_digits};
 ghost use Rattle.std.specs.List.{list_all, position_from};
 ghost use Rattle.definitions.specs.Characters.{period, is_digit};
-ghost use Rattle.definitions.specs.Limits.{most_digits, greatest_precision};
+ghost use Rattle.definitions.specs.Limits.{most_digits};
 ghost use Rattle.definitions.specs.Refusal as refusal;
 ghost use Rattle.definitions.specs.Value as spec;
 ghost use Rattle.definitions.specs.Lexing as lexing;
-ghost use Rattle.definitions.specs.Loading.{FieldLoads, IsSign, negated};
+ghost use Rattle.definitions.specs.Loading.{FieldLoads, IsSign};
 ghost use Rattle.sqlvalue.specs.Meaning.{type_of};
 ghost use Rattle.sqlvalue.specs.RefusalMeaning.{field_error_of};
 ghost use Rattle.columns.specs.Cells.{number_or_null};
-ghost use Rattle.loading.specs.Fields.{IsEqualOf, number_of, WritesShort, WritesNone, Stores, StoresNone};
+ghost use Rattle.loading.specs.Fields.{WritesShort, WritesNone, Stores, StoresNone};
 
 use super::is_null;
 use crate::written_number::{MAX_DIGITS, WrittenNumber, power_of_ten, units_in};

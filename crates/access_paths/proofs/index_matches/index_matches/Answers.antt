@@ -1,4 +1,4 @@
-use Rattle.std.proofs.Common.{◌∙◌, map, ap, arith}
+use Rattle.std.proofs.Common.{◌∙◌, map, ap}
 use Rattle.query_tree.specs.Bound.{block_of}
 use Rattle.access_paths.specs.Matches.{index_matches, with_column}
 use Rattle.access_paths.specs.Views.{chain_told, match_told}

@@ -1,8 +1,3 @@
-use Rattle.std.proofs.Common.{map, length, ◌<◌}
-use Rattle.std.specs.List.{AllByRecursion}
-use Rattle.definitions.specs.Limits.{most_index_columns}
-use Rattle.access_paths.specs.Matches.{IndexMatch}
-use Rattle.access_paths.specs.Views.{chain_told}
 use Rattle.access_paths.proofs.Rooms.{room_at}
 use Rattle.access_paths.proofs.index_matches.push_before.Goals as goal
 

@@ -1,4 +1,4 @@
-use Rattle.std.proofs.Common.{◌≡◌, ◌∙◌, ◌<◌, sym, ap, length, subst}
+use Rattle.std.proofs.Common.{◌∙◌, sym, ap}
 use Rattle.std.specs.Prelude.{option_map}
 use Rattle.definitions.specs.Queries.Conjuncts.{conjuncts}
 use Rattle.query_tree.specs.Bound.{block_of, column_of}

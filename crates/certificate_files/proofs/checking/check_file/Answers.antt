@@ -1,6 +1,5 @@
-use Rattle.std.proofs.Common.{◌≡◌, ◌∙◌, ◌≤◌, ◌<◌, sym, ap, subst, ℕ, ◌+◌, List, length, take, drop, map, arith}
+use Rattle.std.proofs.Common.{◌≤◌, ap, ℕ, ◌+◌, List, length, drop, map, arith}
 use Rattle.std.proofs.lemmas.List.{length-map, length-drop}
-use Rattle.definitions.specs.Limits.{most_blocks}
 use Rattle.definitions.specs.Binding.Formed.{IsFormedSomewhere}
 use Rattle.query_tree.specs.Bound.{block_of}
 use Rattle.interesting_orders.specs.Versions.{version_of}

@@ -1,4 +1,4 @@
-use Rattle.std.proofs.Common.{◌∙◌, sym}
+use Rattle.std.proofs.Common.{sym}
 use Rattle.certificate_files.proofs.FirstLines.{line_at, line_to_end}
 use Rattle.certificate_files.proofs.cutting.line_end.Goals as goal
 

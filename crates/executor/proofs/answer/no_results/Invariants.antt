@@ -1,4 +1,4 @@
-use Rattle.std.proofs.Common.{◌≡◌, ℕ, length, Option, None}
+use Rattle.std.proofs.Common.{◌≡◌, length, None}
 use Rattle.std.specs.List.{AllByRecursion}
 use Rattle.subqueries.specs.Keeping.{places_in}
 use Rattle.subqueries.specs.declared.kept_results.KeptResults.{KeptResults}

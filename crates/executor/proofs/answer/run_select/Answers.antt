@@ -1,4 +1,4 @@
-use Rattle.std.proofs.Common.{◌≡◌, ◌∙◌, refl, sym, ap, subst, ◌<◌, List, [], ◌∷◌, ◌++◌, Some, length, map}
+use Rattle.std.proofs.Common.{◌≡◌, ◌∙◌, refl, sym, ap, subst, List, [], ◌∷◌, ◌++◌, Some, length, map}
 use Rattle.std.specs.Prelude.{not, slice_get, sum_by, Ok}
 use Rattle.std.proofs.lemmas.Option.{slice_get-get_or}
 use Rattle.std.proofs.lemmas.Result.{err_from_is_err_and}
@@ -22,13 +22,13 @@ use Rattle.scans.specs.Composites.{numbers_in}
 use Rattle.scans.specs.Sources.{block_in, stored_in, IsSurrounded}
 use Rattle.subqueries.specs.Found.{said_in}
 use Rattle.subqueries.specs.Framed.{combination_in, combinations_in}
-use Rattle.executor.specs.BlockRows.{comes_in_order, HaveTaken, IsWellFor, TellsOf}
-use Rattle.executor.specs.Groups.{AreTyped}
-use Rattle.executor.specs.Ready.{CanAnswer}
+use Rattle.block_answers.specs.BlockRows.{comes_in_order, HaveTaken, IsWellFor, TellsOf}
+use Rattle.block_answers.specs.Groups.{AreTyped}
+use Rattle.block_answers.specs.Ready.{CanAnswer}
 use Rattle.executor.specs.ReadyBlocks.{blocks_in, database_in, meanings_in, total_at, totals_in, IsReady}
-use Rattle.executor.specs.Telling.{ArrangePassing}
+use Rattle.block_answers.specs.Telling.{ArrangePassing}
 use Rattle.executor.specs.declared.ready_block.ReadyBlock.{ReadyBlock}
-use Rattle.executor.proofs.Ending.{all_done, first_at, split_later}
+use Rattle.block_answers.proofs.Ending.{all_done, first_at, split_later}
 use Rattle.executor.proofs.InnerRows.{can, costs, surrounded, whole}
 use Rattle.executor.proofs.Outermost.{late_allowed, passed_over, raise_allowed, raises, taken, text_allowed}
 use Rattle.executor.proofs.answer.run_select.Goals as goal

@@ -1,4 +1,4 @@
-use Rattle.std.proofs.Common.{rules, map, ◌++◌, ◌≡◌, ◌∙◌, refl, sym, ap, ap₂, subst, ℕ, ◌+◌, ◌-◌, ◌*◌, ◌<◌, ◌≤◌, Some, length, take, get_or, arith, slice_set}
+use Rattle.std.proofs.Common.{rules, map, ◌++◌, ◌≡◌, ◌∙◌, refl, sym, ap, ap₂, subst, ℕ, ◌+◌, ◌-◌, ◌*◌, ◌<◌, Some, length, take, get_or, arith, slice_set}
 use Rattle.std.specs.Prelude.{flat_map, slice_get, sum_by, true, Contains, IfErr, IfOk, OnOk, Ok, List, [], ◌∷◌}
 use Rattle.std.specs.List.{AllByRecursion}
 use Rattle.std.proofs.lemmas.Bool.Decides.{nat_tests}
@@ -20,8 +20,8 @@ use Rattle.definitions_answers.specs.Taking.{Says}
 use Rattle.scans.specs.Asks.{CanEvaluate}
 use Rattle.sqlvalue.specs.Raises.{raise_of}
 use Rattle.subqueries.specs.Found.{said_in}
-use Rattle.executor.specs.OneComposite.{are_true_in, raised_in}
-use Rattle.executor.specs.Views.{conditions_of}
+use Rattle.block_answers.specs.OneComposite.{are_true_in, raised_in}
+use Rattle.block_answers.specs.Views.{conditions_of}
 use Rattle.definitions_answers.specs.Told.{told_environment, TellsRows}
 use Rattle.definitions_answers.specs.Parameters.{outer_values, parameters}
 use Rattle.definitions_answers.proofs.Kept.{kept_is_right}
@@ -33,7 +33,7 @@ use Rattle.subqueries.specs.Telling.{told_in}
 use Rattle.subqueries.specs.declared.kept_results.KeptResults.{KeptResults}
 use Rattle.subqueries.proofs.KeptPlaces.{latest_is_told, latest_is_total}
 use Rattle.scans.specs.Sources.{block_in, context_in, stored_in}
-use Rattle.executor.specs.ReadyBlocks.{blocks_in, database_in, meanings_in, plans_in, totals_in, subqueries_at, subqueries_of, total_at, AreLeft, IsReady, IsToldLast}
+use Rattle.executor.specs.ReadyBlocks.{blocks_in, database_in, meanings_in, plans_in, totals_in, subqueries_at, subqueries_of, total_at, IsReady, IsToldLast}
 use Rattle.executor.specs.declared.ready_block.ReadyBlock.{ReadyBlock}
 use Rattle.executor.proofs.InnerBlocks.{at_index, index_is, kept_same, left_below, left_less, left_twice, one_later, right_same, right_with, rising_before, stays_all, sum_later, sum_stops, told_here}
 use Rattle.definitions.specs.Estimates.BlockSpace.{space_of}
@@ -46,12 +46,12 @@ use Rattle.operators.specs.Running.{left_of, opened_of, width_of, IsLine}
 use Rattle.plan_tree.specs.Plans.{plan_of}
 use Rattle.query_tree.specs.Bound.{block_of}
 use Rattle.scans.specs.Composites.{numbers_in}
-use Rattle.executor.specs.BlockRows.{IsWellFor}
-use Rattle.executor.specs.KeptRows.{TellsKept}
-use Rattle.executor.specs.Ready as before
-use Rattle.executor.specs.Ready.{CanAnswer}
-use Rattle.executor.specs.Telling.{context_with}
-use Rattle.executor.proofs.Ending.{all_done, first_at, split_later}
+use Rattle.block_answers.specs.BlockRows.{IsWellFor}
+use Rattle.block_answers.specs.KeptRows.{rows_in, TellsKept}
+use Rattle.block_answers.specs.Ready as before
+use Rattle.block_answers.specs.Ready.{CanAnswer}
+use Rattle.block_answers.specs.Telling.{context_with}
+use Rattle.block_answers.proofs.Ending.{all_done, first_at, split_later}
 use Rattle.executor.proofs.InnerRows.{can, costs, grows, means, surrounded, whole, TakesOne}
 use Rattle.executor.proofs.InnerTelling.{code_says, inside_listed, late_can_told, same_block, says}
 use Rattle.executor.proofs.nested.+nested.Goals as goal
@@ -459,7 +459,7 @@ evaluate_block-composites-preserved g t c =
         grows query c.requires.query number r at_block outer c.requires.stands c.in_ok-late.late c.composites.rows c.take.new.self composite done takes said have,
         c.sum_of-inner.ensures ∙ costs query c.requires.query number r at_block outer c.requires.stands c.composites.inner c.in_ok-late.work composite done counted worth,
       );
-      good = subst (λ o. IsWellFor r.source o c.take.new.self.rows) frames c.in_ok-take.ensures.well;
+      good = subst (λ o. IsWellFor r.source o (rows_in c.take.new.self)) frames c.in_ok-take.ensures.well;
       order = c.take.ensures.order ∙ c.composites.invariant.order;
       distinct = c.take.ensures.distinct ∙ c.composites.invariant.distinct;
       right = c.in_ok-late.ensures.right;

@@ -1,17 +1,16 @@
-use Rattle.std.proofs.Common.{◌≡◌, ◌<◌, length, map, take, ℕ, ◌+◌, ◌-◌, ◌*◌, ◌++◌, List}
+use Rattle.std.proofs.Common.{◌≡◌, length, map, take, ◌+◌, ◌-◌, ◌*◌, ◌++◌, List}
 use Rattle.std.specs.Prelude.{sum_by}
 use Rattle.std.specs.List.{AllByRecursion}
 use Rattle.definitions.specs.Plans.Cost.{saturated}
 use Rattle.definitions_execution.specs.OfBlock.{combination_of}
 use Rattle.definitions_execution.specs.Stored.{Composite}
-use Rattle.definitions_execution.specs.Total.{subqueries}
 use Rattle.operators.specs.Running.{left_of, opened_of, width_of, IsLine}
 use Rattle.scans.specs.Sources.{block_in}
 use Rattle.subqueries.specs.Framed.{combinations_in}
-use Rattle.executor.specs.BlockRows.{store_in, IsWellFor}
-use Rattle.executor.specs.KeptRows.{TellsKept}
-use Rattle.executor.specs.ReadyBlocks.{blocks_in, database_in, meanings_in, total_at, totals_in, AreLeft, AreRight, IsToldLast}
-use Rattle.executor.specs.Telling.{leaves_repeats_out, puts_in_order}
+use Rattle.block_answers.specs.BlockRows.{store_in, IsWellFor}
+use Rattle.block_answers.specs.KeptRows.{rows_in, TellsKept}
+use Rattle.executor.specs.ReadyBlocks.{meanings_in, total_at, totals_in, AreLeft, AreRight, IsToldLast}
+use Rattle.block_answers.specs.Telling.{leaves_repeats_out, puts_in_order}
 use Rattle.executor.proofs.nested.+nested.Given as goal
 
 -- from a block to one behind it there is less to go
@@ -44,9 +43,9 @@ invariant-evaluate_block-composites g l = record {
       (composites : List Composite) × (left_of l.initial.line (combinations_in l.fn.frames) ≡ composites ++ left_of l.line (combinations_in l.fn.frames))
       × TellsKept l.ready.source (combinations_in l.fn.frames) (meanings_in l.query) (map (combination_of l.ready.source.database (block_in l.ready.source)) composites) l.rows
       × (l.inner ≡ saturated (sum_by (totals_in l.query (combinations_in l.fn.frames) l.ready) (map (combination_of l.ready.source.database (block_in l.ready.source)) composites)));
-  good : IsWellFor l.ready.source (combinations_in l.fn.frames) l.rows.rows;
-  order : puts_in_order (store_in l.rows.rows) ≡ puts_in_order (store_in l.initial.rows.rows);
-  distinct : leaves_repeats_out (store_in l.rows.rows) ≡ leaves_repeats_out (store_in l.initial.rows.rows);
+  good : IsWellFor l.ready.source (combinations_in l.fn.frames) (rows_in l.rows);
+  order : puts_in_order (store_in (rows_in l.rows)) ≡ puts_in_order (store_in (rows_in l.initial.rows));
+  distinct : leaves_repeats_out (store_in (rows_in l.rows)) ≡ leaves_repeats_out (store_in (rows_in l.initial.rows));
   right : AreRight l.query l.results;
   left : AreLeft l.query (l.number + 1) l.fn.results l.results;
   frames_are : combinations_in l.frames ≡ combinations_in l.fn.frames;

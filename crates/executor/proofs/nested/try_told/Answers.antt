@@ -3,8 +3,8 @@ use Rattle.std.specs.Prelude.{Contains, IfErr, IfOk}
 use Rattle.definitions_answers.specs.Told.{told_environment}
 use Rattle.sqlvalue.specs.Raises.{raise_of}
 use Rattle.subqueries.specs.Keeping.{told_by}
-use Rattle.executor.specs.OneComposite.{are_true_in, raised_in}
-use Rattle.executor.specs.Views.{conditions_of}
+use Rattle.block_answers.specs.OneComposite.{are_true_in, raised_in}
+use Rattle.block_answers.specs.Views.{conditions_of}
 use Rattle.executor.proofs.nested.try_told.Goals as goal
 
 pub returns-clause-truth : goal.returns-clause-truth

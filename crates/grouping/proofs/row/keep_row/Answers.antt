@@ -1,9 +1,8 @@
-use Rattle.std.proofs.Common.{◌≡◌, ◌∙◌, ◌++◌, ◌∷◌, [], sym, subst, ap, ap₂, map, drop, ◌+◌, append_assoc, arith}
+use Rattle.std.proofs.Common.{◌∙◌, ◌++◌, ◌∷◌, [], sym, subst, ap, map, drop, ◌+◌, append_assoc, arith}
 use Rattle.std.specs.List.{AllByRecursion}
 use Rattle.std.proofs.lemmas.List.{map-append}
 use Rattle.std.proofs.lemmas.Result.{err_from_is_err_and}
 use Rattle.definitions_answers.specs.Lines.{IsInBounds}
-use Rattle.sqlvalue.specs.Meaning.{value_of}
 use Rattle.sqlvalue.specs.Owned.{owned_value}
 use Rattle.grouping.specs.RowAt.{items_of, row_in}
 use Rattle.grouping.proofs.Bounded.{is_in_bounds}

@@ -1,4 +1,4 @@
-use Rattle.std.proofs.Common.{◌≡◌, ◌∙◌, ◌++◌, ◌∷◌, [], ap, map, drop, ◌+◌, List, ℕ, arith}
+use Rattle.std.proofs.Common.{◌≡◌, ◌∙◌, ◌++◌, ◌∷◌, [], ap, map, drop, ◌+◌, arith}
 use Rattle.definitions.specs.Printing.{value_text}
 use Rattle.sqlvalue.specs.Owned.{owned_value}
 use Rattle.grouping.proofs.Fields.{later_field, first_field}

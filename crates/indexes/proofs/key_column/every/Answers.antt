@@ -1,5 +1,4 @@
-use Rattle.std.proofs.Common.{◌≡◌, ◌<◌, ◌*◌, length, rules}
-use Rattle.std.specs.Prelude.{◌/◌, ◌%◌, ◌+◌, min}
+use Rattle.std.proofs.Common.{◌<◌, ◌*◌, length, rules}
 use Rattle.columns.specs.Columns.{cells_of}
 use Rattle.indexes.proofs.PagedValues.{one_taken, held_more, in_rows}
 use Rattle.std.specs.List.{AllByRecursion}

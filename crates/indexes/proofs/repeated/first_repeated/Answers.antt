@@ -1,4 +1,4 @@
-use Rattle.std.proofs.Common.{◌≡◌, ◌∙◌, ◌-◌, sym, ap, length, rules, arith}
+use Rattle.std.proofs.Common.{◌≡◌, ◌∙◌, ◌-◌, sym, ap, length, rules}
 use Rattle.indexes.specs.Keys.{columns_of, height}
 use Rattle.indexes.proofs.FirstRepeated.{lowest, all_unique, first_is, if_found, if_none}
 use Rattle.indexes.proofs.repeated.first_repeated.Goals as goal

@@ -1,4 +1,4 @@
-use Rattle.std.proofs.Common.{◌≡◌, refl, rules}
+use Rattle.std.proofs.Common.{refl, rules}
 use Rattle.indexes.proofs.SortedRows.{one_behind}
 use Rattle.indexes.proofs.sorting.rows_behind.Goals as goal
 

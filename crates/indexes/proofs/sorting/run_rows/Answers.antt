@@ -1,4 +1,4 @@
-use Rattle.std.proofs.Common.{◌≡◌, ◌∙◌, ap, rules, length}
+use Rattle.std.proofs.Common.{◌≡◌, rules, length}
 use Rattle.std.specs.Prelude.{IsPermutation, ◌++◌, ◌-◌}
 use Rattle.std.specs.List.{range_with_len}
 use Rattle.std.proofs.lemmas.List.Sorted.{IsPermutation-trans}

@@ -2,7 +2,7 @@ use Rattle.std.proofs.Common.{◌≡◌, ◌∙◌, ◌+◌, ◌∷◌, ◌++◌
 use Rattle.std.proofs.lemmas.List.{get_or_default}
 use Rattle.sqlvalue.specs.Owned.{owned_value}
 use Rattle.sqlvalue.specs.declared.owned_value.OwnedValue.{OwnedValue}
-use Rattle.tuple_sort.specs.Keys.{HasNumberKey}
+use Rattle.sqlvalue.specs.NumberKeys.{HasNumberKey}
 use Rattle.subqueries.proofs.NumberKeys.{Keyed, one_more_key}
 use Rattle.subqueries.proofs.first_values.number_keys.Goals as goal
 

@@ -1,6 +1,6 @@
 use Rattle.std.proofs.Common.{◌≡◌, ◌∙◌, rules}
 use Rattle.std.specs.Ordering.{int_cmp}
-use Rattle.tuple_sort.proofs.KeyedRows.{of_one_scale}
+use Rattle.sqlvalue.proofs.NumberKeys.{of_one_scale}
 use Rattle.tuple_sort.proofs.ranking.rank_of_values.Goals as goal
 
 pub returns-in-Num-Num : goal.returns-in-Num-Num

@@ -1,4 +1,4 @@
-use Rattle.std.proofs.Common.{◌≡◌, ◌≢◌, ◌∙◌, sym, ap₂, true, false, rules, to_z-of_z, FitsSigned}
+use Rattle.std.proofs.Common.{◌≡◌, ◌∙◌, sym, ap₂, true, rules, FitsSigned}
 use Rattle.std.specs.Int.{w64}
 use Rattle.definitions.specs.Value.{rank, scale_of}
 use Rattle.columns.proofs.Lookups.{present_number, number_absence, units_rank, nulls_rank}

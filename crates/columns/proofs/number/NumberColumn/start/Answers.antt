@@ -1,4 +1,4 @@
-use Rattle.std.proofs.Common.{◌≡◌, ◌∙◌, sym, ap, true, false, rules, refl, FitsSigned}
+use Rattle.std.proofs.Common.{◌≡◌, ◌∙◌, ap, rules, FitsSigned}
 use Rattle.std.specs.Int.{w128}
 use Rattle.std.specs.Prelude.{not, ◌&&◌}
 use Rattle.definitions.specs.IndexRun.{is_from, Inclusive, Exclusive}

@@ -1,4 +1,4 @@
-use Rattle.std.proofs.Common.{◌≡◌, ◌∙◌, sym, ap, ap₂, true, false, rules, to_z-of_z, FitsSigned, int_lt}
+use Rattle.std.proofs.Common.{◌∙◌, sym, ap, false, rules, to_z-of_z, FitsSigned, int_lt}
 use Rattle.std.specs.Int.{w64, w128}
 use Rattle.columns.specs.Starts.{starts}
 use Rattle.columns.proofs.Lookups.{present_number, absent_number, never_null, number_there, filled_starts, above_starts, texts_start}

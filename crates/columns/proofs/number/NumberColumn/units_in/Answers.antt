@@ -1,6 +1,5 @@
-use Rattle.std.proofs.Common.{◌≡◌, ◌∙◌, sym, ap, ap₂, true, false, rules, to_z-of_z, FitsSigned, refl}
+use Rattle.std.proofs.Common.{◌≡◌, sym, rules, to_z-of_z, FitsSigned, refl}
 use Rattle.std.specs.Int.{w64}
-use Rattle.columns.specs.Starts.{IsHeld}
 use Rattle.definitions.specs.Value.{Numbers, kind_of}
 use Rattle.columns.proofs.Lookups.{present_number, absent_number}
 use Rattle.columns.proofs.number.NumberColumn.units_in.Goals as goal

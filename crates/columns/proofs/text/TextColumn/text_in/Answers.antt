@@ -1,4 +1,4 @@
-use Rattle.std.proofs.Common.{◌≡◌, ◌∙◌, sym, ap, true, false, rules, refl}
+use Rattle.std.proofs.Common.{sym, rules}
 use Rattle.columns.proofs.TextLists.{own_text, view_type}
 use Rattle.columns.proofs.Lookups.{present_text, absent_text}
 use Rattle.columns.proofs.text.TextColumn.text_in.Goals as goal

@@ -1,4 +1,4 @@
-use Rattle.std.proofs.Common.{◌≡◌, ◌∙◌, sym, subst, Bool}
+use Rattle.std.proofs.Common.{◌∙◌, sym, subst, Bool}
 use Rattle.sqlvalue.specs.Meaning.{value_of}
 use Rattle.grouping.specs.Aggregating.{IsNoted}
 use Rattle.grouping.proofs.Bounded.{is_in_bounds}

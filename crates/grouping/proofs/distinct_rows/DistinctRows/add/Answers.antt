@@ -1,4 +1,4 @@
-use Rattle.std.proofs.Common.{◌≡◌, ◌∙◌, ◌++◌, ap}
+use Rattle.std.proofs.Common.{◌≡◌, ◌∙◌, ap}
 use Rattle.std.specs.List.{AllByRecursion}
 use Rattle.definitions.specs.Printing.{row_line}
 use Rattle.definitions_answers.specs.Lines.{IsInBounds, with_line}

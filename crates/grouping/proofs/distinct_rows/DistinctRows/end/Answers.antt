@@ -1,4 +1,4 @@
-use Rattle.std.proofs.Common.{◌∙◌, ◌++◌, ap, ap₂, length, map}
+use Rattle.std.proofs.Common.{◌∙◌, ◌++◌, ap, ap₂, length}
 use Rattle.std.specs.Prelude.{codes, decimal}
 use Rattle.std.proofs.lemmas.List.{length-map}
 use Rattle.definitions.specs.Printing.{line, row_line}

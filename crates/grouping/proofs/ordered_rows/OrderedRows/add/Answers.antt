@@ -1,6 +1,5 @@
-use Rattle.std.proofs.Common.{◌≡◌, ◌∙◌, ◌∷◌, ◌++◌, [], Bool, refl, subst, ap}
+use Rattle.std.proofs.Common.{◌∙◌, ◌∷◌, ◌++◌, [], ap}
 use Rattle.std.proofs.lemmas.List.{map-append}
-use Rattle.grouping.specs.Aggregating.{IsNotedLine}
 use Rattle.grouping.specs.RowAt.{items_of, row_in}
 use Rattle.grouping.specs.Rows.{row_of, rows_of}
 use Rattle.grouping.proofs.RowsOneByOne.{ordered_new, ordered_old}

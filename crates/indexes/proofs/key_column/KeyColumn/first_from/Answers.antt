@@ -1,4 +1,4 @@
-use Rattle.std.proofs.Common.{◌≡◌, ◌<◌, ◌≤◌, ◌*◌, ◌+◌, ◌/◌, ◌%◌, arith, rules, ap}
+use Rattle.std.proofs.Common.{◌<◌, ◌+◌, ◌/◌, rules}
 use Rattle.columns.specs.Columns.{cells_of}
 use Rattle.indexes.proofs.Levels.{column_levels}
 use Rattle.indexes.proofs.key_column.KeyColumn.first_from.Goals as goal

@@ -1,4 +1,3 @@
-use Rattle.std.proofs.Common.{◌∙◌, rules}
 use Rattle.indexes.proofs.PagedValues.{all_taken, pages_counted, heads_read}
 use Rattle.indexes.proofs.key_column.KeyColumn.of_rows.Goals as goal
 

@@ -1,4 +1,4 @@
-use Rattle.std.proofs.Common.{◌≤◌, rules, arith}
+use Rattle.std.proofs.Common.{rules, arith}
 use Rattle.columns.specs.Columns.{cells_of}
 use Rattle.columns.specs.Starts.{AreApart, limit_of}
 use Rattle.indexes.proofs.Ranges.{rising_starts, nothing_high, range_closed, not_unlimited}

@@ -1,4 +1,4 @@
-use Rattle.std.proofs.Common.{◌≡◌, ◌∙◌, ◌<◌, ◌≤◌, ◌-◌, not, refl, sym, ap, ap₂, rules, arith}
+use Rattle.std.proofs.Common.{◌∙◌, ◌-◌, not, refl, sym, ap, ap₂, rules, arith}
 use Rattle.definitions.specs.Key.{has_null, key_rank}
 use Rattle.indexes.specs.Keys.{key_in}
 use Rattle.indexes.specs.Runs.{Index}

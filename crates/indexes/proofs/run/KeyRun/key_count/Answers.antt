@@ -1,4 +1,4 @@
-use Rattle.std.proofs.Common.{◌≡◌, ◌∙◌, ◌<◌, ◌≤◌, ◌+◌, sym, ap, ap₂, length, rules, arith}
+use Rattle.std.proofs.Common.{◌≡◌, ◌∙◌, sym, ap, length, rules, arith}
 use Rattle.indexes.specs.Runs.{Index}
 use Rattle.indexes.proofs.Entries.{length-entries_at}
 use Rattle.indexes.proofs.IndexCounting.{counted_place, counted_all, counts_one}

@@ -1,7 +1,6 @@
-use Rattle.std.proofs.Common.{ℕ, ◌≡◌, ◌≤◌, length, map}
+use Rattle.std.proofs.Common.{◌≡◌, ◌≤◌, length, map}
 use Rattle.std.specs.List.{range_with_len}
 use Rattle.definitions.specs.Key.{distinct_keys, full_keys}
-use Rattle.definitions.specs.IndexRun.{keys_of}
 use Rattle.indexes.specs.Stretches.{key_at}
 use Rattle.indexes.proofs.run.KeyRun.key_count.Given as goal
 

@@ -1,6 +1,5 @@
 use Rattle.std.proofs.Common.{◌≡◌, ◌∙◌, ap, map, rules}
-use Rattle.definitions.specs.IndexRun.{AreRising}
-use Rattle.indexes.specs.Keys.{columns_of, types_of, AreOfHeight, entry_in}
+use Rattle.indexes.specs.Keys.{columns_of, types_of}
 use Rattle.indexes.specs.Runs.{entries_at}
 use Rattle.indexes.proofs.Gathered.{all_gathered, gathered, types_gathered, height_gathered, entries_gathered}
 use Rattle.indexes.proofs.run.KeyRun.of_rows.Goals as goal

@@ -1,4 +1,4 @@
-use Rattle.std.proofs.Common.{◌≡◌, ◌∙◌, ◌<◌, sym, ap, length, map, arith}
+use Rattle.std.proofs.Common.{◌∙◌, ◌<◌, sym, ap, length, map, arith}
 use Rattle.std.proofs.lemmas.List.{length-map}
 use Rattle.definitions.specs.IndexRun.{lies_in}
 use Rattle.sqlvalue.specs.Meaning.{value_of}

@@ -1,4 +1,4 @@
-use Rattle.std.proofs.Common.{◌≡◌, ◌∙◌, refl, ◌<◌, ◌≤◌, sym, ap, length, map, take, rules, arith}
+use Rattle.std.proofs.Common.{◌≡◌, ◌∙◌, refl, ◌<◌, sym, ap, length, map, take, rules, arith}
 use Rattle.sqlvalue.specs.Meaning.{value_of}
 use Rattle.indexes.specs.Runs.{Index}
 use Rattle.indexes.proofs.Entries.{length-entries_at}

@@ -6,7 +6,7 @@ use Rattle.definitions.specs.Value.{rank}
 use Rattle.sqlvalue.specs.Meaning.{value_of}
 use Rattle.sqlvalue.specs.Owned.{owned_value}
 use Rattle.sqlvalue.specs.declared.owned_value.OwnedValue.{OwnedValue}
-use Rattle.tuple_sort.specs.Keys.{HasNumberKey}
+use Rattle.sqlvalue.specs.NumberKeys.{HasNumberKey}
 use Rattle.subqueries.specs.NumberKeys.{AreKeys}
 use Rattle.subqueries.proofs.NumberKeys.{keys_parted, values_parted}
 use Rattle.subqueries.proofs.OrderedValues.{parted}

@@ -1,0 +1,17 @@
+pub mod Lists
+pub mod AnswerArranged
+pub mod Formed
+pub mod Testing
+pub mod Keys
+pub mod Cuts
+pub mod GroupFacts
+pub mod GroupTelling
+pub mod GroupTaking
+pub mod GroupEnding
+pub mod BlockTaking
+pub mod Blind
+pub mod Taking
+pub mod Meaning
+pub mod GroupMeaning
+pub mod Ending
+pub mod KeptTaking

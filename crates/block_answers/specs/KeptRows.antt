@@ -1,0 +1,25 @@
+-- What is kept of the rows of an inner block.
+use Rattle.std.specs.Prelude.{ℕ, List, Option, Some, None, Contains}
+use Rattle.definitions.specs.Arithmetic.{Meaning}
+use Rattle.definitions.specs.Table.{Row}
+use Rattle.definitions.specs.Queries.Evaluation.{Combination}
+use Rattle.definitions_answers.specs.Plain.{late_raises}
+use Rattle.sqlvalue.specs.Raises.{raise_of}
+use Rattle.sqlvalue.specs.declared.raise.Raise.{Raise}
+use Rattle.scans.specs.Sources.{BlockSource, block_in}
+use Rattle.block_answers.specs.BlockRows.{HaveTaken}
+use Rattle.block_answers.specs.Telling.{context_with}
+use Rattle.block_answers.specs.declared.block_rows.BlockRows.{BlockRows}
+use Rattle.block_answers.specs.declared.kept_rows.KeptRows.{KeptRows}
+
+abbrev pub rows_in : KeptRows → BlockRows
+rows_in kept = kept.rows
+
+module _ (source : BlockSource) (outer : List Combination) (inner : ℕ → List Combination → Meaning (List Row)) where
+  abbrev pub TellsByLate : Option Raise → List Combination → BlockRows → Type 0
+  TellsByLate None cs rows = HaveTaken source outer inner cs rows
+  TellsByLate (Some raise) cs rows = Contains (late_raises (context_with source outer inner) (block_in source) cs) (raise_of raise)
+
+  -- an exception that a late conjunct raises on combinations, or where none does, their rows
+  abbrev pub TellsKept : List Combination → KeptRows → Type 0
+  TellsKept cs kept = TellsByLate kept.late cs kept.rows

@@ -1,0 +1,9 @@
+pub mod Views
+pub mod OneComposite
+pub mod Telling
+pub mod Ready
+pub mod Having
+pub mod Cut
+pub mod Groups
+pub mod BlockRows
+pub mod KeptRows

@@ -1,0 +1,167 @@
+//! The rows that a block makes of the combinations that its WHERE keeps.
+
+ghost use Rattle.std.specs.Prelude.{◌≡◌, ◌++◌, ◌∷◌, [], List, IfErr, IfOk, OnOk, is_some, not, true};
+ghost use Rattle.std.specs.List.{list_all};
+ghost use Rattle.definitions.specs.Estimates.Orders.{sort_key};
+ghost use Rattle.definitions.specs.Queries.Evaluation.{Combination};
+ghost use Rattle.query_tree.specs.Bound.{block_of, key_of};
+ghost use Rattle.grouping.specs.Faults.{IfRaised};
+ghost use Rattle.grouping.specs.RowAt.{items_of};
+ghost use Rattle.scans.specs.Sources.{BlockSource as Source};
+ghost use Rattle.block_answers.specs.BlockRows.{comes_in_order, store_in, HasRowsOf, IsWellFor, MayRaiseOn, TellsOf};
+ghost use Rattle.block_answers.specs.Groups.{seen, AreTyped};
+ghost use Rattle.block_answers.specs.Ready.{CanAnswer};
+ghost use Rattle.block_answers.specs.Telling.{leaves_repeats_out, names_of, puts_in_order, Holds};
+
+use crate::block_row::row_at;
+use crate::group_rows::GroupRows;
+use crate::result_rows::{ResultRows, RowStore};
+use conjuncts::column_of;
+use grouping::AnswerFault;
+use interesting_orders::is_grouped;
+use query_tree::{Block, Item, Key};
+use scans::{BlockSource, Composite, OuterRows};
+use std::alloc::{AllocError, Global};
+
+/// The rows of a block, as far as its combinations have come: one of each, or one of each group of them.
+#[derive(Drop)]
+pub enum BlockRows<'s> {
+    Plain(ResultRows),
+    Grouped(GroupRows<'s>),
+}
+
+impl<'s> BlockRows<'s> {
+    /// Of no combinations. Rows are told as they come where the plan gives them in order, and only the others are kept
+    /// to be put in order.
+    pub fn to_print(alloc: Global, block: &'s Block) -> Result<BlockRows<'s>, AllocError>
+        ensures told { IfOk result (λ rows. (source : Source) (outer : List Combination) →
+            source.block ≡ block.now → TellsOf source outer [] rows) }
+        ensures well { IfOk result (λ rows. (source : Source) (outer : List Combination) →
+            source.block ≡ block.now → IsWellFor source outer rows) }
+        ensures order { IfOk result (λ rows. puts_in_order (store_in rows) ≡ not (comes_in_order (block_of block.now))) }
+        ensures distinct { IfOk result (λ rows. leaves_repeats_out (store_in rows) ≡ (block_of block.now).distinct) }
+    {
+        let store = RowStore::new(alloc, &block.items, !has_its_order(block), block.distinct)?;
+        BlockRows::new(alloc, block, store)
+    }
+
+    /// Of no combinations; all rows are kept.
+    pub fn to_keep(alloc: Global, block: &'s Block) -> Result<BlockRows<'s>, AllocError>
+        ensures told { IfOk result (λ rows. (source : Source) (outer : List Combination) →
+            source.block ≡ block.now → TellsOf source outer [] rows) }
+        ensures well { IfOk result (λ rows. (source : Source) (outer : List Combination) →
+            source.block ≡ block.now → IsWellFor source outer rows) }
+        ensures order { IfOk result (λ rows. puts_in_order (store_in rows) ≡ true) }
+        ensures distinct { IfOk result (λ rows. leaves_repeats_out (store_in rows) ≡ (block_of block.now).distinct) }
+    {
+        let store = RowStore::new(alloc, &block.items, true, block.distinct)?;
+        BlockRows::new(alloc, block, store)
+    }
+
+    /// Of no combinations, with a store of rows.
+    fn new(alloc: Global, block: &'s Block, store: RowStore) -> Result<BlockRows<'s>, AllocError>
+        ensures told { IfOk result (λ rows. (source : Source) (outer : List Combination) →
+            source.block ≡ block.now → Holds store (names_of source) [] → TellsOf source outer [] rows) }
+        ensures well { IfOk result (λ rows. (source : Source) (outer : List Combination) →
+            source.block ≡ block.now → IsWellFor source outer rows) }
+        ensures store { IfOk result (λ rows. store_in rows ≡ store) }
+    {
+        if is_grouped(block) {
+            Ok(BlockRows::Grouped(GroupRows::new(alloc, block, store)?))
+        } else {
+            Ok(BlockRows::Plain(ResultRows::new(store)))
+        }
+    }
+
+    /// Takes a combination that WHERE keeps, by its composite.
+    pub fn add<A: OuterRows>(
+        &mut self,
+        alloc: Global,
+        source: &BlockSource<'_>,
+        block: &'s Block,
+        composite: &Composite,
+        around: &A,
+    ) -> Result<(), AllocError>
+        requires block { block.now ≡ source.now.block }
+        requires can { CanAnswer source.now (A.combinations around.now) }
+        requires well { IsWellFor source.now (A.combinations around.now) self.old }
+        ensures well { OnOk result (IsWellFor source.now (A.combinations around.now) self.new) }
+        ensures told { OnOk result ((cs : List Combination) → AreTyped source.now (A.combinations around.now) cs →
+            TellsOf source.now (A.combinations around.now) cs self.old →
+            TellsOf source.now (A.combinations around.now) (cs ++ seen source.now (A.combinations around.now)
+            composite.now ∷ []) self.new) }
+        ensures order { puts_in_order (store_in self.new) ≡ puts_in_order (store_in self.old) }
+        ensures distinct { leaves_repeats_out (store_in self.new) ≡ leaves_repeats_out (store_in self.old) }
+    {
+        match self {
+            BlockRows::Plain(rows) => {
+                rows.add(alloc, &block.items, &row_at(source, composite, around))
+            }
+            BlockRows::Grouped(groups) => groups.add(alloc, source, block, composite, around),
+        }
+    }
+
+    /// All rows, once no combination comes any more; or an exception.
+    pub fn finish<A: OuterRows>(
+        self,
+        alloc: Global,
+        source: &BlockSource<'_>,
+        block: &Block,
+        around: &A,
+    ) -> Result<RowStore, AnswerFault>
+        requires block { block.now ≡ source.now.block }
+        requires can { CanAnswer source.now (A.combinations around.now) }
+        requires well { IsWellFor source.now (A.combinations around.now) self }
+        ensures rows { IfOk result (λ store. (cs : List Combination) →
+            AreTyped source.now (A.combinations around.now) cs →
+            TellsOf source.now (A.combinations around.now) cs self.entry →
+            HasRowsOf source.now (A.combinations around.now) cs store) }
+        ensures raised { IfErr result (λ fault. IfRaised fault (λ raise. (cs : List Combination) →
+            AreTyped source.now (A.combinations around.now) cs →
+            TellsOf source.now (A.combinations around.now) cs self.entry →
+            MayRaiseOn source.now (A.combinations around.now) cs raise)) }
+        ensures order { IfOk result (λ store. puts_in_order store ≡ puts_in_order (store_in self.entry)) }
+        ensures distinct { IfOk result (λ store. leaves_repeats_out store
+            ≡ leaves_repeats_out (store_in self.entry)) }
+    {
+        match self {
+            BlockRows::Plain(rows) => rows.finish(),
+            BlockRows::Grouped(groups) => groups.finish(alloc, source, block, around),
+        }
+    }
+}
+
+/// Whether the rows of a block come in the order of ORDER BY: those of groups where there is none, and others where all
+/// keys are columns of tables, since the plan gives that order.
+fn has_its_order(block: &Block) -> bool
+    ensures { result ≡ comes_in_order (block_of block.now) }
+{
+    if is_grouped(block) {
+        block.order.is_empty()
+    } else {
+        are_columns(block)
+    }
+}
+
+/// Whether all keys of ORDER BY are columns of tables.
+fn are_columns(block: &Block) -> bool
+    ensures { result
+        ≡ list_all (λ key. is_some (sort_key (block_of block.now).items key)) (block_of block.now).order }
+{
+    'keys: for key in &block.order {
+        if !is_column(&block.items, *key) {
+            return false;
+        }
+    }
+    true
+}
+
+/// Whether the result column of a key is a column of a table.
+fn is_column(items: &[Item], key: Key) -> bool
+    ensures { result ≡ is_some (sort_key (items_of items.now) (key_of key)) }
+{
+    match items.get(key.item) {
+        Some(item) => column_of(&item.value).is_some(),
+        None => false,
+    }
+}

@@ -1,0 +1,13 @@
+//! Certificates that were checked.
+
+use certificate_files::FileTold;
+use query_tree::Block;
+
+/// A file of certificates, and what was told of it (own).
+#[derive(Drop)]
+pub struct CheckedFile<'a> {
+    pub file: &'a [u8],
+    /// The blocks of the query, in the order of their numbers.
+    pub blocks: Vec<Block>,
+    pub told: FileTold,
+}

@@ -1,0 +1,28 @@
+//! What a checking run leaves in its session.
+
+use sqlr::{Ended, Session};
+use std::alloc::Global;
+use tests_devices::{Part, Shelf, check, run};
+
+/// A checking run that is refused at its second statement.
+const REFUSED: &str =
+    "CREATE TABLE U (X INTEGER); CREATE TABLE U (X INTEGER); CREATE TABLE V (X INTEGER); SELECT X FROM U;";
+
+/// Whether a checking run that ends at a refusal leaves what the statements before it made, and nothing of those behind it.
+fn keeps_what_was_made(alloc: Global) -> bool {
+    let files = &[];
+    let mut session = Session::new(alloc, Shelf { alloc, files });
+    let refused = check(&mut session, Vec::new(alloc), Part::whole(REFUSED), b"");
+    let look = run(
+        &mut session,
+        Vec::new(alloc),
+        Part::whole("SELECT X FROM U; SELECT X FROM V;"),
+    );
+    refused.is(Ok(Ended::Faulted), "error E07 42000\n")
+        && look.is(Ok(Ended::Faulted), "X\n0 rows\nerror E08 42000\n")
+}
+
+#[test]
+fn refused_checking_run_keeps_what_was_made(rt: HostRuntime) {
+    assert!(rt; keeps_what_was_made(rt.alloc()));
+}
