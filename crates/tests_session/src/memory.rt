@@ -3,6 +3,7 @@
 
 use crate::steps::{FILES, LOOK, STEPS, script, seen_behind, steps_printed};
 use sqlr::{Ended, RunFault, Session};
+use std::alloc::{AllocError, Global};
 use std::test::Fail;
 use tests_devices::{Part, Shelf, run};
 
@@ -12,11 +13,7 @@ const ROOM: usize = 256;
 #[test]
 fn refused_allocation_leaves_whole_statements(rt: HostRuntime) -> Result<(), Fail> {
     let alloc = rt.alloc();
-    let (Ok(script), Ok(tape), Ok(second_tape)) = (
-        script(alloc),
-        Vec::with_capacity(alloc, ROOM),
-        Vec::with_capacity(alloc, ROOM),
-    ) else {
+    let Ok((script, tape, second_tape)) = script_and_tapes(alloc) else {
         println!(rt; "refused before the run")?;
         return Ok(());
     };
@@ -36,6 +33,14 @@ fn refused_allocation_leaves_whole_statements(rt: HostRuntime) -> Result<(), Fai
     let is_seen = look.printed.as_slice() == seen_behind(done).as_bytes();
     assert!(rt; is_seen, "behind {done} statements");
     Ok(())
+}
+
+/// The script, and two tapes with room.
+fn script_and_tapes(alloc: Global) -> Result<(String, Vec<u8>, Vec<u8>), AllocError> {
+    let script = script(alloc)?;
+    let tape = Vec::with_capacity(alloc, ROOM)?;
+    let second_tape = Vec::with_capacity(alloc, ROOM)?;
+    Ok((script, tape, second_tape))
 }
 
 /// Whether a run ends so whose sink has the texts of so many steps.
