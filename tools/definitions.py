@@ -67,7 +67,7 @@ class Module:
         found.lines += lines
         if is_type:
             found.is_type, found.is_record = True, words[0] == "record"
-            found.members = [own_name(text) for _, text in lines[1:] if depth(text) == depth(lines[0][1]) + 2]
+            found.members = [it for _, text in lines[1:] if depth(text) == depth(lines[0][1]) + 2 for it in own_names(text)]
             if not found.is_record:
                 self.types.update((it, name) for it in found.members)
 
@@ -89,9 +89,9 @@ def strip(text):
     return re.sub(r'"(?:[^"\\]|\\.)*"', '""', text).partition("--")[0].rstrip()
 
 
-def own_name(text):
-    """The name of a constructor or a field by its line."""
-    return next(it for it in text.split() if it not in MODIFIERS)
+def own_names(text):
+    """The names of the constructors or the field of a line."""
+    return [it for it in text.partition(" :")[0].split() if it not in MODIFIERS]
 
 
 def read_uses(texts, names, aliases):

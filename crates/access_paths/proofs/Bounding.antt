@@ -13,7 +13,7 @@ use Rattle.definitions.specs.Queries.Conjuncts.{tables_named}
 use Rattle.definitions.specs.Estimates.BlockTables.{has, is_within}
 use Rattle.definitions.specs.Estimates.Paths.{is_column, is_known, bounds_column, equals_column, limits_column}
 use Rattle.definitions.proofs.EstimateTheory.Tests.{left_of, right_of, eq_of}
-use Rattle.access_paths.specs.Bounds.{SargableTerm, tables_beside, other_side, comparison_bound, bound_of}
+use Rattle.access_paths.specs.Bounds.{SargableTerm, tables_beside, other_side, comparison_bound, sargable_term}
 
 -- ---- tests
 
@@ -146,7 +146,7 @@ module _ (column : BlockColumn) where
     or_same x y e = without_false x ∙ e
 
     -- what a condition says that a column equals, and what it matches in any form
-    pub equals_as_bound : (c : Condition) → equals_column tables column c ≡ is_met_by_equals (bound_of column c)
+    pub equals_as_bound : (c : Condition) → equals_column tables column c ≡ is_met_by_equals (sargable_term column c)
     equals_as_bound (Compare Equals a b) = bounds_sides a b ∙ (equal_side (other_side column a b)).1
     equals_as_bound (Compare NotEquals a b) = refl
     equals_as_bound (Compare LessThan a b) = (limit_side LessThan (other_side column a b) refl).1
@@ -166,7 +166,7 @@ module _ (column : BlockColumn) where
     equals_as_bound (And cs) = refl
     equals_as_bound (Or cs) = refl
 
-    pub matches_as_bound : (c : Condition) → (equals_column tables column c || limits_column tables column c) ≡ is_met (bound_of column c)
+    pub matches_as_bound : (c : Condition) → (equals_column tables column c || limits_column tables column c) ≡ is_met (sargable_term column c)
     matches_as_bound (Compare Equals a b) = or_same _ _ (bounds_sides a b ∙ (equal_side (other_side column a b)).0)
     matches_as_bound (Compare NotEquals a b) = refl
     matches_as_bound (Compare LessThan a b) = bounds_sides a b ∙ (limit_side LessThan (other_side column a b) refl).0

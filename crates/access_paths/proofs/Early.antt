@@ -11,10 +11,10 @@ use Rattle.definitions.specs.Queries.BoundBlock.{Condition, Block}
 use Rattle.definitions.specs.Queries.Conjuncts.{conjuncts, is_late}
 use Rattle.definitions.specs.Estimates.PlanConjuncts.{plan_conjunct, plan_conjuncts}
 use Rattle.conjuncts.specs.Naming.{NamesFew}
-use Rattle.estimate.specs.PlanConjuncts.{condition_told, conjunct_of}
+use Rattle.estimate.specs.PlanConjuncts.{condition_of_conjunct, conjunct_of}
 use Rattle.estimate.specs.declared.plan_conjunct.PlanConjunct.{PlanConjunct}
 use Rattle.estimate.proofs.Places.{twice_mapped}
-use Rattle.access_paths.specs.Bounds.{SargableTerm, bound_of}
+use Rattle.access_paths.specs.Bounds.{SargableTerm, sargable_term}
 use Rattle.access_paths.specs.Matches.{Match, match_at, early_bound}
 
 same_at : {X Z : Type 0} (f g : X → Z) (xs : List X) (i : ℕ) (x : X) → map f xs ≡ map g xs → i < length xs → x ≡ get_or xs i x → f x ≡ g x
@@ -27,39 +27,39 @@ mapped_at f xs zs i x e h r = ap (λ l. slice_get l i) (sym e) ∙ slice_get-map
 
 -- the conjuncts of an estimate, by number
 module _ (db : Database) (block : Block) (items : List PlanConjunct) (i : ℕ) (x : PlanConjunct)
-    (exact : map conjunct_of items ≡ plan_conjuncts db block) (told : map condition_told items ≡ conjuncts block) (h : i < length items) (r : x ≡ get_or items i x) where
-  pub condition_at : slice_get (conjuncts block) i ≡ Some (condition_told x)
-  condition_at = mapped_at condition_told items (conjuncts block) i x told h r
+    (exact : map conjunct_of items ≡ plan_conjuncts db block) (told : map condition_of_conjunct items ≡ conjuncts block) (h : i < length items) (r : x ≡ get_or items i x) where
+  pub condition_at : slice_get (conjuncts block) i ≡ Some (condition_of_conjunct x)
+  condition_at = mapped_at condition_of_conjunct items (conjuncts block) i x told h r
 
-  pub early_at : x.early ≡ not (is_late (condition_told x))
+  pub early_at : x.early ≡ not (is_late (condition_of_conjunct x))
   early_at =
-      let both : map conjunct_of items ≡ map (λ c. plan_conjunct db block (condition_told c)) items =
-      exact ∙ ap (map (plan_conjunct db block)) (sym told) ∙ sym (twice_mapped (plan_conjunct db block) condition_told items) in
-      ap (λ c. c.early) (same_at conjunct_of (λ c. plan_conjunct db block (condition_told c)) items i x both h r)
+      let both : map conjunct_of items ≡ map (λ c. plan_conjunct db block (condition_of_conjunct c)) items =
+      exact ∙ ap (map (plan_conjunct db block)) (sym told) ∙ sym (twice_mapped (plan_conjunct db block) condition_of_conjunct items) in
+      ap (λ c. c.early) (same_at conjunct_of (λ c. plan_conjunct db block (condition_of_conjunct c)) items i x both h r)
 
-  pub few_at : AllByRecursion NamesFew (conjuncts block) → NamesFew (condition_told x)
+  pub few_at : AllByRecursion NamesFew (conjuncts block) → NamesFew (condition_of_conjunct x)
   few_at few = all_of (conjuncts block) i condition_at few
     where
-      all_of : (cs : List Condition) (i : ℕ) → slice_get cs i ≡ Some (condition_told x) → AllByRecursion NamesFew cs → NamesFew (condition_told x)
+      all_of : (cs : List Condition) (i : ℕ) → slice_get cs i ≡ Some (condition_of_conjunct x) → AllByRecursion NamesFew cs → NamesFew (condition_of_conjunct x)
       all_of [] i e few = absurd cc
-      all_of (c ∷ cs) zero e few = let same : c ≡ condition_told x = cc in rw (← same) few.0
+      all_of (c ∷ cs) zero e few = let same : c ≡ condition_of_conjunct x = cc in rw (← same) few.0
       all_of (c ∷ cs) (suc i) e few = all_of cs i e few.1
 
 module _ (block : Block) (column : BlockColumn) (number : ℕ) (c : Condition) (at : slice_get (conjuncts block) number ≡ Some c) where
   abbrev pub match_of : Option SargableTerm → Option Match
   match_of = option_map (λ (b : SargableTerm). record { conjunct = number; equals = b.equals; required_outer = b.required_outer })
 
-  by_test : (late early : Bool) → is_late c ≡ late → early ≡ not late → early_bound column c ≡ (if early then bound_of column c else None)
+  by_test : (late early : Bool) → is_late c ≡ late → early ≡ not late → early_bound column c ≡ (if early then sargable_term column c else None)
   by_test true early e f = rw (e, f) refl
   by_test false early e f = rw (e, f) refl
 
   pub late_matches_none : (early : Bool) → early ≡ not (is_late c) → early ≡ false → match_at block column number ≡ None
   late_matches_none early e f =
-      rw at (ap match_of (by_test (is_late c) early refl e ∙ ap (λ b. if b then bound_of column c else None) f))
+      rw at (ap match_of (by_test (is_late c) early refl e ∙ ap (λ b. if b then sargable_term column c else None) f))
 
-  pub early_matches : (early : Bool) → early ≡ not (is_late c) → early ≡ true → match_at block column number ≡ match_of (bound_of column c)
+  pub early_matches : (early : Bool) → early ≡ not (is_late c) → early ≡ true → match_at block column number ≡ match_of (sargable_term column c)
   early_matches early e f =
-      rw at (ap match_of (by_test (is_late c) early refl e ∙ ap (λ b. if b then bound_of column c else None) f))
+      rw at (ap match_of (by_test (is_late c) early refl e ∙ ap (λ b. if b then sargable_term column c else None) f))
 
 -- ---- all numbers
 
@@ -95,5 +95,5 @@ next_pushed block column number count old new all h e before =
 pub all_pushed : (block : Block) (column : BlockColumn) (number count : ℕ) (found all : List Match) → count ≤ number → found ++ matches_from block column number count ≡ all → found ≡ all
 all_pushed block column number count found all h e = sym (nothing_more found) ∙ ap (λ ms. found ++ ms) (sym (no_more_matches block column number count h)) ∙ e
 
-pub same_count : (block : Block) (items : List PlanConjunct) (i : ℕ) → map condition_told items ≡ conjuncts block → i < length (conjuncts block) → i < length items
-same_count block items i e h = subst (λ n. i < n) (sym (sym (length-map items condition_told) ∙ ap length e)) h
+pub same_count : (block : Block) (items : List PlanConjunct) (i : ℕ) → map condition_of_conjunct items ≡ conjuncts block → i < length (conjuncts block) → i < length items
+same_count block items i e h = subst (λ n. i < n) (sym (sym (length-map items condition_of_conjunct) ∙ ap length e)) h

@@ -8,7 +8,7 @@ use Rattle.definitions.specs.Queries.BoundBlock.{Condition, Block}
 use Rattle.definitions.specs.Queries.Conjuncts.{conjuncts, is_late}
 use Rattle.definitions.specs.Estimates.BlockTables.{is_within}
 use Rattle.definitions.specs.Estimates.Paths.{equals_column, limits_column, equals_at, matches_at, matching}
-use Rattle.access_paths.specs.Bounds.{SargableTerm, bound_of}
+use Rattle.access_paths.specs.Bounds.{SargableTerm, sargable_term}
 use Rattle.access_paths.specs.Matches.{Match, early_bound, match_at, column_matches}
 use Rattle.access_paths.proofs.Bounding.{is_met, is_met_by_equals, equals_as_bound, matches_as_bound}
 
@@ -36,11 +36,11 @@ module _ (tables : TableSet) where
     of_bound number (Some b) = (refl, refl)
 
     by_late : (number : ℕ) (c : Condition) (late : Bool)
-        → ((not late && (equals_column tables column c || limits_column tables column c)) ≡ met (numbered_match number (if late then None else bound_of column c)))
-        × ((not late && equals_column tables column c) ≡ met_by_equals (numbered_match number (if late then None else bound_of column c)))
+        → ((not late && (equals_column tables column c || limits_column tables column c)) ≡ met (numbered_match number (if late then None else sargable_term column c)))
+        × ((not late && equals_column tables column c) ≡ met_by_equals (numbered_match number (if late then None else sargable_term column c)))
     by_late number c true = (refl, refl)
     by_late number c false =
-        (matches_as_bound column tables c ∙ (of_bound number (bound_of column c)).0, equals_as_bound column tables c ∙ (of_bound number (bound_of column c)).1)
+        (matches_as_bound column tables c ∙ (of_bound number (sargable_term column c)).0, equals_as_bound column tables c ∙ (of_bound number (sargable_term column c)).1)
 
     by_condition : (number : ℕ) (o : Option Condition)
         → (unwrap_or (option_map (λ c. not (is_late c) && (equals_column tables column c || limits_column tables column c)) o) false ≡ met (numbered_match number (option_and_then (early_bound column) o)))

@@ -9,7 +9,7 @@ use Rattle.definitions.specs.Estimates.BlockTables.{index_at}
 use Rattle.access_paths.specs.Matches.{IndexMatch, index_matches}
 use Rattle.access_paths.specs.Found.{FoundPath}
 use Rattle.access_paths.specs.Listing.{scans_found, index_found, number_found}
-use Rattle.access_paths.specs.Views.{chain_told}
+use Rattle.access_paths.specs.Views.{index_match_of}
 use Rattle.access_paths.specs.declared.index_matches.IndexMatch.{IndexMatch as Code}
 
 onto : {X Z : Type 0} (f : X → Z) (xs : List X) (x : X) (zs : List Z) → map f (xs ++ x ∷ []) ++ zs ≡ map f xs ++ f x ∷ zs
@@ -19,7 +19,7 @@ onto f (y ∷ ys) x zs = ap (λ rest. f y ∷ rest) (onto f ys x zs)
 pub pushed : {X Z : Type 0} (f : X → Z) (old new : List X) (x : X) (z : Z) (zs : List Z) → new ≡ old ++ x ∷ [] → f x ≡ z → map f new ++ zs ≡ map f old ++ z ∷ zs
 pushed f old new x z zs e same = ap (λ xs. map f xs ++ zs) e ∙ onto f old x zs ∙ ap (λ y. map f old ++ y ∷ zs) same
 
-pub chain_at : (P : IndexMatch → Type 0) (chains : List Code) (i : ℕ) (x : Code) → AllByRecursion P (map chain_told chains) → i < length chains → x ≡ get_or chains i x → P (chain_told x)
+pub chain_at : (P : IndexMatch → Type 0) (chains : List Code) (i : ℕ) (x : Code) → AllByRecursion P (map index_match_of chains) → i < length chains → x ≡ get_or chains i x → P (index_match_of x)
 chain_at P [] i x all h e = absurd (omega (arith, h))
 chain_at P (c ∷ cs) zero x all h e = let same : x ≡ c = e in rw same all.0
 chain_at P (c ∷ cs) (suc i) x all h e = chain_at P cs i x all.1 (omega (arith, h)) e

@@ -5,13 +5,13 @@ use Rattle.std.proofs.lemmas.List.{length-append}
 use Rattle.definitions.specs.Limits.{most_index_columns}
 use Rattle.definitions.specs.Queries.BoundBlock.{Block}
 use Rattle.access_paths.specs.Matches.{Match, IndexMatch, before, chains_from, with_column, matches_of, index_matches}
-use Rattle.access_paths.specs.Views.{chain_told}
+use Rattle.access_paths.specs.Views.{index_match_of}
 use Rattle.access_paths.specs.declared.index_matches.IndexMatch.{IndexMatch as Code}
 
 abbrev pub HaveRoom : List IndexMatch → Type 0
 HaveRoom = AllByRecursion (λ (c : IndexMatch). length c.conjuncts < most_index_columns)
 
-pub room_at : (items : List Code) (i : ℕ) (x : Code) → HaveRoom (map chain_told items) → i < length items → x ≡ get_or items i x → length (chain_told x).conjuncts < most_index_columns
+pub room_at : (items : List Code) (i : ℕ) (x : Code) → HaveRoom (map index_match_of items) → i < length items → x ≡ get_or items i x → length (index_match_of x).conjuncts < most_index_columns
 room_at [] i x a h e = absurd (omega (arith, h))
 room_at (y ∷ ys) zero x a h e = let same : x ≡ y = e in rw same a.0
 room_at (y ∷ ys) (suc i) x a h e = room_at ys i x a.1 (omega (arith, h)) e

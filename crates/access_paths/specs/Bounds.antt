@@ -35,7 +35,7 @@ between_bound column e low high =
     (tables_beside column.table high)) (tables_beside column.table low)
     else None
 
-abbrev pub bound_of : BlockColumn → Condition → Option SargableTerm
-bound_of column (Compare op a b) = comparison_bound op (other_side column a b)
-bound_of column (Between false e low high) = between_bound column e low high
-bound_of column _ = None
+abbrev pub sargable_term : BlockColumn → Condition → Option SargableTerm
+sargable_term column (Compare op a b) = comparison_bound op (other_side column a b)
+sargable_term column (Between false e low high) = between_bound column e low high
+sargable_term column _ = None

@@ -18,8 +18,8 @@ pub record FoundPath : Type 0 where
   pub required_outer : TableSet
   pub cost : ScanCost
 
-abbrev pub path_told : TablePath → FoundPath
-path_told x = record { path = path_of x.path; required_outer = set_of x.required_outer; cost = scan_cost_of x.cost }
+abbrev pub found_path_of : TablePath → FoundPath
+found_path_of x = record { path = path_of x.path; required_outer = set_of x.required_outer; cost = scan_cost_of x.cost }
 
 -- the directions of indexes: forward, and backward, too
 abbrev pub directions_with : Bool → List Bool
@@ -30,7 +30,7 @@ abbrev pub is_open : TableSet → FoundPath → Bool
 is_open known x = is_within x.required_outer known
 
 abbrev pub open_paths : TableSet → List TablePath → List p.Path
-open_paths known paths = map (λ (x : FoundPath). x.path) (filter (is_open known) (map path_told paths))
+open_paths known paths = map (λ (x : FoundPath). x.path) (filter (is_open known) (map found_path_of paths))
 
 -- it reads the table, as a whole or by one of its indexes
 abbrev pub HasIndex : Database → Block → ℕ → ℕ → Type 0

@@ -5,7 +5,7 @@ use Rattle.definitions.specs.Plans.TableSet.{TableSet}
 use Rattle.definitions.specs.Plans.Order.{BlockColumn}
 use Rattle.definitions.specs.Queries.BoundBlock.{Condition, Block}
 use Rattle.definitions.specs.Queries.Conjuncts.{conjuncts, is_late}
-use Rattle.access_paths.specs.Bounds.{SargableTerm, bound_of}
+use Rattle.access_paths.specs.Bounds.{SargableTerm, sargable_term}
 
 -- ---- of one column
 
@@ -16,7 +16,7 @@ pub record Match : Type 0 where
   pub required_outer : TableSet
 
 abbrev pub early_bound : BlockColumn → Condition → Option SargableTerm
-early_bound column c = if is_late c then None else bound_of column c
+early_bound column c = if is_late c then None else sargable_term column c
 
 module _ (block : Block) where
   abbrev pub match_at : BlockColumn → ℕ → Option Match

@@ -5,7 +5,7 @@ ghost use Rattle.std.specs.List.{AllByRecursion};
 ghost use Rattle.definitions.specs.Limits.{most_index_columns};
 ghost use Rattle.query_tree.specs.Bound.{block_of};
 ghost use Rattle.access_paths.specs.Matches as spec;
-ghost use Rattle.access_paths.specs.Views.{chain_told, match_told};
+ghost use Rattle.access_paths.specs.Views.{index_match_of, matching_term_of};
 
 use crate::matching_terms::{MatchingTerm, column_matches};
 use arrayvec::ArrayVec;
@@ -31,7 +31,7 @@ pub(crate) fn index_matches(
     columns: &[usize],
 ) -> Result<Vec<IndexMatch>, AllocError>
     requires short { length columns.now ≤ most_index_columns }
-    ensures exact { IfOk result (λ chains. map chain_told chains.items
+    ensures exact { IfOk result (λ chains. map index_match_of chains.items
         ≡ spec.index_matches (block_of estimate.now.block) table columns.now) }
 {
     let mut chains = Vec::new(alloc);
@@ -55,9 +55,9 @@ fn with_column(
     others: &[IndexMatch],
 ) -> Result<Vec<IndexMatch>, AllocError>
     requires room { AllByRecursion (λ (c : spec.IndexMatch). length c.conjuncts
-        < most_index_columns) (map chain_told others.now) }
-    ensures exact { IfOk result (λ chains. map chain_told chains.items
-        ≡ spec.with_column (map chain_told others.now) (map match_told matches.now)) }
+        < most_index_columns) (map index_match_of others.now) }
+    ensures exact { IfOk result (λ chains. map index_match_of chains.items
+        ≡ spec.with_column (map index_match_of others.now) (map matching_term_of matches.now)) }
 {
     let mut chains = Vec::new(alloc);
     'matches: for found in matches {
@@ -70,7 +70,7 @@ fn with_column(
 }
 
 fn only_match(found: MatchingTerm) -> IndexMatch
-    ensures exact { chain_told result ≡ spec.only_match (match_told found) }
+    ensures exact { index_match_of result ≡ spec.only_match (matching_term_of found) }
 {
     let mut conjuncts = ArrayVec::new();
     conjuncts.push(found.conjunct);
@@ -88,9 +88,9 @@ fn push_before(
     others: &[IndexMatch],
 ) -> Result<(), AllocError>
     requires room { AllByRecursion (λ (c : spec.IndexMatch). length c.conjuncts
-        < most_index_columns) (map chain_told others.now) }
-    ensures exact { OnOk result (map chain_told chains.new.items
-        ≡ map chain_told chains.old.items ++ map (spec.before (match_told found)) (map chain_told others.now)) }
+        < most_index_columns) (map index_match_of others.now) }
+    ensures exact { OnOk result (map index_match_of chains.new.items
+        ≡ map index_match_of chains.old.items ++ map (spec.before (matching_term_of found)) (map index_match_of others.now)) }
 {
     'others: for other in others {
         chains.push(before(found, other)?)?;
@@ -100,8 +100,8 @@ fn push_before(
 
 /// A match before a chain.
 fn before(found: MatchingTerm, other: &IndexMatch) -> Result<IndexMatch, AllocError>
-    requires room { length (chain_told other.now).conjuncts < most_index_columns }
-    ensures exact { IfOk result (λ chain. chain_told chain ≡ spec.before (match_told found) (chain_told other.now)) }
+    requires room { length (index_match_of other.now).conjuncts < most_index_columns }
+    ensures exact { IfOk result (λ index_match. index_match_of index_match ≡ spec.before (matching_term_of found) (index_match_of other.now)) }
 {
     let mut conjuncts = other.conjuncts.clone()?;
     conjuncts.insert(0, found.conjunct);

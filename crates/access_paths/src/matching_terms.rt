@@ -4,9 +4,9 @@ ghost use Rattle.std.specs.Prelude.{◌≡◌, ◌<◌, ◌∷◌, ◌++◌, [],
 ghost use Rattle.definitions.specs.Queries.Conjuncts as queries;
 ghost use Rattle.query_tree.specs.Bound.{block_of, column_of};
 ghost use Rattle.access_paths.specs.Matches as spec;
-ghost use Rattle.access_paths.specs.Views.{match_told};
+ghost use Rattle.access_paths.specs.Views.{matching_term_of};
 
-use crate::sargable_terms::bound_of;
+use crate::sargable_terms::sargable_term;
 use estimate::Estimate;
 use plan_tree::TableSet;
 use query_tree::BlockColumn;
@@ -26,7 +26,7 @@ pub(crate) fn column_matches(
     estimate: &Estimate,
     column: BlockColumn,
 ) -> Result<Vec<MatchingTerm>, AllocError>
-    ensures exact { IfOk result (λ matches. map match_told matches.items
+    ensures exact { IfOk result (λ matches. map matching_term_of matches.items
         ≡ spec.column_matches (block_of estimate.now.block) (column_of column)) }
 {
     let mut matches = Vec::new(alloc);
@@ -44,8 +44,8 @@ fn push_match(
     number: usize,
 ) -> Result<(), AllocError>
     requires there { number < length (queries.conjuncts (block_of estimate.now.block)) }
-    ensures exact { OnOk result (map match_told matches.new.items
-        ≡ map match_told matches.old.items ++ filter_map
+    ensures exact { OnOk result (map matching_term_of matches.new.items
+        ≡ map matching_term_of matches.old.items ++ filter_map
         (spec.match_at (block_of estimate.now.block) (column_of column)) (number ∷ [])) }
 {
     if let Some(found) = match_at(estimate, column, number) {
@@ -57,14 +57,14 @@ fn push_match(
 /// How a conjunct matches a column, if it does.
 fn match_at(estimate: &Estimate, column: BlockColumn, number: usize) -> Option<MatchingTerm>
     requires there { number < length (queries.conjuncts (block_of estimate.now.block)) }
-    ensures exact { option_map match_told result ≡ spec.match_at (block_of estimate.now.block) (column_of column)
+    ensures exact { option_map matching_term_of result ≡ spec.match_at (block_of estimate.now.block) (column_of column)
         number }
 {
     let conjunct = estimate.conjuncts()[number];
     if !conjunct.early {
         return None;
     }
-    let bound = bound_of(column, conjunct.condition)?;
+    let bound = sargable_term(column, conjunct.condition)?;
     Some(MatchingTerm {
         conjunct: number,
         equals: bound.equals,

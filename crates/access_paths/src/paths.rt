@@ -11,11 +11,11 @@ ghost use Rattle.definitions.specs.Estimates.Orders.{indexes_at};
 ghost use Rattle.definitions.specs.Estimates.Paths as spec;
 ghost use Rattle.definitions.specs.Estimates.Version.{Version, directions};
 ghost use Rattle.query_tree.specs.Bound.{block_of};
-ghost use Rattle.access_paths.specs.Found.{path_told, directions_with, open_paths, CostsAsPath, FoundPath, Reads};
+ghost use Rattle.access_paths.specs.Found.{found_path_of, directions_with, open_paths, CostsAsPath, FoundPath, Reads};
 ghost use Rattle.access_paths.specs.Listing.{segment_found, whole_found, matching_found, scans_found, number_found};
 ghost use Rattle.access_paths.specs.Scans.{IsSizeOf};
 ghost use Rattle.access_paths.specs.Matches as matches;
-ghost use Rattle.access_paths.specs.Views.{chain_told};
+ghost use Rattle.access_paths.specs.Views.{index_match_of};
 
 use crate::index_matches::{IndexMatch, index_matches};
 use crate::scans::{IndexSize, ScanCost};
@@ -52,9 +52,9 @@ pub fn table_paths(
         open_paths known paths.items ≡ spec.paths_of version estimate.now.database (block_of estimate.now.block) known
         table) }
     ensures reads { IfOk result (λ paths. AllByRecursion (λ (x : FoundPath).
-        Reads estimate.now.database (block_of estimate.now.block) table x.path) (map path_told paths.items)) }
+        Reads estimate.now.database (block_of estimate.now.block) table x.path) (map found_path_of paths.items)) }
     ensures costs { IfOk result (λ paths. AllByRecursion
-        (CostsAsPath estimate.now.database (block_of estimate.now.block) table) (map path_told paths.items)) }
+        (CostsAsPath estimate.now.database (block_of estimate.now.block) table) (map found_path_of paths.items)) }
 {
     let mut paths = Vec::new(alloc);
     paths.push(segment_path(estimate, table))?;
@@ -66,7 +66,7 @@ pub fn table_paths(
 
 fn segment_path(estimate: &Estimate, table: usize) -> TablePath
     requires table { table < length (block_of estimate.now.block).tables }
-    ensures exact { path_told result ≡ segment_found estimate.now.database (block_of estimate.now.block) table }
+    ensures exact { found_path_of result ≡ segment_found estimate.now.database (block_of estimate.now.block) table }
 {
     TablePath {
         path: Path::Segment { table },
@@ -87,8 +87,8 @@ fn push_index(
     requires table { table < length (block_of estimate.now.block).tables }
     requires index { (t : stored.Table) → table_at estimate.now.database (block_of estimate.now.block) table
         ≡ Some t → number < length t.indexes }
-    ensures exact { OnOk result (map path_told paths.new.items
-        ≡ map path_told paths.old.items ++ number_found estimate.now.database (block_of estimate.now.block) table
+    ensures exact { OnOk result (map found_path_of paths.new.items
+        ≡ map found_path_of paths.old.items ++ number_found estimate.now.database (block_of estimate.now.block) table
         (directions_with backward) number) }
 {
     let found = estimate.table(table);
@@ -127,15 +127,15 @@ impl IndexScan {
     ) -> Result<(), AllocError>
         requires there { AllByRecursion (λ (c : matches.IndexMatch).
             AllByRecursion (λ conjunct. conjunct < length (queries.conjuncts (block_of estimate.now.block)))
-            c.conjuncts) (map chain_told chains.now) }
+            c.conjuncts) (map index_match_of chains.now) }
         ensures exact { OnOk result ((i : stored.Index) →
             IsSizeOf estimate.now.database (block_of estimate.now.block) self.table i self.size →
-            map path_told paths.new.items ≡ map path_told paths.old.items ++ scans_found estimate.now.database
-            (block_of estimate.now.block) self.table self.number i (map chain_told chains.now) backward) }
+            map found_path_of paths.new.items ≡ map found_path_of paths.old.items ++ scans_found estimate.now.database
+            (block_of estimate.now.block) self.table self.number i (map index_match_of chains.now) backward) }
     {
         paths.push(self.whole(backward))?;
-        'chains: for chain in chains {
-            paths.push(self.matching_path(estimate, chain, backward)?)?;
+        'chains: for index_match in chains {
+            paths.push(self.matching_path(estimate, index_match, backward)?)?;
         }
         Ok(())
     }
@@ -143,7 +143,7 @@ impl IndexScan {
     fn whole(self, backward: bool) -> TablePath
         ensures exact { (db : stored.Database) (block : b.Block) (i : stored.Index) →
             IsSizeOf db block self.table i self.size →
-            path_told result ≡ whole_found db block self.table self.number i backward }
+            found_path_of result ≡ whole_found db block self.table self.number i backward }
     {
         TablePath {
             path: Path::Index {
@@ -159,25 +159,25 @@ impl IndexScan {
     fn matching_path(
         self,
         estimate: &Estimate,
-        chain: &IndexMatch,
+        index_match: &IndexMatch,
         backward: bool,
     ) -> Result<TablePath, AllocError>
         requires there { AllByRecursion (λ conjunct. conjunct
-            < length (queries.conjuncts (block_of estimate.now.block))) (chain_told chain.now).conjuncts }
+            < length (queries.conjuncts (block_of estimate.now.block))) (index_match_of index_match.now).conjuncts }
         ensures exact { IfOk result (λ path. (i : stored.Index) →
             IsSizeOf estimate.now.database (block_of estimate.now.block) self.table i self.size →
-            path_told path ≡ matching_found estimate.now.database (block_of estimate.now.block) self.table self.number
-            i backward (chain_told chain.now)) }
+            found_path_of path ≡ matching_found estimate.now.database (block_of estimate.now.block) self.table self.number
+            i backward (index_match_of index_match.now)) }
     {
         Ok(TablePath {
             path: Path::Match {
                 table: self.table,
                 index: self.number,
-                conjuncts: chain.conjuncts.clone()?,
+                conjuncts: index_match.conjuncts.clone()?,
                 backward,
             },
-            required_outer: chain.required_outer,
-            cost: self.size.matching_scan(estimate, chain),
+            required_outer: index_match.required_outer,
+            cost: self.size.matching_scan(estimate, index_match),
         })
     }
 }

@@ -8,7 +8,7 @@ ghost use Rattle.conjuncts.specs.Naming.{AreFew, NamesFew};
 ghost use Rattle.sqlvalue.specs.Meaning.{op_of};
 ghost use Rattle.plan_tree.specs.Sets.{set_of};
 ghost use Rattle.access_paths.specs.Bounds as spec;
-ghost use Rattle.access_paths.specs.Views.{bound_told};
+ghost use Rattle.access_paths.specs.Views.{sargable_term_of};
 
 use conjuncts::value_tables;
 use plan_tree::TableSet;
@@ -23,9 +23,9 @@ pub(crate) struct SargableTerm {
 }
 
 /// What a condition says of a column, if it matches it (Selinger et al. 1979, section 4: sargable predicates that match an index).
-pub(crate) fn bound_of(column: BlockColumn, condition: &Condition) -> Option<SargableTerm>
+pub(crate) fn sargable_term(column: BlockColumn, condition: &Condition) -> Option<SargableTerm>
     requires few { NamesFew (condition_of condition.now) }
-    ensures exact { option_map bound_told result ≡ spec.bound_of (column_of column) (condition_of condition.now) }
+    ensures exact { option_map sargable_term_of result ≡ spec.sargable_term (column_of column) (condition_of condition.now) }
 {
     match condition {
         Condition::Compare { op, left, right } => {
@@ -45,7 +45,7 @@ fn comparison_bound(
     op: ComparisonOperator,
     required_outer: Option<TableSet>,
 ) -> Option<SargableTerm>
-    ensures exact { option_map bound_told result ≡ spec.comparison_bound (op_of op) (option_map set_of required_outer) }
+    ensures exact { option_map sargable_term_of result ≡ spec.comparison_bound (op_of op) (option_map set_of required_outer) }
 {
     let required_outer = required_outer?;
     match op {
@@ -84,7 +84,7 @@ fn between_bound(
     high: &ValueExpr,
 ) -> Option<SargableTerm>
     requires few { AreFew (tables_in (value_of value.now ∷ value_of low.now ∷ value_of high.now ∷ [])) }
-    ensures exact { option_map bound_told result ≡ spec.between_bound (column_of column) (value_of value.now)
+    ensures exact { option_map sargable_term_of result ≡ spec.between_bound (column_of column) (value_of value.now)
         (value_of low.now) (value_of high.now) }
 {
     if !is_column(column, value) {

@@ -12,7 +12,7 @@ ghost use Rattle.definitions.specs.Estimates.PathCost as costs;
 ghost use Rattle.definitions.specs.Estimates.PathCost.{buffer_pages};
 ghost use Rattle.query_tree.specs.Bound.{block_of};
 ghost use Rattle.access_paths.specs.Scans.{cost_with, matching_scan, scan_cost_of, whole_scan, IsSizeOf};
-ghost use Rattle.access_paths.specs.Views.{chain_told};
+ghost use Rattle.access_paths.specs.Views.{index_match_of};
 
 use crate::index_matches::IndexMatch;
 use catalog::{Index, Table};
@@ -85,35 +85,41 @@ impl IndexSize {
     }
 
     /// A scan of what a chain matches.
-    pub fn matching_scan(self, estimate: &Estimate, chain: &IndexMatch) -> ScanCost
+    pub fn matching_scan(self, estimate: &Estimate, index_match: &IndexMatch) -> ScanCost
         requires there { AllByRecursion (λ conjunct. conjunct
-            < length (queries.conjuncts (block_of estimate.now.block))) (chain_told chain.now).conjuncts }
+            < length (queries.conjuncts (block_of estimate.now.block))) (index_match_of index_match.now).conjuncts }
         ensures { (number : ℕ) (i : table.Index) → IsSizeOf estimate.now.database (block_of estimate.now.block) number
             i self → scan_cost_of result ≡ matching_scan estimate.now.database (block_of estimate.now.block) number i
-            (chain_told chain.now) }
+            (index_match_of index_match.now) }
     {
-        let all_equal = chain.equal && chain.conjuncts.len() == self.columns;
+        let all_equal = index_match.equal && index_match.conjuncts.len() == self.columns;
         if self.unique && all_equal {
             return ScanCost::OneRow;
         }
-        let once = self.share_of(estimate, chain, all_equal, self.pages_once);
-        let by_row = self.share_of(estimate, chain, all_equal, self.pages_by_row);
+        let once = self.share_of(estimate, index_match, all_equal, self.pages_once);
+        let by_row = self.share_of(estimate, index_match, all_equal, self.pages_by_row);
         ScanCost::Pages(self.pages_fetched(once, by_row))
     }
 
     /// The share of pages that a chain matches: one key where two columns or more are all equal to a value, else what its
     /// conjuncts leave.
-    fn share_of(self, estimate: &Estimate, chain: &IndexMatch, all_equal: bool, pages: u64) -> u64
+    fn share_of(
+        self,
+        estimate: &Estimate,
+        index_match: &IndexMatch,
+        all_equal: bool,
+        pages: u64,
+    ) -> u64
         requires there { AllByRecursion (λ conjunct. conjunct
-            < length (queries.conjuncts (block_of estimate.now.block))) (chain_told chain.now).conjuncts }
+            < length (queries.conjuncts (block_of estimate.now.block))) (index_match_of index_match.now).conjuncts }
         ensures { (number : ℕ) (i : table.Index) → IsSizeOf estimate.now.database (block_of estimate.now.block) number
             i self → result ≡ costs.matched estimate.now.database (block_of estimate.now.block) i all_equal
-            (chain_told chain.now).conjuncts pages }
+            (index_match_of index_match.now).conjuncts pages }
     {
         if self.columns >= 2 && all_equal {
             share(pages, fraction(1, self.keys.max(1)))
         } else {
-            shares(estimate, &chain.conjuncts, pages)
+            shares(estimate, &index_match.conjuncts, pages)
         }
     }
 

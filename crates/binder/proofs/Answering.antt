@@ -39,7 +39,7 @@ use Rattle.parse_tree.specs.declared.expr.Expr.TheViews as v
 use Rattle.parse_tree.proofs.Views.{of_line}
 use Rattle.query_tree.specs.declared.leaf.ValueType.TheVariants as bt
 use Rattle.binder.specs.Meaning.{IsLine}
-use Rattle.definitions.specs.Grammar.{members}
+use Rattle.definitions.specs.Grammar.{member_list}
 use Rattle.definitions.specs.Statement.{Members}
 use Rattle.definitions.specs.Binding.Faults.{member_count, is_logical}
 use Rattle.parse_tree.specs.Trees.{member_of as tree_member_of}
@@ -134,21 +134,21 @@ pub members_refused : (c : Clause) (old new : Progress) (type : BoundType) (ms :
     → RefusesMembers c.database.now c.scopes.now (place_of c.place) old (value_type_of type) ms r → MembersAnswer c old new type ms result
 members_refused c old new type ms result q r is same h = members_err c old new type ms result (f.Refused q) is (subst (RefusesMembers c.database.now c.scopes.now (place_of c.place) old (value_type_of type) ms) (sym same) h)
 
-pub column_err : (c : Clause) (old new : Progress) (query : spec.Block) (result : Result (ℕ × BoundType) BindFault) (fault : BindFault) → result ≡ Err fault → IfSome (bind_refusal fault) (RefusesColumn c.database.now c.scopes.now (place_of c.place) old query)
+pub column_err : (c : Clause) (old new : Progress) (query : spec.QuerySpecification) (result : Result (ℕ × BoundType) BindFault) (fault : BindFault) → result ≡ Err fault → IfSome (bind_refusal fault) (RefusesColumn c.database.now c.scopes.now (place_of c.place) old query)
     → ColumnAnswer c old new query result
 column_err c old new query result fault is h = subst (ColumnAnswer c old new query) (sym is) h
 
-pub query_err : (c : Clause) (old new : Progress) (query : spec.Block) (result : Result (ℕ × Option BoundType) BindFault) (fault : BindFault) → result ≡ Err fault → IfSome (bind_refusal fault) (RefusesQuery c.database.now c.scopes.now (place_of c.place) old query)
+pub query_err : (c : Clause) (old new : Progress) (query : spec.QuerySpecification) (result : Result (ℕ × Option BoundType) BindFault) (fault : BindFault) → result ≡ Err fault → IfSome (bind_refusal fault) (RefusesQuery c.database.now c.scopes.now (place_of c.place) old query)
     → QueryAnswer c old new query result
 query_err c old new query result fault is h = subst (QueryAnswer c old new query) (sym is) h
 
 -- ---- the members of a list, one after another
 
-pub next_member_tree : (list : List (Option TreeExpr)) (i : ℕ) (x : Option TreeExpr) → i < length list → x ≡ get_or list i x → members (map tree_member_of (drop i list)) ≡ members (tree_member_of x ∷ map tree_member_of (drop (i + 1) list))
-next_member_tree list i x h e = ap (λ xs. members (map tree_member_of xs)) (drop_more list i x h ∙ ap (λ y. y ∷ drop (i + 1) list) (sym e))
+pub next_member_tree : (list : List (Option TreeExpr)) (i : ℕ) (x : Option TreeExpr) → i < length list → x ≡ get_or list i x → member_list (map tree_member_of (drop i list)) ≡ member_list (tree_member_of x ∷ map tree_member_of (drop (i + 1) list))
+next_member_tree list i x h e = ap (λ xs. member_list (map tree_member_of xs)) (drop_more list i x h ∙ ap (λ y. y ∷ drop (i + 1) list) (sym e))
 
-pub no_member_tree : (list : List (Option TreeExpr)) (i : ℕ) → length list ≤ i → members (map tree_member_of (drop i list)) ≡ spec.NoMember
-no_member_tree list i h = ap (λ xs. members (map tree_member_of xs)) (drop_all i list h)
+pub no_member_tree : (list : List (Option TreeExpr)) (i : ℕ) → length list ≤ i → member_list (map tree_member_of (drop i list)) ≡ spec.NoMember
+no_member_tree list i h = ap (λ xs. member_list (map tree_member_of xs)) (drop_all i list h)
 
 pub pushed_member : (xs : List (Option BoundValue)) (x : Option BoundValue) → map member_of (xs ++ x ∷ []) ≡ map member_of xs ++ member_of x ∷ []
 pushed_member [] x = refl
@@ -158,7 +158,7 @@ pub pushed_condition : (xs : List Condition) (x : Condition) → map condition_o
 pushed_condition [] x = refl
 pushed_condition (y ∷ xs) x = ap (λ ys. condition_of y ∷ ys) (pushed_condition xs x)
 
-pub as_many_members : (list : List (Option TreeExpr)) → member_count (members (map tree_member_of list)) ≡ length list
+pub as_many_members : (list : List (Option TreeExpr)) → member_count (member_list (map tree_member_of list)) ≡ length list
 as_many_members [] = refl
 as_many_members (None ∷ xs) = let h = as_many_members xs in omega (arith, h)
 as_many_members (Some x ∷ xs) = let h = as_many_members xs in omega (arith, h)
@@ -176,7 +176,7 @@ connected_and others x parts e h k =
 pub connected_or : (others : List Operand) (x : Operand) (parts : b.Conditions) → x ≡ get_or others 0 x → 0 < length others → (x.operator ≡ o.And → ⊥) → connected (operands (map operand_of others)) parts ≡ b.Or parts
 connected_or others x parts e h k = ap (λ os. connected os parts) (first_operator others x e h) ∙ by_operator x.operator (expr_of x.value) (operands (map operand_of (drop 1 others))) k
   where
-    by_operator : (op : LineOperator) (value : Expr) (rest : spec.Operands) → (op ≡ o.And → ⊥) → connected (spec.Operand (operator_of op) value rest) parts ≡ b.Or parts
+    by_operator : (op : LineOperator) (value : Expr) (rest : spec.LineOperands) → (op ≡ o.And → ⊥) → connected (spec.Operand (operator_of op) value rest) parts ≡ b.Or parts
     by_operator o.And value rest k = absurd (k refl)
     by_operator o.Or value rest k = refl
     by_operator o.Plus value rest k = refl

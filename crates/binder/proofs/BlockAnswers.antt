@@ -32,7 +32,7 @@ use Rattle.query_rules.specs.Meaning.{bind_refusal, query_refusal, place_of}
 use Rattle.binder.specs.Meaning.{BlockAnswer}
 use Rattle.query_rules.proofs.Refused.{if_some}
 
-pub option_err : (c : Clause) (old new : Progress) (condition : t.Condition) (result : Result (Option Condition) BindFault) (fault : BindFault) → result ≡ Err fault
+pub option_err : (c : Clause) (old new : Progress) (condition : t.SearchClause) (result : Result (Option Condition) BindFault) (fault : BindFault) → result ≡ Err fault
     → IfSome (bind_refusal fault) (RefusesOption c.database.now c.scopes.now (place_of c.place) old condition) → OptionAnswer c old new condition result
 option_err c old new condition result fault is h = subst (OptionAnswer c old new condition) (sym is) h
 
@@ -40,18 +40,18 @@ pub list_err : (c : Clause) (old new : Progress) (list : t.SelectList) (result :
     → IfSome (bind_refusal fault) (RefusesList c.database.now c.scopes.now (place_of c.place) old list) → ListAnswer c old new list result
 list_err c old new list result fault is h = subst (ListAnswer c old new list) (sym is) h
 
-pub clauses_err : (db : Database) (scopes : Scopes) (shown : ClauseKind) (old new : Blocks) (query : t.Block) (result : Result Clauses BindFault) (fault : BindFault) → result ≡ Err fault
+pub clauses_err : (db : Database) (scopes : Scopes) (shown : ClauseKind) (old new : Blocks) (query : t.QuerySpecification) (result : Result Clauses BindFault) (fault : BindFault) → result ≡ Err fault
     → IfSome (bind_refusal fault) (RefusesClauses db scopes shown (length old) query) → ClausesAnswer db scopes shown old new query result
 clauses_err db scopes shown old new query result fault is h = subst (ClausesAnswer db scopes shown old new query) (sym is) h
 
-pub block_err : (db : Database) (outer : Scopes) (old new : Blocks) (query : t.Block) (result : Result (Option ValueType) BindFault) (fault : BindFault) → result ≡ Err fault
+pub block_err : (db : Database) (outer : Scopes) (old new : Blocks) (query : t.QuerySpecification) (result : Result (Option ValueType) BindFault) (fault : BindFault) → result ≡ Err fault
     → IfSome (bind_refusal fault) (RefusesBlock db outer old query) → BlockAnswer db outer old new query result
 block_err db outer old new query result fault is h = subst (BlockAnswer db outer old new query) (sym is) h
 
-pub block_faulty : (db : Database) (outer : Scopes) (old : Blocks) (query : t.Block) (r : Refusal) → BlockFaulty db (record { outer = outer; block = query }) r → RefusesBlock db outer old query r
+pub block_faulty : (db : Database) (outer : Scopes) (old : Blocks) (query : t.QuerySpecification) (r : Refusal) → BlockFaulty db (record { outer = outer; block = query }) r → RefusesBlock db outer old query r
 block_faulty db outer old (Specification distinct list sources where' groups having) r h = inl (inl h)
 
-pub block_refused : (db : Database) (outer : Scopes) (old new : Blocks) (query : t.Block) (result : Result (Option ValueType) BindFault) (q : QueryFault) → result ≡ Err (f.Refused q)
+pub block_refused : (db : Database) (outer : Scopes) (old new : Blocks) (query : t.QuerySpecification) (result : Result (Option ValueType) BindFault) (q : QueryFault) → result ≡ Err (f.Refused q)
     → BlockFaulty db (record { outer = outer; block = query }) (query_refusal q) → BlockAnswer db outer old new query result
 block_refused db outer old new query result q is h = block_err db outer old new query result (f.Refused q) is (block_faulty db outer old query (query_refusal q) h)
 

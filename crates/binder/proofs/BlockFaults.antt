@@ -6,7 +6,7 @@ use Rattle.std.proofs.lemmas.List.{append_assoc}
 use Rattle.definitions.specs.Lists.{AnyOf}
 use Rattle.definitions.specs.Limits.{most_blocks, most_from_tables, most_conjuncts, most_items, most_group_columns}
 use Rattle.definitions.specs.Refusal.{Refusal, NotFound, ScaleTooGreat, UnknownColumn, MixedKinds, MisplacedCondition, MisplacedFunction, UngroupedColumn, OverQueryLimit}
-use Rattle.definitions.specs.Statement.{Expr, Column, Function, ColumnReference, Source, SelectList, Asterisk, Condition, Absent, Present, Block, Specification}
+use Rattle.definitions.specs.Statement.{Expr, Column, Function, ColumnReference, Source, SelectList, Asterisk, SearchClause, Absent, Present, QuerySpecification, Specification}
 use Rattle.definitions.specs.Table.{Table, Database, AreDistinct, table_named}
 use Rattle.definitions.specs.Plans.Order.{BlockColumn}
 use Rattle.definitions.specs.Binding.Scopes.{NamedTable, Scopes, scope_of, are_there, resolve}
@@ -71,11 +71,11 @@ none_of_all P ws ss h k l m a = elim (any_split P (ws ++ ss) (flat_map argument_
 
 -- ---- conditions, and tables that are there
 
-abbrev pub IsConditionIn : Condition → Type 0
+abbrev pub IsConditionIn : SearchClause → Type 0
 IsConditionIn Absent = ⊤
 IsConditionIn (Present e) = is_condition e ≡ true
 
-abbrev pub HasFewConjuncts : Condition → Type 0
+abbrev pub HasFewConjuncts : SearchClause → Type 0
 HasFewConjuncts Absent = ⊤
 HasFewConjuncts (Present e) = conjunct_count e ≤ most_conjuncts
 
@@ -83,12 +83,12 @@ both_cannot : (b : Bool) → b ≡ true → IsFalse b → ⊥
 both_cannot true h k = absurd cc
 both_cannot false h k = absurd cc
 
-no_value : (c : Condition) → IsConditionIn c → AnyOf (λ e. IsFalse (is_condition e)) (condition_values c) → ⊥
+no_value : (c : SearchClause) → IsConditionIn c → AnyOf (λ e. IsFalse (is_condition e)) (condition_values c) → ⊥
 no_value Absent h a = absurd a
 no_value (Present e) h (inl a) = both_cannot (is_condition e) h a
 no_value (Present e) h (inr a) = absurd a
 
-not_many : (c : Condition) → HasFewConjuncts c → AnyOf (λ e. most_conjuncts < conjunct_count e) (condition_values c) → ⊥
+not_many : (c : SearchClause) → HasFewConjuncts c → AnyOf (λ e. most_conjuncts < conjunct_count e) (condition_values c) → ⊥
 not_many Absent h a = absurd a
 not_many (Present e) h (inl a) = absurd (omega (arith, h, a))
 not_many (Present e) h (inr a) = absurd a
@@ -142,8 +142,8 @@ in_ungrouped : (db : Database) (scopes : Scopes) (groups : List ColumnReference)
 in_ungrouped db scopes groups (Column reference) h = h
 in_ungrouped db scopes groups _ h = absurd h
 
-module _ (db : Database) (outer : Scopes) (distinct : Bool) (list : SelectList) (sources : List Source) (where' : Condition) (groups : List ColumnReference) (having : Condition) where
-  abbrev pub whole : Block
+module _ (db : Database) (outer : Scopes) (distinct : Bool) (list : SelectList) (sources : List Source) (where' : SearchClause) (groups : List ColumnReference) (having : SearchClause) where
+  abbrev pub whole : QuerySpecification
   whole = Specification distinct list sources where' groups having
 
   abbrev pub placed : PlacedBlock

@@ -5,7 +5,7 @@ use Rattle.std.proofs.lemmas.List.{append_assoc}
 use Rattle.definitions.specs.Lists.{AnyOf}
 use Rattle.definitions.specs.Limits.{most_from_tables, most_conjuncts}
 use Rattle.definitions.specs.Statement as t
-use Rattle.definitions.specs.Statement.{Expr, Source, ColumnReference, SelectList, Asterisk, Listed, Condition, Absent, Present, Specification}
+use Rattle.definitions.specs.Statement.{Expr, Source, ColumnReference, SelectList, Asterisk, Listed, SearchClause, Absent, Present, Specification}
 use Rattle.definitions.specs.Table.{Database, AreDistinct}
 use Rattle.definitions.specs.Plans.Order.{BlockColumn}
 use Rattle.definitions.specs.Binding.Scopes.{NamedTable, Scopes, scope_of, are_there}
@@ -55,26 +55,26 @@ is_right : (b : Bool) → (IsFalse b → ⊥) → b ≡ true
 is_right true h = refl
 is_right false h = absurd (h refl)
 
-conditions_in : (c : Condition) → (AnyOf (λ e. IsFalse (is_condition e)) (condition_values c) → ⊥) → IsConditionIn c
+conditions_in : (c : SearchClause) → (AnyOf (λ e. IsFalse (is_condition e)) (condition_values c) → ⊥) → IsConditionIn c
 conditions_in Absent h = tt
 conditions_in (Present e) h = is_right (is_condition e) (λ x. h (inl x))
 
 not_more : (m n : ℕ) → (m < n → ⊥) → n ≤ m
 not_more m n h = omega (arith, h)
 
-few_in : (c : Condition) → (AnyOf (λ e. most_conjuncts < conjunct_count e) (condition_values c) → ⊥) → HasFewConjuncts c
+few_in : (c : SearchClause) → (AnyOf (λ e. most_conjuncts < conjunct_count e) (condition_values c) → ⊥) → HasFewConjuncts c
 few_in Absent h = tt
 few_in (Present e) h = not_more most_conjuncts (conjunct_count e) (λ x. h (inl x))
 
 -- ---- the number of result columns
 
-counted : (db : Database) (outer : Scopes) (distinct : Bool) (list : SelectList) (sources : List Source) (where' : Condition) (groups : List ColumnReference) (having : Condition)
+counted : (db : Database) (outer : Scopes) (distinct : Bool) (list : SelectList) (sources : List Source) (where' : SearchClause) (groups : List ColumnReference) (having : SearchClause)
     → list_length (scope_of db sources ∷ outer) list ≡ column_count db (Specification distinct list sources where' groups having)
 counted db outer distinct Asterisk sources where' groups having = refl
 counted db outer distinct (Listed items) sources where' groups having = refl
 
-module _ (db : Database) (outer : Scopes) (distinct : Bool) (list : SelectList) (sources : List Source) (where' : Condition) (groups : List ColumnReference) (having : Condition) where
-  abbrev query : t.Block
+module _ (db : Database) (outer : Scopes) (distinct : Bool) (list : SelectList) (sources : List Source) (where' : SearchClause) (groups : List ColumnReference) (having : SearchClause) where
+  abbrev query : t.QuerySpecification
   query = Specification distinct list sources where' groups having
 
   abbrev scopes : Scopes

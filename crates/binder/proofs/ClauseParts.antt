@@ -9,7 +9,7 @@ use Rattle.definitions.specs.Statement.{Expr}
 use Rattle.definitions.specs.Table.{Database}
 use Rattle.definitions.specs.Binding.Scopes.{Scopes}
 use Rattle.definitions.specs.Binding.Parts.{PlacedBlock, is_function, parts, item_values, condition_values, list_blocks, condition_blocks}
-use Rattle.definitions.specs.Binding.Faults.{list_of, where_of, having_of, where_parts}
+use Rattle.definitions.specs.Binding.Faults.{list_of, where_of, having_clause_of, where_parts}
 use Rattle.definitions.specs.Queries.BoundBlock.{Blocks}
 use Rattle.parse_tree.specs.Trees.{block_of, condition_of}
 use Rattle.parse_tree.specs.Trees as tree
@@ -64,38 +64,38 @@ module _ (db : Database) (scopes : Scopes) where
     abbrev start : Progress
     start = record { blocks = old; functions = [] }
 
-    pub list_refused : (query : t.Block) (r : Refusal) → RefusesList db scopes shown start (list_of query) r → RefusesClauses db scopes shown (length old) query r
+    pub list_refused : (query : t.QuerySpecification) (r : Refusal) → RefusesList db scopes shown start (list_of query) r → RefusesClauses db scopes shown (length old) query r
     list_refused query r (inl f) =
         let ls = list_blocks db scopes (list_of query) in
-        let hs = condition_blocks db scopes (having_of query) in
+        let hs = condition_blocks db scopes (having_clause_of query) in
         let ws = condition_blocks db scopes (where_of query) in
-        in_shown r (subst (λ ps. Refuses db scopes shown (length old + length ws) ps (ls ++ hs) r) (sym (parts_of_both (item_values (list_of query)) (condition_values (having_of query))))
-        (later_refuses shown (length old) (length ws) (list_parts (list_of query) ++ condition_parts (having_of query)) (ls ++ hs) r
-        (fault_left db scopes shown (length old) (list_parts (list_of query)) (condition_parts (having_of query)) ls hs r f)))
+        in_shown r (subst (λ ps. Refuses db scopes shown (length old + length ws) ps (ls ++ hs) r) (sym (parts_of_both (item_values (list_of query)) (condition_values (having_clause_of query))))
+        (later_refuses shown (length old) (length ws) (list_parts (list_of query) ++ condition_parts (having_clause_of query)) (ls ++ hs) r
+        (fault_left db scopes shown (length old) (list_parts (list_of query)) (condition_parts (having_clause_of query)) ls hs r f)))
     list_refused query r (inr (a, same)) = subst (RefusesClauses db scopes shown (length old) query) (sym same) (condition_for_item a)
 
-    pub where_refused : (listed : Progress) (query : t.Block) (r : Refusal) → IsTrue (takes_functions shown) → Adds db scopes shown start listed (list_parts (list_of query)) (list_blocks db scopes (list_of query))
+    pub where_refused : (listed : Progress) (query : t.QuerySpecification) (r : Refusal) → IsTrue (takes_functions shown) → Adds db scopes shown start listed (list_parts (list_of query)) (list_blocks db scopes (list_of query))
         → RefusesOption db scopes InWhere listed (where_of query) r → RefusesClauses db scopes shown (length old) query r
     where_refused listed query r t h (inl f) =
         let ls = list_blocks db scopes (list_of query) in
         let count = blocks_after db scopes shown start listed (list_parts (list_of query)) ls h ∙ nothing_behind (length old) ls (no_blocks shown start listed (list_parts (list_of query)) ls t h) in
         in_where r (subst (λ n. Refuses db scopes InWhere n (where_parts query) (condition_blocks db scopes (where_of query)) r) count f)
-    where_refused listed query r t h (inr (a, same)) = subst (RefusesClauses db scopes shown (length old) query) (sym same) (value_for_condition (any_left _ (condition_values (where_of query)) (condition_values (having_of query)) a))
+    where_refused listed query r t h (inr (a, same)) = subst (RefusesClauses db scopes shown (length old) query) (sym same) (value_for_condition (any_left _ (condition_values (where_of query)) (condition_values (having_clause_of query)) a))
 
-    pub having_refused : (listed kept : Progress) (query : t.Block) (r : Refusal) → Adds db scopes shown start listed (list_parts (list_of query)) (list_blocks db scopes (list_of query))
+    pub having_refused : (listed kept : Progress) (query : t.QuerySpecification) (r : Refusal) → Adds db scopes shown start listed (list_parts (list_of query)) (list_blocks db scopes (list_of query))
         → Adds db scopes InWhere listed kept (condition_parts (where_of query)) (condition_blocks db scopes (where_of query))
-        → RefusesOption db scopes shown kept (having_of query) r → RefusesClauses db scopes shown (length old) query r
+        → RefusesOption db scopes shown kept (having_clause_of query) r → RefusesClauses db scopes shown (length old) query r
     having_refused listed kept query r h k (inl f) =
         let ls = list_blocks db scopes (list_of query) in
-        let hs = condition_blocks db scopes (having_of query) in
+        let hs = condition_blocks db scopes (having_clause_of query) in
         let ws = condition_blocks db scopes (where_of query) in
         let first : length listed.blocks ≡ length old + length ls = blocks_after db scopes shown start listed (list_parts (list_of query)) ls h in
         let second : length kept.blocks ≡ length listed.blocks + length ws = blocks_after db scopes InWhere listed kept (condition_parts (where_of query)) ws k in
         let count : length kept.blocks ≡ length old + length ws + length ls = omega (arith, first, second) in
-        in_shown r (subst (λ ps. Refuses db scopes shown (length old + length ws) ps (ls ++ hs) r) (sym (parts_of_both (item_values (list_of query)) (condition_values (having_of query))))
-        (fault_right db scopes shown (length old + length ws) (list_parts (list_of query)) (condition_parts (having_of query)) ls hs r
-        (subst (λ n. Refuses db scopes shown n (condition_parts (having_of query)) hs r) count f)))
-    having_refused listed kept query r h k (inr (a, same)) = subst (RefusesClauses db scopes shown (length old) query) (sym same) (value_for_condition (any_right _ (condition_values (where_of query)) (condition_values (having_of query)) a))
+        in_shown r (subst (λ ps. Refuses db scopes shown (length old + length ws) ps (ls ++ hs) r) (sym (parts_of_both (item_values (list_of query)) (condition_values (having_clause_of query))))
+        (fault_right db scopes shown (length old + length ws) (list_parts (list_of query)) (condition_parts (having_clause_of query)) ls hs r
+        (subst (λ n. Refuses db scopes shown n (condition_parts (having_clause_of query)) hs r) count f)))
+    having_refused listed kept query r h k (inr (a, same)) = subst (RefusesClauses db scopes shown (length old) query) (sym same) (value_for_condition (any_right _ (condition_values (where_of query)) (condition_values (having_clause_of query)) a))
 
     -- ---- of a tree
 
@@ -114,7 +114,7 @@ module _ (db : Database) (scopes : Scopes) where
     having_refused_in listed kept query r h k f =
         having_refused listed kept (block_of query) r (subst (λ b. Adds db scopes shown start listed (list_parts (list_of b)) (list_blocks db scopes (list_of b))) (sym (of_block query)) h)
         (subst (λ b. Adds db scopes InWhere listed kept (condition_parts (where_of b)) (condition_blocks db scopes (where_of b))) (sym (of_block query)) k)
-        (subst (λ b. RefusesOption db scopes shown kept (having_of b) r) (sym (of_block query)) f)
+        (subst (λ b. RefusesOption db scopes shown kept (having_clause_of b) r) (sym (of_block query)) f)
 
     pub clauses_bound : (listed kept : Progress) (new : Blocks) (query : Block) (bound : BoundClauses) → BindsList db scopes shown start listed (tree.list_of query.list) bound.items bound.only
         → BindsOption db scopes InWhere listed kept (condition_of query.condition) bound.condition → BindsOption db scopes shown kept (record { blocks = new; functions = bound.functions }) (condition_of query.having) bound.having
@@ -124,5 +124,5 @@ module _ (db : Database) (scopes : Scopes) where
       kept = kept;
       columns = subst (λ b. BindsList db scopes shown start listed (list_of b) bound.items bound.only) (sym (of_block query)) l;
       condition = subst (λ b. BindsOption db scopes InWhere listed kept (where_of b) bound.condition) (sym (of_block query)) c;
-      having = subst (λ b. BindsOption db scopes shown kept (record { blocks = new; functions = bound.functions }) (having_of b) bound.having) (sym (of_block query)) h;
+      having = subst (λ b. BindsOption db scopes shown kept (record { blocks = new; functions = bound.functions }) (having_clause_of b) bound.having) (sym (of_block query)) h;
     }

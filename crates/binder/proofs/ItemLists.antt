@@ -15,7 +15,7 @@ use Rattle.std.specs.List.{AllByRecursion}
 use Rattle.definitions.specs.Invariant.{IsDatabase}
 use Rattle.definitions.specs.Binding.Scopes.{Scopes, Found, all_columns, own_scope, scope_of}
 use Rattle.definitions.specs.Binding.Types.{expr_type, list_type, single_type}
-use Rattle.definitions.specs.Binding.Parts.{parts, item_values, item_blocks, blocks_in}
+use Rattle.definitions.specs.Binding.Parts.{parts, item_values, item_blocks, placed_blocks_in}
 use Rattle.definitions.specs.Binding.BoundForm.{after_items, bound_items, header_name, result_name, star_items}
 use Rattle.definitions.specs.Binding.Faults.{is_condition}
 use Rattle.definitions.specs.Queries.BoundBlock as b
@@ -39,12 +39,12 @@ both_cannot false h k = absurd cc
 pub next_item_tree : (list : List Item) (i : ℕ) (x : Item) → i < length list → x ≡ get_or list i x → items (map item_of (drop i list)) ≡ AddItem (expr_of x.value) (option_map name_of x.alias) (items (map item_of (drop (i + 1) list)))
 next_item_tree list i x h e =
     ap (λ xs. items (map item_of xs)) (drop_more list i x h ∙ ap (λ y. y ∷ drop (i + 1) list) (sym e))
-    ∙ ap (λ (y : t.Item). AddItem y.value y.alias (items (map item_of (drop (i + 1) list)))) (of_item x)
+    ∙ ap (λ (y : t.DerivedColumn). AddItem y.value y.alias (items (map item_of (drop (i + 1) list)))) (of_item x)
 
 pub no_item_tree : (list : List Item) (i : ℕ) → length list ≤ i → items (map item_of (drop i list)) ≡ NoItem
 no_item_tree list i h = ap (λ xs. items (map item_of xs)) (drop_all i list h)
 
-pub all_listed : (xs : List t.Item) → listed (items xs) ≡ xs
+pub all_listed : (xs : List t.DerivedColumn) → listed (items xs) ≡ xs
 all_listed [] = refl
 all_listed (x ∷ xs) = ap (λ ys. x ∷ ys) (all_listed xs)
 
@@ -61,7 +61,7 @@ before_count (x ∷ xs) zero h = refl
 before_count (x ∷ xs) (suc i) h = let k = before_count xs i (omega (arith, h)) in omega (arith, k)
 
 pub header_same : (x : Item) (name : Name) (m k : ℕ) → name ≡ header_name m (result_name (item_of x).value (item_of x).alias) → m ≡ k → name ≡ header_name k (result_name (expr_of x.value) (option_map name_of x.alias))
-header_same x name m k h e = h ∙ ap₂ header_name e (ap (λ (y : t.Item). result_name y.value y.alias) (of_item x))
+header_same x name m k h e = h ∙ ap₂ header_name e (ap (λ (y : t.DerivedColumn). result_name y.value y.alias) (of_item x))
 
 abbrev pub item_parts : Items → List Expr
 item_parts is = flat_map parts (item_values (Listed is))
@@ -80,21 +80,21 @@ module _ (db : Database) (scopes : Scopes) (place : ClauseKind) where
   next_item : (old mid new : Progress) (k : ℕ) (e : Expr) (alias : Option Name) (v : b.ValueExpr) (type : ValueType) (is : Items) (out : List b.Item) → BindsValue db scopes place old mid e v type → BindsItems mid new (k + 1) is out
       → BindsItems old new k (AddItem e alias is) (record { name = header_name k (result_name e alias); value = v } ∷ out)
   next_item old mid new k e alias v type is out h m = record {
-    adds = add_both db scopes place old mid new (parts e) (item_parts is) (blocks_in db scopes e) (item_blocks db scopes is) h.adds m.adds;
+    adds = add_both db scopes place old mid new (parts e) (item_parts is) (placed_blocks_in db scopes e) (item_blocks db scopes is) h.adds m.adds;
     are = ap₂ (λ x xs. record { name = header_name k (result_name e alias); value = x } ∷ xs) h.bound (m.are ∙ ap (λ n. bound_items db scopes n (k + 1) (listed is)) (next_after db scopes place old mid e h.adds));
     next = m.next ∙ ap (after_items db scopes (listed is)) (next_after db scopes place old mid e h.adds);
     values = λ a. elim a [ inl x ↦ both_cannot (is_condition e) h.is_value x | inr x ↦ m.values x ];
   }
 
   item_operand : (s : Progress) (e : Expr) (alias : Option Name) (is : Items) (r : Refusal) → RefusesValue db scopes place s e r → RefusesList db scopes place s (Listed (AddItem e alias is)) r
-  item_operand s e alias is r (inl f) = inl (fault_left db scopes place (length s.blocks) (parts e) (item_parts is) (blocks_in db scopes e) (item_blocks db scopes is) r f)
+  item_operand s e alias is r (inl f) = inl (fault_left db scopes place (length s.blocks) (parts e) (item_parts is) (placed_blocks_in db scopes e) (item_blocks db scopes is) r f)
   item_operand s e alias is r (inr (x, same)) = inr (inl x, same)
 
   later_item : (old mid : Progress) (e : Expr) (alias : Option Name) (v : b.ValueExpr) (type : ValueType) (is : Items) (r : Refusal) → BindsValue db scopes place old mid e v type → RefusesList db scopes place mid (Listed is) r
       → RefusesList db scopes place old (Listed (AddItem e alias is)) r
   later_item old mid e alias v type is r h (inl f) =
-      inl (fault_right db scopes place (length old.blocks) (parts e) (item_parts is) (blocks_in db scopes e) (item_blocks db scopes is) r
-      (subst (λ n. Refuses db scopes place n (item_parts is) (item_blocks db scopes is) r) (blocks_after db scopes place old mid (parts e) (blocks_in db scopes e) h.adds) f))
+      inl (fault_right db scopes place (length old.blocks) (parts e) (item_parts is) (placed_blocks_in db scopes e) (item_blocks db scopes is) r
+      (subst (λ n. Refuses db scopes place n (item_parts is) (item_blocks db scopes is) r) (blocks_after db scopes place old mid (parts e) (placed_blocks_in db scopes e) h.adds) f))
   later_item old mid e alias v type is r h (inr (x, same)) = inr (inr x, same)
 
   -- ---- items of which some are left
@@ -127,11 +127,11 @@ module _ (db : Database) (scopes : Scopes) (place : ClauseKind) where
 
   -- ---- the type of the only item
 
-  pub only_first : (before : List t.Item) (x : t.Item) (type : ValueType) → length before ≡ 0 → expr_type db scopes x.value ≡ Some type → IsFine type → IsOnly db scopes (before ++ x ∷ []) (Some type)
+  pub only_first : (before : List t.DerivedColumn) (x : t.DerivedColumn) (type : ValueType) → length before ≡ 0 → expr_type db scopes x.value ≡ Some type → IsFine type → IsOnly db scopes (before ++ x ∷ []) (Some type)
   only_first [] x type z e f = (type, refl, e, f)
   only_first (y ∷ ys) x type z e f = absurd (omega (arith, z))
 
-  pub only_later : (before : List t.Item) (x : t.Item) → 0 < length before → IsOnly db scopes (before ++ x ∷ []) None
+  pub only_later : (before : List t.DerivedColumn) (x : t.DerivedColumn) → 0 < length before → IsOnly db scopes (before ++ x ∷ []) None
   only_later [] x h = absurd (omega (arith, h))
   only_later (y ∷ []) x h = refl
   only_later (y ∷ z ∷ zs) x h = refl
@@ -140,7 +140,7 @@ module _ (db : Database) (scopes : Scopes) (place : ClauseKind) where
       → IsOnly db scopes (map item_of (take (i + 1) list)) only
   first_next list i n x type only h e z same typed f o =
       let nothing : length (map item_of (take i list)) ≡ 0 = let count = before_count list i h in let none : n ≡ 0 = grind (arith, nat_tests, z) in omega (arith, count, none, same) in
-      rw (one_more list i x h e, o) (only_first (map item_of (take i list)) (item_of x) type nothing (ap (λ (y : t.Item). expr_type db scopes y.value) (of_item x) ∙ typed) f)
+      rw (one_more list i x h e, o) (only_first (map item_of (take i list)) (item_of x) type nothing (ap (λ (y : t.DerivedColumn). expr_type db scopes y.value) (of_item x) ∙ typed) f)
 
   pub later_next : (list : List Item) (i n : ℕ) (x : Item) (only : Option ValueType) → i < length list → x ≡ get_or list i x → n == 0 ≡ false → n ≡ i → only ≡ None → IsOnly db scopes (map item_of (take (i + 1) list)) only
   later_next list i n x only h e z same o =

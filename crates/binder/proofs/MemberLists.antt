@@ -9,7 +9,7 @@ use Rattle.definitions.specs.Statement.{Expr, Members, NoMember, NullMember, Mem
 use Rattle.definitions.specs.Table.{Database}
 use Rattle.definitions.specs.ValueType.{ValueType, type_kind}
 use Rattle.definitions.specs.Binding.Scopes.{Scopes}
-use Rattle.definitions.specs.Binding.Parts.{parts, member_parts, blocks_in, member_blocks}
+use Rattle.definitions.specs.Binding.Parts.{parts, member_parts, placed_blocks_in, member_blocks}
 use Rattle.definitions.specs.Binding.BoundForm.{bound_members}
 use Rattle.definitions.specs.Binding.Faults.{is_condition, SomeMemberDiffers, members_are_values, HasManyMembers}
 use Rattle.definitions.specs.Queries.BoundBlock as b
@@ -27,7 +27,7 @@ module _ (db : Database) (scopes : Scopes) (place : ClauseKind) where
   next_member : (old mid new : Progress) (k l : ValueType) (e : Expr) (v : b.ValueExpr) (ms : Members) (out : List (Option b.ValueExpr)) → BindsValue db scopes place old mid e v l → type_kind k ≡ type_kind l → BindsMembers db scopes place mid new k ms out
       → BindsMembers db scopes place old new k (Member e ms) (Some v ∷ out)
   next_member old mid new k l e v ms out h same m = record {
-    adds = add_both db scopes place old mid new (parts e) (member_parts ms) (blocks_in db scopes e) (member_blocks db scopes ms) h.adds m.adds;
+    adds = add_both db scopes place old mid new (parts e) (member_parts ms) (placed_blocks_in db scopes e) (member_blocks db scopes ms) h.adds m.adds;
     are = ap₂ (λ x xs. Some x ∷ xs) h.bound (m.are ∙ ap (λ n. bound_members db scopes n ms) (next_after db scopes place old mid e h.adds));
     alike = λ x. elim x [ inl d ↦ alike db scopes place (Some k) _ k l refl h.typed same d | inr d ↦ m.alike d ];
     values = taken (is_condition e) (members_are_values ms) h.is_value m.values;
@@ -46,7 +46,7 @@ module _ (db : Database) (scopes : Scopes) (place : ClauseKind) where
   wrong_later false y h = h
 
   member_operand : (s : Progress) (k : ValueType) (e : Expr) (ms : Members) (r : Refusal) → RefusesValue db scopes place s e r → RefusesMembers db scopes place s k (Member e ms) r
-  member_operand s k e ms r (inl f) = inl (fault_left db scopes place (length s.blocks) (parts e) (member_parts ms) (blocks_in db scopes e) (member_blocks db scopes ms) r f)
+  member_operand s k e ms r (inl f) = inl (fault_left db scopes place (length s.blocks) (parts e) (member_parts ms) (placed_blocks_in db scopes e) (member_blocks db scopes ms) r f)
   member_operand s k e ms r (inr (x, same)) = inr (inr (wrong_first (is_condition e) (members_are_values ms) x, same))
 
   member_mixed : (old mid : Progress) (k l : ValueType) (e : Expr) (v : b.ValueExpr) (ms : Members) → BindsValue db scopes place old mid e v l → (type_kind k ≡ type_kind l → ⊥) → RefusesMembers db scopes place old k (Member e ms) MixedKinds
@@ -54,8 +54,8 @@ module _ (db : Database) (scopes : Scopes) (place : ClauseKind) where
 
   later_member : (old mid : Progress) (k l : ValueType) (e : Expr) (v : b.ValueExpr) (ms : Members) (r : Refusal) → BindsValue db scopes place old mid e v l → RefusesMembers db scopes place mid k ms r → RefusesMembers db scopes place old k (Member e ms) r
   later_member old mid k l e v ms r h (inl f) =
-      inl (fault_right db scopes place (length old.blocks) (parts e) (member_parts ms) (blocks_in db scopes e) (member_blocks db scopes ms) r
-      (subst (λ n. Refuses db scopes place n (member_parts ms) (member_blocks db scopes ms) r) (blocks_after db scopes place old mid (parts e) (blocks_in db scopes e) h.adds) f))
+      inl (fault_right db scopes place (length old.blocks) (parts e) (member_parts ms) (placed_blocks_in db scopes e) (member_blocks db scopes ms) r
+      (subst (λ n. Refuses db scopes place n (member_parts ms) (member_blocks db scopes ms) r) (blocks_after db scopes place old mid (parts e) (placed_blocks_in db scopes e) h.adds) f))
   later_member old mid k l e v ms r h (inr (inl (d, same))) = inr (inl (inr d, same))
   later_member old mid k l e v ms r h (inr (inr (x, same))) = inr (inr (wrong_later (is_condition e) (members_are_values ms) x, same))
 
@@ -103,7 +103,7 @@ module _ (db : Database) (scopes : Scopes) (place : ClauseKind) where
   pub binds_in_list : (old mid new : Progress) (negated : Bool) (e : Expr) (ms : Members) (v : b.ValueExpr) (k : ValueType) (out : List (Option b.ValueExpr)) → BindsValue db scopes place old mid e v k → BindsMembers db scopes place mid new k ms out
       → (HasManyMembers (t.InList negated e ms) → ⊥) → BindsCondition db scopes place old new (t.InList negated e ms) (b.InList negated v out)
   binds_in_list old mid new negated e ms v k out h m few = record {
-    adds = add_node db scopes place old new (t.InList negated e ms) (parts e ++ member_parts ms) (blocks_in db scopes e ++ member_blocks db scopes ms) refl (sound db scopes place (t.InList negated e ms) (record {
+    adds = add_node db scopes place old new (t.InList negated e ms) (parts e ++ member_parts ms) (placed_blocks_in db scopes e ++ member_blocks db scopes ms) refl (sound db scopes place (t.InList negated e ms) (record {
       fine = λ z. z;
       named = λ z. z;
       kinds = λ d. m.alike (subst (λ o. SomeMemberDiffers db scopes o ms) h.typed d);
@@ -113,7 +113,7 @@ module _ (db : Database) (scopes : Scopes) (place : ClauseKind) where
       outer = λ z. z;
       grouped = λ columns z. z;
       argument = refl;
-    })) (add_both db scopes place old mid new (parts e) (member_parts ms) (blocks_in db scopes e) (member_blocks db scopes ms) h.adds m.adds);
+    })) (add_both db scopes place old mid new (parts e) (member_parts ms) (placed_blocks_in db scopes e) (member_blocks db scopes ms) h.adds m.adds);
     bound = ap₂ (b.InList negated) h.bound (m.are ∙ ap (λ n. bound_members db scopes n ms) (next_after db scopes place old mid e h.adds));
     untyped = refl;
     is_condition = refl;
@@ -124,7 +124,7 @@ module _ (db : Database) (scopes : Scopes) (place : ClauseKind) where
       right true y p q = absurd cc
 
   list_here : (s : Progress) (negated : Bool) (e : Expr) (ms : Members) (r : Refusal) → PartFaulty db scopes place (t.InList negated e ms) r → RefusesCondition db scopes place s (t.InList negated e ms) r
-  list_here s negated e ms r h = inl (fault_here db scopes place (length s.blocks) (t.InList negated e ms) (parts e ++ member_parts ms) (blocks_in db scopes e ++ member_blocks db scopes ms) r h)
+  list_here s negated e ms r h = inl (fault_here db scopes place (length s.blocks) (t.InList negated e ms) (parts e ++ member_parts ms) (placed_blocks_in db scopes e ++ member_blocks db scopes ms) r h)
 
   wrong : (b : Bool) → b ≡ false → IsFalse b
   wrong false h = search
@@ -135,17 +135,17 @@ module _ (db : Database) (scopes : Scopes) (place : ClauseKind) where
 
   pub in_list_operand : (s : Progress) (negated : Bool) (e : Expr) (ms : Members) (r : Refusal) → RefusesValue db scopes place s e r → RefusesCondition db scopes place s (t.InList negated e ms) r
   in_list_operand s negated e ms r (inl f) =
-      inl (fault_behind db scopes place (length s.blocks) (t.InList negated e ms) (parts e ++ member_parts ms) (blocks_in db scopes e ++ member_blocks db scopes ms) r
-      (fault_left db scopes place (length s.blocks) (parts e) (member_parts ms) (blocks_in db scopes e) (member_blocks db scopes ms) r f))
+      inl (fault_behind db scopes place (length s.blocks) (t.InList negated e ms) (parts e ++ member_parts ms) (placed_blocks_in db scopes e ++ member_blocks db scopes ms) r
+      (fault_left db scopes place (length s.blocks) (parts e) (member_parts ms) (placed_blocks_in db scopes e) (member_blocks db scopes ms) r f))
   in_list_operand s negated e ms r (inr (x, same)) =
       subst (RefusesCondition db scopes place s (t.InList negated e ms)) (sym same) (list_here s negated e ms MisplacedCondition (wrong_operand (wrong _ (wrong_first (is_condition e) (members_are_values ms) x))))
 
   pub in_list_members : (old mid : Progress) (negated : Bool) (e : Expr) (ms : Members) (v : b.ValueExpr) (k : ValueType) (r : Refusal) → BindsValue db scopes place old mid e v k → RefusesMembers db scopes place mid k ms r
       → RefusesCondition db scopes place old (t.InList negated e ms) r
   in_list_members old mid negated e ms v k r h (inl f) =
-      inl (fault_behind db scopes place (length old.blocks) (t.InList negated e ms) (parts e ++ member_parts ms) (blocks_in db scopes e ++ member_blocks db scopes ms) r
-      (fault_right db scopes place (length old.blocks) (parts e) (member_parts ms) (blocks_in db scopes e) (member_blocks db scopes ms) r
-      (subst (λ n. Refuses db scopes place n (member_parts ms) (member_blocks db scopes ms) r) (blocks_after db scopes place old mid (parts e) (blocks_in db scopes e) h.adds) f)))
+      inl (fault_behind db scopes place (length old.blocks) (t.InList negated e ms) (parts e ++ member_parts ms) (placed_blocks_in db scopes e ++ member_blocks db scopes ms) r
+      (fault_right db scopes place (length old.blocks) (parts e) (member_parts ms) (placed_blocks_in db scopes e) (member_blocks db scopes ms) r
+      (subst (λ n. Refuses db scopes place n (member_parts ms) (member_blocks db scopes ms) r) (blocks_after db scopes place old mid (parts e) (placed_blocks_in db scopes e) h.adds) f)))
   in_list_members old mid negated e ms v k r h (inr (inl (d, same))) =
       subst (RefusesCondition db scopes place old (t.InList negated e ms)) (sym same) (list_here old negated e ms MixedKinds (mixed_kinds (subst (λ o. SomeMemberDiffers db scopes o ms) (sym h.typed) d)))
   in_list_members old mid negated e ms v k r h (inr (inr (x, same))) =

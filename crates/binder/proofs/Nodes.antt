@@ -11,7 +11,7 @@ use Rattle.definitions.specs.ValueType.{ValueType, NumberType, TextType, type_ki
 use Rattle.definitions.specs.Plans.Order.{BlockColumn}
 use Rattle.definitions.specs.Binding.Scopes.{Scopes}
 use Rattle.definitions.specs.Binding.Types.{expr_type}
-use Rattle.definitions.specs.Binding.Parts.{PlacedBlock, is_function, parts, blocks_in}
+use Rattle.definitions.specs.Binding.Parts.{PlacedBlock, is_function, parts, placed_blocks_in}
 use Rattle.definitions.specs.Binding.BoundForm.{Next, after, bound_value, bound_function}
 use Rattle.definitions.specs.Binding.Faults.{Differ, IsTooFine, NamesNoColumn, MixesKinds, takes_right, is_condition, HasManyMembers, IsOuterColumn, argument_parts}
 use Rattle.definitions.specs.Queries.BoundBlock as b
@@ -81,13 +81,13 @@ module _ (db : Database) (scopes : Scopes) (place : ClauseKind) where
 
   -- a fault of the first operand, and of a later one
   pub of_first : (s : Progress) (e a : Expr) (qs : List Expr) (cs : List PlacedBlock) (r : Refusal) → RefusesValue db scopes place s a r → (is_condition a ≡ true → IsFalse (takes_right e))
-      → Refuses db scopes place (length s.blocks) (e ∷ (parts a ++ qs)) (blocks_in db scopes a ++ cs) r
-  of_first s e a qs cs r (inl f) n = fault_behind db scopes place (length s.blocks) e (parts a ++ qs) (blocks_in db scopes a ++ cs) r (fault_left db scopes place (length s.blocks) (parts a) qs (blocks_in db scopes a) cs r f)
-  of_first s e a qs cs r (inr (c, same)) n = subst (Refuses db scopes place (length s.blocks) (e ∷ (parts a ++ qs)) (blocks_in db scopes a ++ cs)) (sym same) (fault_here db scopes place (length s.blocks) e (parts a ++ qs) (blocks_in db scopes a ++ cs) MisplacedCondition (wrong_operand (n c)))
+      → Refuses db scopes place (length s.blocks) (e ∷ (parts a ++ qs)) (placed_blocks_in db scopes a ++ cs) r
+  of_first s e a qs cs r (inl f) n = fault_behind db scopes place (length s.blocks) e (parts a ++ qs) (placed_blocks_in db scopes a ++ cs) r (fault_left db scopes place (length s.blocks) (parts a) qs (placed_blocks_in db scopes a) cs r f)
+  of_first s e a qs cs r (inr (c, same)) n = subst (Refuses db scopes place (length s.blocks) (e ∷ (parts a ++ qs)) (placed_blocks_in db scopes a ++ cs)) (sym same) (fault_here db scopes place (length s.blocks) e (parts a ++ qs) (placed_blocks_in db scopes a ++ cs) MisplacedCondition (wrong_operand (n c)))
 
-  pub of_only : (s : Progress) (e a : Expr) (r : Refusal) → RefusesValue db scopes place s a r → (is_condition a ≡ true → IsFalse (takes_right e)) → Refuses db scopes place (length s.blocks) (e ∷ parts a) (blocks_in db scopes a) r
-  of_only s e a r (inl f) n = fault_behind db scopes place (length s.blocks) e (parts a) (blocks_in db scopes a) r f
-  of_only s e a r (inr (c, same)) n = subst (Refuses db scopes place (length s.blocks) (e ∷ parts a) (blocks_in db scopes a)) (sym same) (fault_here db scopes place (length s.blocks) e (parts a) (blocks_in db scopes a) MisplacedCondition (wrong_operand (n c)))
+  pub of_only : (s : Progress) (e a : Expr) (r : Refusal) → RefusesValue db scopes place s a r → (is_condition a ≡ true → IsFalse (takes_right e)) → Refuses db scopes place (length s.blocks) (e ∷ parts a) (placed_blocks_in db scopes a) r
+  of_only s e a r (inl f) n = fault_behind db scopes place (length s.blocks) e (parts a) (placed_blocks_in db scopes a) r f
+  of_only s e a r (inr (c, same)) n = subst (Refuses db scopes place (length s.blocks) (e ∷ parts a) (placed_blocks_in db scopes a)) (sym same) (fault_here db scopes place (length s.blocks) e (parts a) (placed_blocks_in db scopes a) MisplacedCondition (wrong_operand (n c)))
 
   -- ---- a sign
 
@@ -105,7 +105,7 @@ module _ (db : Database) (scopes : Scopes) (place : ClauseKind) where
 
   pub binds_signed : (old new : Progress) (minus : Bool) (e : Expr) (v : b.ValueExpr) (scale : ℕ) → BindsValue db scopes place old new e v (NumberType scale) → BindsValue db scopes place old new (t.Signed minus e) (b.Signed minus v) (NumberType scale)
   binds_signed old new minus e v scale h = record {
-    adds = add_node db scopes place old new (t.Signed minus e) (parts e) (blocks_in db scopes e) refl (sound (t.Signed minus e) (record {
+    adds = add_node db scopes place old new (t.Signed minus e) (parts e) (placed_blocks_in db scopes e) refl (sound (t.Signed minus e) (record {
       fine = λ x. x;
       named = λ x. x;
       kinds = no_text e scale h.typed;
@@ -126,14 +126,14 @@ module _ (db : Database) (scopes : Scopes) (place : ClauseKind) where
   signed_operand s minus e r f = inl (of_only s (t.Signed minus e) e r f (not_taken (is_condition e)))
 
   pub signed_text : (old new : Progress) (minus : Bool) (e : Expr) (v : b.ValueExpr) → BindsValue db scopes place old new e v TextType → RefusesValue db scopes place old (t.Signed minus e) MixedKinds
-  signed_text old new minus e v h = inl (fault_here db scopes place (length old.blocks) (t.Signed minus e) (parts e) (blocks_in db scopes e) MixedKinds (mixed_kinds (TextType, h.typed, refl)))
+  signed_text old new minus e v h = inl (fault_here db scopes place (length old.blocks) (t.Signed minus e) (parts e) (placed_blocks_in db scopes e) MixedKinds (mixed_kinds (TextType, h.typed, refl)))
 
   -- ---- two operands
 
   -- what is bound next behind an expression
-  pub next_after : (old mid : Progress) (a : Expr) → Adds db scopes place old mid (parts a) (blocks_in db scopes a) → next_of mid ≡ after db scopes a (next_of old)
+  pub next_after : (old mid : Progress) (a : Expr) → Adds db scopes place old mid (parts a) (placed_blocks_in db scopes a) → next_of mid ≡ after db scopes a (next_of old)
   next_after old mid a h =
-      ap₂ next (ap length h.blocks ∙ length_of_both old.blocks _ ∙ ap (λ n. length old.blocks + n) (as_many_blocks db scopes place (length old.blocks) (blocks_in db scopes a)))
+      ap₂ next (ap length h.blocks ∙ length_of_both old.blocks _ ∙ ap (λ n. length old.blocks + n) (as_many_blocks db scopes place (length old.blocks) (placed_blocks_in db scopes a)))
       (ap length h.functions ∙ length_of_both old.functions _ ∙ ap (λ n. length old.functions + n) (as_many (filter is_function (parts a))))
     where
       next : ℕ → ℕ → Next
@@ -147,15 +147,15 @@ module _ (db : Database) (scopes : Scopes) (place : ClauseKind) where
   pub blocks_after : (old mid : Progress) (ps : List Expr) (bs : List PlacedBlock) → Adds db scopes place old mid ps bs → length mid.blocks ≡ length old.blocks + length bs
   blocks_after old mid ps bs h = ap length h.blocks ∙ length_of_both old.blocks _ ∙ ap (λ n. length old.blocks + n) (as_many_blocks db scopes place (length old.blocks) bs)
 
-  pub of_second : (old mid : Progress) (e a c : Expr) (r : Refusal) → Adds db scopes place old mid (parts a) (blocks_in db scopes a) → RefusesValue db scopes place mid c r → (is_condition c ≡ true → IsFalse (takes_right e))
-      → Refuses db scopes place (length old.blocks) (e ∷ (parts a ++ parts c)) (blocks_in db scopes a ++ blocks_in db scopes c) r
+  pub of_second : (old mid : Progress) (e a c : Expr) (r : Refusal) → Adds db scopes place old mid (parts a) (placed_blocks_in db scopes a) → RefusesValue db scopes place mid c r → (is_condition c ≡ true → IsFalse (takes_right e))
+      → Refuses db scopes place (length old.blocks) (e ∷ (parts a ++ parts c)) (placed_blocks_in db scopes a ++ placed_blocks_in db scopes c) r
   of_second old mid e a c r h (inl f) n =
-      fault_behind db scopes place (length old.blocks) e (parts a ++ parts c) (blocks_in db scopes a ++ blocks_in db scopes c) r
-      (fault_right db scopes place (length old.blocks) (parts a) (parts c) (blocks_in db scopes a) (blocks_in db scopes c) r
-      (subst (λ k. Refuses db scopes place k (parts c) (blocks_in db scopes c) r) (blocks_after old mid (parts a) (blocks_in db scopes a) h) f))
+      fault_behind db scopes place (length old.blocks) e (parts a ++ parts c) (placed_blocks_in db scopes a ++ placed_blocks_in db scopes c) r
+      (fault_right db scopes place (length old.blocks) (parts a) (parts c) (placed_blocks_in db scopes a) (placed_blocks_in db scopes c) r
+      (subst (λ k. Refuses db scopes place k (parts c) (placed_blocks_in db scopes c) r) (blocks_after old mid (parts a) (placed_blocks_in db scopes a) h) f))
   of_second old mid e a c r h (inr (x, same)) n =
-      subst (Refuses db scopes place (length old.blocks) (e ∷ (parts a ++ parts c)) (blocks_in db scopes a ++ blocks_in db scopes c)) (sym same)
-      (fault_here db scopes place (length old.blocks) e (parts a ++ parts c) (blocks_in db scopes a ++ blocks_in db scopes c) MisplacedCondition (wrong_operand (n x)))
+      subst (Refuses db scopes place (length old.blocks) (e ∷ (parts a ++ parts c)) (placed_blocks_in db scopes a ++ placed_blocks_in db scopes c)) (sym same)
+      (fault_here db scopes place (length old.blocks) e (parts a ++ parts c) (placed_blocks_in db scopes a ++ placed_blocks_in db scopes c) MisplacedCondition (wrong_operand (n x)))
 
   pub both_taken : (x y : Bool) → x ≡ false → y ≡ false → not x && not y ≡ true
   both_taken false false h k = refl
@@ -180,7 +180,7 @@ module _ (db : Database) (scopes : Scopes) (place : ClauseKind) where
   pub binds_compare : (old mid new : Progress) (op : t.ComparisonOperator) (x y : Expr) (v w : b.ValueExpr) (k l : ValueType) → BindsValue db scopes place old mid x v k → BindsValue db scopes place mid new y w l → type_kind k ≡ type_kind l
       → BindsCondition db scopes place old new (t.Compare op x y) (b.Compare op v w)
   binds_compare old mid new op x y v w k l h m same = record {
-    adds = add_node db scopes place old new (t.Compare op x y) (parts x ++ parts y) (blocks_in db scopes x ++ blocks_in db scopes y) refl (sound (t.Compare op x y) (record {
+    adds = add_node db scopes place old new (t.Compare op x y) (parts x ++ parts y) (placed_blocks_in db scopes x ++ placed_blocks_in db scopes y) refl (sound (t.Compare op x y) (record {
       fine = λ z. z;
       named = λ z. z;
       kinds = alike _ _ k l h.typed m.typed same;
@@ -190,14 +190,14 @@ module _ (db : Database) (scopes : Scopes) (place : ClauseKind) where
       outer = λ z. z;
       grouped = λ columns z. z;
       argument = refl;
-    })) (add_both db scopes place old mid new (parts x) (parts y) (blocks_in db scopes x) (blocks_in db scopes y) h.adds m.adds);
+    })) (add_both db scopes place old mid new (parts x) (parts y) (placed_blocks_in db scopes x) (placed_blocks_in db scopes y) h.adds m.adds);
     bound = ap₂ (b.Compare op) h.bound (m.bound ∙ ap (λ n. bound_value db scopes n y) (next_after old mid x h.adds));
     untyped = refl;
     is_condition = refl;
   }
 
   pub compare_left : (s : Progress) (op : t.ComparisonOperator) (x y : Expr) (r : Refusal) → RefusesValue db scopes place s x r → RefusesCondition db scopes place s (t.Compare op x y) r
-  compare_left s op x y r f = inl (of_first s (t.Compare op x y) x (parts y) (blocks_in db scopes y) r f (first_not_taken (is_condition x) (is_condition y)))
+  compare_left s op x y r f = inl (of_first s (t.Compare op x y) x (parts y) (placed_blocks_in db scopes y) r f (first_not_taken (is_condition x) (is_condition y)))
 
   pub compare_right : (old mid : Progress) (op : t.ComparisonOperator) (x y : Expr) (v : b.ValueExpr) (k : ValueType) (r : Refusal) → BindsValue db scopes place old mid x v k → RefusesValue db scopes place mid y r → RefusesCondition db scopes place old (t.Compare op x y) r
   compare_right old mid op x y v k r h f = inl (of_second old mid (t.Compare op x y) x y r h.adds f (second_not_taken (is_condition x) (is_condition y)))
@@ -205,4 +205,4 @@ module _ (db : Database) (scopes : Scopes) (place : ClauseKind) where
   pub compare_mixed : (old mid new : Progress) (op : t.ComparisonOperator) (x y : Expr) (v w : b.ValueExpr) (k l : ValueType) → BindsValue db scopes place old mid x v k → BindsValue db scopes place mid new y w l → (type_kind k ≡ type_kind l → ⊥)
       → RefusesCondition db scopes place old (t.Compare op x y) MixedKinds
   compare_mixed old mid new op x y v w k l h m apart =
-      inl (fault_here db scopes place (length old.blocks) (t.Compare op x y) (parts x ++ parts y) (blocks_in db scopes x ++ blocks_in db scopes y) MixedKinds (mixed_kinds (unlike _ _ k l h.typed m.typed apart)))
+      inl (fault_here db scopes place (length old.blocks) (t.Compare op x y) (parts x ++ parts y) (placed_blocks_in db scopes x ++ placed_blocks_in db scopes y) MixedKinds (mixed_kinds (unlike _ _ k l h.typed m.typed apart)))

@@ -12,7 +12,7 @@ use Rattle.definitions.specs.Binding.Scopes.{Found, Scopes, scope_of, all_column
 use Rattle.definitions.specs.Binding.Parts.{block_blocks, list_blocks, condition_blocks}
 use Rattle.definitions.specs.Binding.BoundForm.{bound_block, bound_blocks, names_of_list, select_items}
 use Rattle.definitions.specs.Binding.Faults as fault
-use Rattle.definitions.specs.Binding.Faults.{Faulty, IsAccepted, block_is_there, list_of}
+use Rattle.definitions.specs.Binding.Faults.{QueryFaulty, IsAcceptedQuery, block_is_there, list_of}
 use Rattle.definitions.specs.Queries.BoundBlock as b
 use Rattle.query_tree.specs.Bound.{block_of, key_of}
 use Rattle.query_tree.specs.declared.block.Block.{Block}
@@ -29,7 +29,7 @@ answer_err result f P is h = subst (λ r. IfErr r (λ f. IfSome (bind_refusal f)
 
 -- ---- the names of the outermost block's result columns
 
-abbrev pub names_in : Database → t.Block → List (Option Name)
+abbrev pub names_in : Database → t.QuerySpecification → List (Option Name)
 names_in db block = names_of_list db (scope_of db (block_sources block) ∷ []) (list_of block)
 
 star_names : (xs : List Found) → map header_of (map (λ (f : Found). record { name = f.name; value = b.Column f.column f.type }) xs) ≡ map (λ (f : Found). Some f.name) xs
@@ -44,25 +44,25 @@ abbrev head_or : b.Block → b.Blocks → b.Block
 head_or d [] = d
 head_or d (x ∷ xs) = x
 
-abbrev outermost : Database → t.Block → b.Blocks
+abbrev outermost : Database → t.QuerySpecification → b.Blocks
 outermost db block = bound_blocks db 0 (block_blocks db [] block) []
 
-pub names_are : (db : Database) (block : t.Block) (first : b.Block) (rest : b.Blocks) → first ∷ rest ≡ outermost db block → names_by (list_of block) first.items ≡ names_in db block
+pub names_are : (db : Database) (block : t.QuerySpecification) (first : b.Block) (rest : b.Blocks) → first ∷ rest ≡ outermost db block → names_by (list_of block) first.items ≡ names_in db block
 names_are db (Specification distinct list sources where' groups having) first rest h =
     ap (λ (x : b.Block). names_by list x.items) (ap (head_or first) h) ∙ names_of_items db (scope_of db sources ∷ []) list _
 
 -- ---- refusals
 
 module _ (db : Database) (q : t.Select) where
-  pub refused_block : (r : Refusal) → RefusesBlock db [] [] q.block r → Faulty db q r
+  pub refused_block : (r : Refusal) → RefusesBlock db [] [] q.block r → QueryFaulty db q r
   refused_block r (inl a) = fault.block r a
-  refused_block r (inr (m, e)) = subst (Faulty db q) (sym e) (fault.many_blocks (omega (arith, m)))
+  refused_block r (inr (m, e)) = subst (QueryFaulty db q) (sym e) (fault.many_blocks (omega (arith, m)))
 
-  pub refused_keys : (names : List (Option Name)) (r : Refusal) → names ≡ names_in db q.block → IsTrue (block_is_there db q.block) → RefusesOrder names q.order r → Faulty db q r
-  refused_keys names r same there (inl (s, e)) = subst (Faulty db q) (sym e) (fault.bad_key there (subst (λ ns. SomeKeyIsUnknown ns q.order) same s))
-  refused_keys names r same there (inr (m, e)) = subst (Faulty db q) (sym e) (fault.many_keys m)
+  pub refused_keys : (names : List (Option Name)) (r : Refusal) → names ≡ names_in db q.block → IsTrue (block_is_there db q.block) → RefusesOrder names q.order r → QueryFaulty db q r
+  refused_keys names r same there (inl (s, e)) = subst (QueryFaulty db q) (sym e) (fault.bad_key there (subst (λ ns. SomeKeyIsUnknown ns q.order) same s))
+  refused_keys names r same there (inr (m, e)) = subst (QueryFaulty db q) (sym e) (fault.many_keys m)
 
-  pub accepted : (new : b.Blocks) (only : Option ValueType) (names : List (Option Name)) → BindsBlock db [] [] new q.block only → names ≡ names_in db q.block → (SomeKeyIsUnknown names q.order → ⊥) → length q.order ≤ most_keys → IsAccepted db q
+  pub accepted : (new : b.Blocks) (only : Option ValueType) (names : List (Option Name)) → BindsBlock db [] [] new q.block only → names ≡ names_in db q.block → (SomeKeyIsUnknown names q.order → ⊥) → length q.order ≤ most_keys → IsAcceptedQuery db q
   accepted new only names h same known few _ (fault.block r a) = h.accepted r a
   accepted new only names h same known few _ (fault.bad_key t a) = known (subst (λ ns. SomeKeyIsUnknown ns q.order) (sym same) a)
   accepted new only names h same known few _ (fault.many_blocks m) = absurd (let k = h.few in omega (arith, k, m))
@@ -70,26 +70,26 @@ module _ (db : Database) (q : t.Select) where
 
 -- ---- the order is set on the outermost block
 
-abbrev with_order : b.Block → List b.Key → b.Block
+abbrev with_order : b.Block → List b.OrderKey → b.Block
 with_order x keys = record { tables = x.tables; distinct = x.distinct; items = x.items; condition = x.condition; groups = x.groups; having = x.having; functions = x.functions; order = keys }
 
 abbrev tail_or : b.Blocks → b.Blocks
 tail_or [] = []
 tail_or (x ∷ xs) = xs
 
-ordered : (db : Database) (block : t.Block) (order : List t.Key) (x : b.Block) (xs : b.Blocks) (keys : List b.Key) → x ∷ xs ≡ outermost db block → keys ≡ bound_keys (names_in db block) order → with_order x keys ∷ xs ≡ bound_blocks db 0 (block_blocks db [] block) order
+ordered : (db : Database) (block : t.QuerySpecification) (order : List t.SortSpecification) (x : b.Block) (xs : b.Blocks) (keys : List b.OrderKey) → x ∷ xs ≡ outermost db block → keys ≡ bound_keys (names_in db block) order → with_order x keys ∷ xs ≡ bound_blocks db 0 (block_blocks db [] block) order
 ordered db (Specification distinct list sources where' groups having) order x xs keys h k =
     ap₂ (λ y ys. with_order y keys ∷ ys) (ap (head_or x) h) (ap tail_or h)
     ∙ ap (λ ks. with_order (bound_block db 0 [] (Specification distinct list sources where' groups having) []) ks ∷ bound_blocks db 1 (list_blocks db (scope_of db sources ∷ []) list ++ condition_blocks db (scope_of db sources ∷ []) where' ++ condition_blocks db (scope_of db sources ∷ []) having) []) k
 
-none_bound : (db : Database) (block : t.Block) → [] ≡ outermost db block → ⊥
+none_bound : (db : Database) (block : t.QuerySpecification) → [] ≡ outermost db block → ⊥
 none_bound db (Specification distinct list sources where' groups having) h = absurd cc
 
-pub first_of : (db : Database) (block : t.Block) (items : List Block) (x : Block) → x ≡ slice_index_or items 0 x → map block_of items ≡ outermost db block → names_by (list_of block) (block_of x).items ≡ names_in db block
+pub first_of : (db : Database) (block : t.QuerySpecification) (items : List Block) (x : Block) → x ≡ slice_index_or items 0 x → map block_of items ≡ outermost db block → names_by (list_of block) (block_of x).items ≡ names_in db block
 first_of db block [] x e h = absurd (none_bound db block h)
 first_of db block (y ∷ ys) x e h = ap (λ z. names_by (list_of block) (block_of z).items) e ∙ names_are db block (block_of y) (map block_of ys) h
 
-pub with_keys : (db : Database) (block : t.Block) (order : List t.Key) (items : List Block) (x : Block) (keys : Vec Key Global) → x ≡ slice_index_or items 0 x → map block_of items ≡ outermost db block → map key_of keys.items ≡ bound_keys (names_in db block) order
+pub with_keys : (db : Database) (block : t.QuerySpecification) (order : List t.SortSpecification) (items : List Block) (x : Block) (keys : Vec Key Global) → x ≡ slice_index_or items 0 x → map block_of items ≡ outermost db block → map key_of keys.items ≡ bound_keys (names_in db block) order
     → map block_of (slice_set items 0 (record { tables = x.tables; distinct = x.distinct; items = x.items; condition = x.condition; groups = x.groups; having = x.having; functions = x.functions; order = keys })) ≡ bound_blocks db 0 (block_blocks db [] block) order
 with_keys db block order [] x keys e h k = absurd (none_bound db block h)
 with_keys db block order (y ∷ ys) x keys e h k =

@@ -11,7 +11,7 @@ use Rattle.definitions.specs.Value.{Numbers, Texts}
 use Rattle.definitions.specs.ValueType.{ValueType, NumberType, TextType, type_kind}
 use Rattle.definitions.specs.Binding.Scopes.{Scopes}
 use Rattle.definitions.specs.Binding.Types.{expr_type, function_type}
-use Rattle.definitions.specs.Binding.Parts.{PlacedBlock, parts, blocks_in}
+use Rattle.definitions.specs.Binding.Parts.{PlacedBlock, parts, placed_blocks_in}
 use Rattle.definitions.specs.Binding.BoundForm.{bound_blocks, known_type}
 use Rattle.definitions.specs.Binding.Faults.{is_condition, argument_parts}
 use Rattle.definitions.specs.Binding.Faults as faults
@@ -105,7 +105,7 @@ module _ (db : Database) (scopes : Scopes) (place : ClauseKind) where
       → BindsValue db scopes InArgument nothing_bound inside e v k → (WantsNumbers function → type_kind k ≡ Numbers) → function_type function (Some k) ≡ Some type → IsFine type
       → BindsValue db scopes place s (with_function s (b.OfValues function distinct v)) (t.Function function distinct e) (b.AggregateValue (length s.functions) type) type
   binds_function s inside function distinct e v k type few p h numbers typed fine =
-      let none = none_inside 0 (parts e) (blocks_in db scopes e) h.adds.clean in
+      let none = none_inside 0 (parts e) (placed_blocks_in db scopes e) h.adds.clean in
       let known : function_type function (expr_type db scopes e) ≡ Some type = ap (function_type function) h.typed ∙ typed in
       record {
         adds = record {
@@ -121,7 +121,7 @@ module _ (db : Database) (scopes : Scopes) (place : ClauseKind) where
       }
 
   pub function_misplaced : (s : Progress) (function : t.SetFunction) (distinct : Bool) (e : Expr) → IsFalse (takes_functions place) → RefusesValue db scopes place s (t.Function function distinct e) MisplacedFunction
-  function_misplaced s function distinct e p = inl (fault_here db scopes place (length s.blocks) (t.Function function distinct e) [] (blocks_in db scopes e) MisplacedFunction (misplaced_function p search))
+  function_misplaced s function distinct e p = inl (fault_here db scopes place (length s.blocks) (t.Function function distinct e) [] (placed_blocks_in db scopes e) MisplacedFunction (misplaced_function p search))
 
   shown_is_not_where : (p : ClauseKind) → IsTrue (takes_functions p) → IsFalse (is_where p)
   shown_is_not_where p h = not_where p h
@@ -143,11 +143,11 @@ module _ (db : Database) (scopes : Scopes) (place : ClauseKind) where
   function_argument s function distinct e r p (inl (many h)) = inl (many (omega (arith, h)))
   function_argument s function distinct e r p (inr (c, same)) =
       subst (RefusesValue db scopes place s (t.Function function distinct e)) (sym same)
-      (inl (fault_here db scopes place (length s.blocks) (t.Function function distinct e) [] (blocks_in db scopes e) MisplacedCondition (wrong_operand (wrong_argument (is_condition e) c))))
+      (inl (fault_here db scopes place (length s.blocks) (t.Function function distinct e) [] (placed_blocks_in db scopes e) MisplacedCondition (wrong_operand (wrong_argument (is_condition e) c))))
 
   pub function_of_text : (s inside : Progress) (function : t.SetFunction) (distinct : Bool) (e : Expr) (v : b.ValueExpr) → WantsNumbers function → BindsValue db scopes InArgument nothing_bound inside e v TextType → RefusesValue db scopes place s (t.Function function distinct e) MixedKinds
   function_of_text s inside function distinct e v w h =
-      inl (fault_here db scopes place (length s.blocks) (t.Function function distinct e) [] (blocks_in db scopes e) MixedKinds (mixed_kinds (wanted function w, (TextType, h.typed, refl))))
+      inl (fault_here db scopes place (length s.blocks) (t.Function function distinct e) [] (placed_blocks_in db scopes e) MixedKinds (mixed_kinds (wanted function w, (TextType, h.typed, refl))))
     where
       wanted : (function : t.SetFunction) → WantsNumbers function → faults.WantsNumbers db scopes function
       wanted t.Sum w = tt

@@ -20,10 +20,10 @@ not_where (p.Grouped columns) h = search
 not_where p.Argument h = search
 
 module _ (db : Database) (scopes : Scopes) (place : ClauseKind) where
-  pub one_column : (old new : Progress) (query : t.Block) (number : ℕ) (type : ValueType) → BindsQuery db scopes place old new query number (Some type) → BindsColumn db scopes place old new query number type
+  pub one_column : (old new : Progress) (query : t.QuerySpecification) (number : ℕ) (type : ValueType) → BindsQuery db scopes place old new query number (Some type) → BindsColumn db scopes place old new query number type
   one_column old new query number type h = record { is = h.is; adds = h.adds; typed = h.typed; one = λ n. n.1 (h.one.1 refl); fine = h.fine }
 
-  pub not_one_column : (old new : Progress) (query : t.Block) (number : ℕ) → BindsQuery db scopes place old new query number None → RefusesColumn db scopes place old query MixedKinds
+  pub not_one_column : (old new : Progress) (query : t.QuerySpecification) (number : ℕ) → BindsQuery db scopes place old new query number None → RefusesColumn db scopes place old query MixedKinds
   not_one_column old new query number h = inr ((h.there, λ e. none (h.one.0 e)), refl)
     where
       none : false ≡ true → ⊥
@@ -40,7 +40,7 @@ module _ (db : Database) (scopes : Scopes) (place : ClauseKind) where
       differ true e h = absurd cc
       differ false e h = absurd cc
 
-  pub query_in_where : (old new : Blocks) (functions : List Aggregate) (query : t.Block) (number : ℕ) (only : Option ValueType) → place ≡ InWhere → number ≡ length old → BindsBlock db scopes old new query only
+  pub query_in_where : (old new : Blocks) (functions : List Aggregate) (query : t.QuerySpecification) (number : ℕ) (only : Option ValueType) → place ≡ InWhere → number ≡ length old → BindsBlock db scopes old new query only
       → BindsQuery db scopes place (record { blocks = old; functions = functions }) (record { blocks = new; functions = functions }) query number only
   query_in_where old new functions query number only here is h = record {
     is = is;
@@ -58,9 +58,9 @@ module _ (db : Database) (scopes : Scopes) (place : ClauseKind) where
       clean r (misplaced x n) = in_where here x
       clean r (many m) = absurd (let k = h.few in omega (arith, m, k))
 
-  pub query_refused : (s : Progress) (query : t.Block) (r : Refusal) → RefusesBlock db scopes s.blocks query r → RefusesQuery db scopes place s query r
+  pub query_refused : (s : Progress) (query : t.QuerySpecification) (r : Refusal) → RefusesBlock db scopes s.blocks query r → RefusesQuery db scopes place s query r
   query_refused s query r (inl a) = inner r a
   query_refused s query r (inr (m, e)) = subst (Refuses db scopes place (length s.blocks) [] (block_blocks db scopes query)) (sym e) (many m)
 
-  pub query_misplaced : (s : Progress) (query : t.Block) → IsFalse (is_where place) → RefusesQuery db scopes place s query OverQueryLimit
+  pub query_misplaced : (s : Progress) (query : t.QuerySpecification) → IsFalse (is_where place) → RefusesQuery db scopes place s query OverQueryLimit
   query_misplaced s (t.Specification distinct list sources where' groups having) x = misplaced x (λ e. absurd cc)

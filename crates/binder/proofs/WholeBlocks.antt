@@ -6,7 +6,7 @@ use Rattle.definitions.specs.Limits.{most_from_tables}
 use Rattle.definitions.specs.Refusal.{Refusal, MisplacedCondition}
 use Rattle.definitions.specs.Table.{Database, AreDistinct}
 use Rattle.definitions.specs.Plans.Order.{BlockColumn}
-use Rattle.definitions.specs.Statement.{SelectList, Source, Condition, ColumnReference, Specification}
+use Rattle.definitions.specs.Statement.{SelectList, Source, SearchClause, ColumnReference, Specification}
 use Rattle.definitions.specs.Binding.Scopes.{NamedTable, Scopes, scope_of, are_there, own_scope}
 use Rattle.definitions.specs.Binding.Faults as fault
 use Rattle.definitions.specs.Binding.Faults.{IsGrouped}
@@ -29,7 +29,7 @@ as_many : {X Y : Type 0} (f : X → Y) (xs : List X) → length (map f xs) ≡ l
 as_many f [] = refl
 as_many f (x ∷ xs) = let h = as_many f xs in omega (arith, h)
 
-module _ (db : Database) (outer : Scopes) (distinct : Bool) (list : SelectList) (sources : List Source) (where' : Condition) (groups : List ColumnReference) (having : Condition) where
+module _ (db : Database) (outer : Scopes) (distinct : Bool) (list : SelectList) (sources : List Source) (where' : SearchClause) (groups : List ColumnReference) (having : SearchClause) where
   columns_if : (g : Bool) (columns own : List BlockColumn) → columns ≡ own → g ≡ true → (if g then columns else []) ≡ own
   columns_if true columns own h e = h
   columns_if false columns own h e = absurd cc

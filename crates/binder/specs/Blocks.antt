@@ -22,7 +22,7 @@ use Rattle.query_rules.specs.Meaning.{bind_refusal, place_of}
 
 -- ---- a condition that may be absent
 
-abbrev pub condition_parts : t.Condition → List t.Expr
+abbrev pub condition_parts : t.SearchClause → List t.Expr
 condition_parts c = flat_map parts (condition_values c)
 
 -- ---- result columns
@@ -35,20 +35,20 @@ list_length scopes Asterisk = length (all_columns (own_scope scopes))
 list_length scopes (Listed items) = length (listed items)
 
 -- the type of the only one of some items
-abbrev pub IsOnly : Database → Scopes → List t.Item → Option ValueType → Type 0
+abbrev pub IsOnly : Database → Scopes → List t.DerivedColumn → Option ValueType → Type 0
 IsOnly db scopes [] only = only ≡ None
 IsOnly db scopes (i ∷ []) only = (type : ValueType) × (only ≡ Some type) × (expr_type db scopes i.value ≡ Some type) × IsFine type
 IsOnly db scopes (i ∷ j ∷ is) only = only ≡ None
 
 module _ (db : Database) (scopes : Scopes) (place : ClauseKind) where
   -- a condition is bound, if there is one
-  pub record BindsOption (old new : Progress) (c : t.Condition) (bound : Option b.Condition) : Type 0 where
+  pub record BindsOption (old new : Progress) (c : t.SearchClause) (bound : Option b.Condition) : Type 0 where
     pub adds : Adds db scopes place old new (condition_parts c) (condition_blocks db scopes c)
     pub are : bound ≡ bound_option db scopes (next_of old) c
     pub next : next_of new ≡ after_condition db scopes c (next_of old)
     pub conditions : AnyOf (λ e. IsFalse (is_condition e)) (condition_values c) → ⊥
 
-  abbrev pub RefusesOption : Progress → t.Condition → Refusal → Type 0
+  abbrev pub RefusesOption : Progress → t.SearchClause → Refusal → Type 0
   RefusesOption old c r =
       Refuses db scopes place (length old.blocks) (condition_parts c) (condition_blocks db scopes c) r
       ⊎ (AnyOf (λ e. IsFalse (is_condition e)) (condition_values c) × (r ≡ MisplacedCondition))
@@ -69,7 +69,7 @@ module _ (db : Database) (scopes : Scopes) (place : ClauseKind) where
       ⊎ (AnyOf (λ e. IsTrue (is_condition e)) (item_values list) × (r ≡ MisplacedCondition))
 
 -- what is answered for a clause that may be absent, and for a select list
-abbrev pub OptionAnswer : Clause → (old new : Progress) → t.Condition → Result (Option Condition) BindFault → Type 0
+abbrev pub OptionAnswer : Clause → (old new : Progress) → t.SearchClause → Result (Option Condition) BindFault → Type 0
 OptionAnswer c old new condition (Ok bound) = BindsOption c.database.now c.scopes.now (place_of c.place) old new condition (option_map condition_of bound)
 OptionAnswer c old new condition (Err f) = IfSome (bind_refusal f) (RefusesOption c.database.now c.scopes.now (place_of c.place) old condition)
 

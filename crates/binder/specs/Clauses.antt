@@ -7,7 +7,7 @@ use Rattle.definitions.specs.Table.{Database}
 use Rattle.definitions.specs.ValueType.{ValueType}
 use Rattle.definitions.specs.Binding.Scopes.{Scopes}
 use Rattle.definitions.specs.Binding.Parts.{item_values, condition_values, list_blocks, condition_blocks}
-use Rattle.definitions.specs.Binding.Faults.{is_condition, list_of, where_of, having_of, where_parts, shown_parts}
+use Rattle.definitions.specs.Binding.Faults.{is_condition, list_of, where_of, having_clause_of, where_parts, shown_parts}
 use Rattle.definitions.specs.Queries.BoundBlock as b
 use Rattle.definitions.specs.Queries.BoundBlock.{Blocks, Aggregate}
 use Rattle.query_tree.specs.Bound.{bound_function_of, condition_of, item_of, value_type_of}
@@ -26,18 +26,18 @@ pub record BoundClauses : Type 0 where
   pub functions : List Aggregate
 
 module _ (db : Database) (scopes : Scopes) (shown : ClauseKind) where
-  pub record BindsClauses (old new : Blocks) (query : t.Block) (bound : BoundClauses) : Type 0 where
+  pub record BindsClauses (old new : Blocks) (query : t.QuerySpecification) (bound : BoundClauses) : Type 0 where
     pub listed : Progress
     pub kept : Progress
     pub columns : BindsList db scopes shown (record { blocks = old; functions = [] }) listed (list_of query) bound.items bound.only
     pub condition : BindsOption db scopes InWhere listed kept (where_of query) bound.condition
-    pub having : BindsOption db scopes shown kept (record { blocks = new; functions = bound.functions }) (having_of query) bound.having
+    pub having : BindsOption db scopes shown kept (record { blocks = new; functions = bound.functions }) (having_clause_of query) bound.having
 
-  pub data RefusesClauses (count : ℕ) (query : t.Block) : Refusal → Type 0 where
+  pub data RefusesClauses (count : ℕ) (query : t.QuerySpecification) : Refusal → Type 0 where
     in_where : (r : Refusal) → Refuses db scopes InWhere count (where_parts query) (condition_blocks db scopes (where_of query)) r → RefusesClauses count query r
-    in_shown : (r : Refusal) → Refuses db scopes shown (count + length (condition_blocks db scopes (where_of query))) (shown_parts query) (list_blocks db scopes (list_of query) ++ condition_blocks db scopes (having_of query)) r → RefusesClauses count query r
+    in_shown : (r : Refusal) → Refuses db scopes shown (count + length (condition_blocks db scopes (where_of query))) (shown_parts query) (list_blocks db scopes (list_of query) ++ condition_blocks db scopes (having_clause_of query)) r → RefusesClauses count query r
     condition_for_item : AnyOf (λ e. IsTrue (is_condition e)) (item_values (list_of query)) → RefusesClauses count query MisplacedCondition
-    value_for_condition : AnyOf (λ e. IsFalse (is_condition e)) (condition_values (where_of query) ++ condition_values (having_of query)) → RefusesClauses count query MisplacedCondition
+    value_for_condition : AnyOf (λ e. IsFalse (is_condition e)) (condition_values (where_of query) ++ condition_values (having_clause_of query)) → RefusesClauses count query MisplacedCondition
 
 abbrev pub clauses_of : Clauses → BoundClauses
 clauses_of c = record {
@@ -48,6 +48,6 @@ clauses_of c = record {
   functions = map bound_function_of c.functions.items;
 }
 
-abbrev pub ClausesAnswer : Database → Scopes → ClauseKind → (old new : Blocks) → t.Block → Result Clauses BindFault → Type 0
+abbrev pub ClausesAnswer : Database → Scopes → ClauseKind → (old new : Blocks) → t.QuerySpecification → Result Clauses BindFault → Type 0
 ClausesAnswer db scopes shown old new query (Ok x) = BindsClauses db scopes shown old new query (clauses_of x)
 ClausesAnswer db scopes shown old new query (Err f) = IfSome (bind_refusal f) (RefusesClauses db scopes shown (length old) query)

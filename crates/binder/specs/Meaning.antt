@@ -44,15 +44,15 @@ abbrev pub MembersAnswer : Clause → (old new : j.Progress) → ValueType → M
 MembersAnswer c old new type ms (Ok xs) = j.BindsMembers c.database.now c.scopes.now (place_of c.place) old new (value_type_of type) ms (map member_of xs.items)
 MembersAnswer c old new type ms (Err f) = IfSome (bind_refusal f) (j.RefusesMembers c.database.now c.scopes.now (place_of c.place) old (value_type_of type) ms)
 
-abbrev pub QueryAnswer : Clause → (old new : j.Progress) → t.Block → Result (ℕ × Option ValueType) BindFault → Type 0
+abbrev pub QueryAnswer : Clause → (old new : j.Progress) → t.QuerySpecification → Result (ℕ × Option ValueType) BindFault → Type 0
 QueryAnswer c old new query (Ok x) = j.BindsQuery c.database.now c.scopes.now (place_of c.place) old new query x.0 (option_map value_type_of x.1)
 QueryAnswer c old new query (Err f) = IfSome (bind_refusal f) (j.RefusesQuery c.database.now c.scopes.now (place_of c.place) old query)
 
-abbrev pub ColumnAnswer : Clause → (old new : j.Progress) → t.Block → Result (ℕ × ValueType) BindFault → Type 0
+abbrev pub ColumnAnswer : Clause → (old new : j.Progress) → t.QuerySpecification → Result (ℕ × ValueType) BindFault → Type 0
 ColumnAnswer c old new query (Ok x) = j.BindsColumn c.database.now c.scopes.now (place_of c.place) old new query x.0 (value_type_of x.1)
 ColumnAnswer c old new query (Err f) = IfSome (bind_refusal f) (j.RefusesColumn c.database.now c.scopes.now (place_of c.place) old query)
 
-abbrev pub BlockAnswer : Database → Scopes → (old new : Blocks) → t.Block → Result (Option ValueType) BindFault → Type 0
+abbrev pub BlockAnswer : Database → Scopes → (old new : Blocks) → t.QuerySpecification → Result (Option ValueType) BindFault → Type 0
 BlockAnswer db outer old new query (Ok only) = j.BindsBlock db outer old new query (option_map value_type_of only)
 BlockAnswer db outer old new query (Err f) = IfSome (bind_refusal f) (j.RefusesBlock db outer old query)
 

@@ -1,7 +1,7 @@
 //! Conditions, and the subqueries in them.
 
 ghost use Rattle.std.specs.Prelude.{◌≤◌, List, length, map, true};
-ghost use Rattle.definitions.specs.Grammar.{members};
+ghost use Rattle.definitions.specs.Grammar.{member_list};
 ghost use Rattle.definitions.specs.Limits.{most_blocks};
 ghost use Rattle.definitions.specs.Statement.{Line, Not, IsNull, Like, Exists};
 ghost use Rattle.definitions.specs.Queries.BoundBlock as spec;

@@ -2,7 +2,7 @@
 
 ghost use Rattle.std.specs.Prelude.{[], IfOk, IfErr, IfSome, map};
 ghost use Rattle.definitions.specs.Invariant.{IsDatabase};
-ghost use Rattle.definitions.specs.Binding.Faults.{Binds, Faulty};
+ghost use Rattle.definitions.specs.Binding.Faults.{Binds, QueryFaulty};
 ghost use Rattle.definitions.specs.Binding.Formed.{AreFormed, AreWritten};
 ghost use Rattle.query_tree.specs.Bound.{block_of};
 ghost use Rattle.parse_tree.specs.Trees.{select_of};
@@ -26,7 +26,7 @@ pub fn bind<'d, 'q: 'd>(
     ensures bound { IfOk result (λ blocks. Binds database.now (select_of query.now) (map block_of blocks.items)) }
     ensures formed { IfOk result (λ blocks. AreWritten database.now (select_of query.now) →
         AreFormed database.now (map block_of blocks.items) [] 0) }
-    ensures refused { IfErr result (λ f. IfSome (bind_refusal f) (Faulty database.now (select_of query.now))) }
+    ensures refused { IfErr result (λ f. IfSome (bind_refusal f) (QueryFaulty database.now (select_of query.now))) }
 {
     let mut blocks = Vec::new(alloc);
     block(

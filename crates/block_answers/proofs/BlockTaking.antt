@@ -9,9 +9,10 @@ use Rattle.definitions.specs.Queries.Combinations.{Context, at, raises_of}
 use Rattle.definitions.specs.Queries.Evaluation.{Combination, Environment}
 use Rattle.definitions_answers.specs.PlainRows.{plain_raises, plain_row, values_at}
 use Rattle.scans.specs.Sources.{BlockSource, block_in, context_in}
-use Rattle.grouping.specs.RowAt.{row_in, row_raises_in}
-use Rattle.block_answers.specs.Telling.{names_of, Tells, TellsOneMore}
-use Rattle.block_answers.specs.declared.result_rows.ResultRows.{ResultRows}
+use Rattle.result_rows.specs.RowAt.{row_in, row_raises_in}
+use Rattle.result_rows.specs.Stores.{Tells, TellsOneMore}
+use Rattle.block_answers.specs.Telling.{names_of}
+use Rattle.result_rows.specs.declared.result_rows.ResultRows.{ResultRows}
 
 module _ (source : BlockSource) (outer : List Combination) (env : Environment) (items : List Item) (c : Combination) (is : env ≡ at (context_in source outer) c) (own : items ≡ (block_in source).items) where
   abbrev context : Context

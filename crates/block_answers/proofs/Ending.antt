@@ -12,7 +12,7 @@ use Rattle.definitions.specs.Arithmetic as arithmetic
 use Rattle.definitions.specs.Arithmetic.{Meaning, Is, Raises}
 use Rattle.definitions.specs.Printing.{table_text}
 use Rattle.definitions.specs.Queries.Answer.{block_answer, distinct_rows, is_grouped}
-use Rattle.definitions.specs.Queries.BoundBlock.{Block, Key}
+use Rattle.definitions.specs.Queries.BoundBlock.{Block, OrderKey}
 use Rattle.definitions.specs.Queries.Evaluation.{Combination, column_values}
 use Rattle.definitions.specs.Queries.Combinations.{Context, raises_of_late}
 use Rattle.definitions.specs.Queries.Conjuncts.{late_conjuncts}
@@ -26,16 +26,16 @@ use Rattle.definitions_execution.specs.Stored.{Composite}
 use Rattle.scans.specs.Composites.{numbers_in}
 use Rattle.scans.specs.declared.composite.Composite as code
 use Rattle.scans.specs.Sources.{BlockSource, block_in, context_in}
-use Rattle.grouping.specs.Faults.{IfRaised}
-use Rattle.grouping.specs.declared.fault.AnswerFault.{AnswerFault}
-use Rattle.grouping.specs.declared.fault.AnswerFault.TheVariants as f
-use Rattle.grouping.proofs.Faults.{raised_weaker}
+use Rattle.result_rows.specs.Faults.{IfRaised}
+use Rattle.result_rows.specs.declared.fault.AnswerFault.{AnswerFault}
+use Rattle.result_rows.proofs.Faults.{raised_weaker}
 use Rattle.block_answers.specs.BlockRows.{comes_in_order, comes_in_order_by, AreRowsBy, HasRowsOf, HaveTaken, MayRaiseBy, MayRaiseOn, TellsOf}
 use Rattle.block_answers.specs.Groups.{AreTyped}
 use Rattle.block_answers.specs.Ready.{AreReady}
-use Rattle.block_answers.specs.Telling.{context_with, leaves_repeats_out, names_of, puts_in_order, AreToldAs, Holds, MayTell}
+use Rattle.result_rows.specs.Stores.{keeping, kind_of, printing, AreToldAs, Holds, StoreKind}
+use Rattle.block_answers.specs.Telling.{context_with, names_of, MayTell}
 use Rattle.block_answers.specs.declared.block_rows.BlockRows.{BlockRows}
-use Rattle.block_answers.specs.declared.result_rows.RowStore.{RowStore}
+use Rattle.result_rows.specs.declared.row_store.RowStore.{RowStore}
 use Rattle.block_answers.proofs.Blind.{group_raises_same, group_rows_same, plain_raises_same, plain_row_same}
 use Rattle.block_answers.proofs.GroupMeaning.{group_bag_told, group_raise_told, group_rows_told, shaped}
 use Rattle.block_answers.proofs.Keys.{not_false}
@@ -62,7 +62,7 @@ raised_among context b all done left rest c raise split is h =
     (Contains-append_right (late_raises context b done) (here ++ late_raises context b rest) raise (Contains-append_left here (late_raises context b rest) raise h))
 
 -- what may be told with rows is told without
-pub raise_is_told : (m : Meaning (List Row)) (keys : List Key) (raise : arithmetic.Raise) → Allowed m keys (Exception raise) → TellsRows m (Err raise)
+pub raise_is_told : (m : Meaning (List Row)) (keys : List OrderKey) (raise : arithmetic.Raise) → Allowed m keys (Exception raise) → TellsRows m (Err raise)
 raise_is_told (Is bag) keys raise h = absurd h
 raise_is_told (Raises r rs) keys raise h = h
 
@@ -127,23 +127,23 @@ module _ (source : BlockSource) (outer : List Combination) (inner : ℕ → List
     pub raise_told : (fault : AnswerFault) → IfRaised fault (λ raise. (ks : List Combination) → AreTyped source outer ks → TellsOf source outer ks told → MayRaiseOn source outer ks raise) → IfRaised fault (λ raise. MayTell source outer inner (Exception raise))
     raise_told fault h = raised_weaker fault _ _ (λ raise k. raise_by have.quiet (is_grouped b) refl raise (k cs are_typed have.told)) h
 
-    pub text_told : (store : RowStore) (keys : List Key) (text : List ℕ) → ((ks : List Combination) → AreTyped source outer ks → TellsOf source outer ks told → HasRowsOf source outer ks store)
-        → puts_in_order store ≡ not (comes_in_order b) → leaves_repeats_out store ≡ b.distinct → keys ≡ b.order
-        → ((names : List (List ℕ)) (rs : List Row) (shapes : List Shape) → Holds store names rs → AllByRecursion (HasShapes shapes) rs → (printed : List Row) × AreToldAs (puts_in_order store) (leaves_repeats_out store) keys rs printed × (text ≡ table_text names printed))
+    pub text_told : (store : RowStore) (keys : List OrderKey) (text : List ℕ) → ((ks : List Combination) → AreTyped source outer ks → TellsOf source outer ks told → HasRowsOf source outer ks store)
+        → kind_of store ≡ printing (not (comes_in_order b)) b.distinct → keys ≡ b.order
+        → ((names : List (List ℕ)) (rs : List Row) (shapes : List Shape) → Holds store names rs → AllByRecursion (HasShapes shapes) rs → (printed : List Row) × AreToldAs (kind_of store).in_order (kind_of store).distinct keys rs printed × (text ≡ table_text names printed))
         → (rows : List Row) × MayTell source outer inner (Rows rows) × (text ≡ table_text (names_of source) rows)
-    text_told store keys text has order distinct by prints =
+    text_told store keys text has kind by prints =
         let (rs, are, held) = has cs are_typed have.told in
         let (shapes, shaped') = shaped_by have.quiet (is_grouped b) refl rs are in
         let (printed, arranged, is) = prints (names_of source) rs shapes held shaped' in
-        let there : AreToldAs (puts_in_order store) b.distinct b.order rs printed = rw (distinct, by) at arranged in
-        (printed, told_by have.quiet (is_grouped b) refl rs are (puts_in_order store) printed (λ e. not_false (comes_in_order b) (sym order ∙ e)) there, is)
+        let there : AreToldAs (not (comes_in_order b)) b.distinct b.order rs printed = rw (kind, by) at arranged in
+        (printed, told_by have.quiet (is_grouped b) refl rs are (not (comes_in_order b)) printed (not_false (comes_in_order b)) there, is)
 
     -- the first values of the rows, in any order
-    pub values_told : (store : RowStore) (values : List Value) → ((ks : List Combination) → AreTyped source outer ks → TellsOf source outer ks told → HasRowsOf source outer ks store) → leaves_repeats_out store ≡ b.distinct
-        → ((names : List (List ℕ)) (rs : List Row) (shapes : List Shape) → Holds store names rs → AllByRecursion (HasShapes shapes) rs → values ≡ column_values (distinct_rows (leaves_repeats_out store) rs))
+    pub values_told : (store : RowStore) (values : List Value) → ((ks : List Combination) → AreTyped source outer ks → TellsOf source outer ks told → HasRowsOf source outer ks store) → kind_of store ≡ keeping b.distinct
+        → ((names : List (List ℕ)) (rs : List Row) (shapes : List Shape) → Holds store names rs → AllByRecursion (HasShapes shapes) rs → values ≡ column_values (distinct_rows (kind_of store).distinct rs))
         → TellsRows (block_answer context b) (Ok values)
-    values_told store values has distinct gives =
+    values_told store values has kind gives =
         let (rs, are, held) = has cs are_typed have.told in
         let (shapes, shaped') = shaped_by have.quiet (is_grouped b) refl rs are in
-        let is : values ≡ column_values (distinct_rows b.distinct rs) = gives (names_of source) rs shapes held shaped' ∙ ap (λ d. column_values (distinct_rows d rs)) distinct in
+        let is : values ≡ column_values (distinct_rows b.distinct rs) = gives (names_of source) rs shapes held shaped' ∙ ap (λ (k : StoreKind). column_values (distinct_rows k.distinct rs)) kind in
         subst (λ vs. TellsRows (block_answer context b) (Ok vs)) (sym is) (bag_is_told (block_answer context b) (distinct_rows b.distinct rs) (bag_by have.quiet (is_grouped b) refl rs are))

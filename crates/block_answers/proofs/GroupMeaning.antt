@@ -7,7 +7,7 @@ use Rattle.definitions.specs.Table.{Row}
 use Rattle.definitions.specs.Arithmetic.{Meaning, Raise}
 use Rattle.definitions.specs.Plans.Order.{BlockColumn}
 use Rattle.definitions.specs.Queries.Answer.{block_answer, distinct_rows, is_grouped}
-use Rattle.definitions.specs.Queries.BoundBlock.{Block, Key}
+use Rattle.definitions.specs.Queries.BoundBlock.{Block, OrderKey}
 use Rattle.definitions.specs.Queries.Combinations as c
 use Rattle.definitions.specs.Queries.Combinations.{Context}
 use Rattle.definitions.specs.Queries.Conjuncts.{is_empty}
@@ -33,7 +33,8 @@ use Rattle.definitions_answers.proofs.Taken.{all_arranged, all_joined, all_split
 use Rattle.scans.specs.Sources.{BlockSource, block_in}
 use Rattle.block_answers.specs.Cut.{none, open_groups, some, whole, AreAllGroups, IsCutInto}
 use Rattle.block_answers.specs.Ready.{AreReady}
-use Rattle.block_answers.specs.Telling.{context_with, AreToldAs, MayTell}
+use Rattle.result_rows.specs.Stores.{AreToldAs}
+use Rattle.block_answers.specs.Telling.{context_with, MayTell}
 use Rattle.block_answers.proofs.Meaning.{kept_arranged, quiet_where, required, typed}
 
 -- ---- all groups
@@ -76,7 +77,7 @@ rows_shaped context b shapes (g ∷ gs) has h = all_joined (HasShapes shapes) (r
 
 -- ---- what is told
 
-in_any_order : (keys : List Key) (printed : List Row) → is_empty keys ≡ true → IsSorted (row_order keys) printed
+in_any_order : (keys : List OrderKey) (printed : List Row) → is_empty keys ≡ true → IsSorted (row_order keys) printed
 in_any_order [] printed e = λ k d low high. refl
 in_any_order (key ∷ keys) printed e = absurd (true≢false (sym e))
 

@@ -1,20 +1,15 @@
--- Keys of ORDER BY, one after another; and what is told where no result column has raised.
-use Rattle.std.proofs.Common.{◌≡◌, ◌∙◌, refl, sym, ap, ℕ, ◌+◌, ◌<◌, List, [], ◌∷◌, Bool, true, false, length, map, drop, get_or, Option, Some, None, true≢false, arith}
+-- Keys of ORDER BY, one after another.
+use Rattle.std.proofs.Common.{◌≡◌, ◌∙◌, refl, sym, ap, ℕ, ◌+◌, ◌<◌, List, [], ◌∷◌, Bool, true, false, length, map, drop, get_or, true≢false, arith}
 use Rattle.std.specs.Prelude.{◌==◌, not, ◌&&◌, OnOk, Result, Ok, Err}
 use Rattle.std.specs.List.{list_all}
 use Rattle.std.proofs.lemmas.Bool.Decides.{nat_tests}
 use Rattle.std.proofs.lemmas.List.{drop_more}
-use Rattle.definitions.specs.Table.{Row}
-use Rattle.definitions.specs.Arithmetic as arithmetic
 use Rattle.definitions.specs.Queries.BoundBlock as b
 use Rattle.definitions.specs.Queries.Conjuncts.{is_empty}
 use Rattle.query_tree.specs.Bound.{key_of}
 use Rattle.query_tree.specs.declared.block.Key.{Key}
-use Rattle.sqlvalue.specs.declared.raise.Raise.{Raise}
-use Rattle.block_answers.specs.Telling.{Holds, TellsBy}
-use Rattle.block_answers.specs.declared.result_rows.ResultRows.{ResultRows}
 
-module _ (p : b.Key → Bool) (keys : List Key) (i : ℕ) (d : Key) (h : i < length keys) where
+module _ (p : b.OrderKey → Bool) (keys : List Key) (i : ℕ) (d : Key) (h : i < length keys) where
   abbrev from : ℕ → Bool
   from k = list_all p (map key_of (drop k keys))
 
@@ -26,10 +21,6 @@ module _ (p : b.Key → Bool) (keys : List Key) (i : ℕ) (d : Key) (h : i < len
 
   pub one_holds : (told all : Bool) → told ≡ true → told ≡ p (key_of (get_or keys i d)) → from i ≡ all → from (i + 1) ≡ all
   one_holds told all held is whole = sym (key_next ∙ ap (λ b. b && from (i + 1)) (sym is ∙ held)) ∙ whole
-
-pub none_raised : (o : Option Raise) (names : List (List ℕ)) (rows : List Row) (raises : List arithmetic.Raise) (told : ResultRows) → ((r : Raise) → o ≡ Some r → ⊥) → TellsBy o names rows raises told → (raises ≡ []) × Holds told.store names rows
-none_raised None names rows raises told n h = h
-none_raised (Some r) names rows raises told n h = absurd (n r refl)
 
 pub zero_when : (n : ℕ) → (n == 0) ≡ true → n ≡ 0
 zero_when n h = grind (arith, nat_tests, h)

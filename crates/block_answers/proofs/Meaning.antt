@@ -31,10 +31,11 @@ use Rattle.definitions_answers.proofs.Working.{passing_asks}
 use Rattle.definitions_answers.proofs.ValueShapes.{plain_rows_have_shapes}
 use Rattle.scans.specs.Sources.{BlockSource, block_in}
 use Rattle.block_answers.specs.Ready.{AreReady}
-use Rattle.block_answers.specs.Telling.{context_with, no_inner, AreToldAs, MayTell}
+use Rattle.result_rows.specs.Stores.{AreToldAs}
+use Rattle.block_answers.specs.Telling.{context_with, no_inner, MayTell}
 use Rattle.block_answers.proofs.AnswerArranged.{filter_arranged, flat_map_arranged, nothing_arranged}
 
-where_told : (rs : List Raise) (context : Context) (b : Block) (keys : List b'.Key) (r : Raise) → Contains rs r → Allowed (answer_after_where rs context b) keys (Exception r)
+where_told : (rs : List Raise) (context : Context) (b : Block) (keys : List b'.OrderKey) (r : Raise) → Contains rs r → Allowed (answer_after_where rs context b) keys (Exception r)
 where_told [] context b keys r h = absurd (omega (arith, h.1))
 where_told (q ∷ qs) context b keys r h = h
 

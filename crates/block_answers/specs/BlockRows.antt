@@ -15,10 +15,11 @@ use Rattle.definitions_answers.specs.PlainRows.{plain_raises, plain_row}
 use Rattle.scans.specs.Sources.{BlockSource, block_in, context_in}
 use Rattle.block_answers.specs.Cut.{AreAllGroups}
 use Rattle.block_answers.specs.Groups.{AreWell, TellGroups}
-use Rattle.block_answers.specs.Telling.{context_with, names_of, Holds, Tells}
+use Rattle.result_rows.specs.Stores.{Holds, Tells}
+use Rattle.block_answers.specs.Telling.{context_with, names_of}
 use Rattle.block_answers.specs.declared.block_rows.BlockRows.{BlockRows}
 use Rattle.block_answers.specs.declared.block_rows.BlockRows.TheVariants as rows
-use Rattle.block_answers.specs.declared.result_rows.RowStore.{RowStore}
+use Rattle.result_rows.specs.declared.row_store.RowStore.{RowStore}
 
 -- the rows of a block come in the order of ORDER BY
 abbrev pub comes_in_order_by : (grouped : Bool) → Block → Bool

@@ -17,11 +17,12 @@ use Rattle.scans.specs.Sources.{BlockSource, block_in, context_in}
 use Rattle.grouping.specs.Functions.{argument_raises}
 use Rattle.grouping.specs.Groups.{functions_of, AreOf}
 use Rattle.block_answers.specs.Cut.{AreAllGroups, IsCutInto}
-use Rattle.block_answers.specs.Telling.{names_of, Holds}
+use Rattle.result_rows.specs.Stores.{Holds}
+use Rattle.block_answers.specs.Telling.{names_of}
 use Rattle.block_answers.specs.declared.group_rows.GroupRows.{GroupRows}
 use Rattle.block_answers.specs.declared.group_rows.Groups.{Groups}
 use Rattle.block_answers.specs.declared.group_rows.OpenGroup.{OpenGroup}
-use Rattle.block_answers.specs.declared.result_rows.RowStore.{RowStore}
+use Rattle.result_rows.specs.declared.row_store.RowStore.{RowStore}
 
 module _ (source : BlockSource) (outer : List Combination) where
   -- the combination of a composite

@@ -5,21 +5,21 @@ ghost use Rattle.std.specs.List.{list_all};
 ghost use Rattle.definitions.specs.Estimates.Orders.{sort_key};
 ghost use Rattle.definitions.specs.Queries.Evaluation.{Combination};
 ghost use Rattle.query_tree.specs.Bound.{block_of, key_of};
-ghost use Rattle.grouping.specs.Faults.{IfRaised};
-ghost use Rattle.grouping.specs.RowAt.{items_of};
+ghost use Rattle.result_rows.specs.Faults.{IfRaised};
+ghost use Rattle.result_rows.specs.RowAt.{items_of};
 ghost use Rattle.scans.specs.Sources.{BlockSource as Source};
 ghost use Rattle.block_answers.specs.BlockRows.{comes_in_order, store_in, HasRowsOf, IsWellFor, MayRaiseOn, TellsOf};
 ghost use Rattle.block_answers.specs.Groups.{seen, AreTyped};
 ghost use Rattle.block_answers.specs.Ready.{CanAnswer};
-ghost use Rattle.block_answers.specs.Telling.{leaves_repeats_out, names_of, puts_in_order, Holds};
+ghost use Rattle.result_rows.specs.Stores.{keeping, kind_of, printing, Holds};
+ghost use Rattle.block_answers.specs.Telling.{names_of};
 
 use crate::block_row::row_at;
 use crate::group_rows::GroupRows;
-use crate::result_rows::{ResultRows, RowStore};
 use conjuncts::column_of;
-use grouping::AnswerFault;
 use interesting_orders::is_grouped;
 use query_tree::{Block, Item, Key};
+use result_rows::{AnswerFault, ResultRows, RowStore};
 use scans::{BlockSource, Composite, OuterRows};
 use std::alloc::{AllocError, Global};
 
@@ -31,34 +31,31 @@ pub enum BlockRows<'s> {
 }
 
 impl<'s> BlockRows<'s> {
-    /// Of no combinations. Rows are told as they come where the plan gives them in order, and only the others are kept
-    /// to be put in order.
+    /// Rows that are printed: as they come where the plan gives them in order, and only the others are kept to be put in order.
     pub fn to_print(alloc: Global, block: &'s Block) -> Result<BlockRows<'s>, AllocError>
         ensures told { IfOk result (λ rows. (source : Source) (outer : List Combination) →
             source.block ≡ block.now → TellsOf source outer [] rows) }
         ensures well { IfOk result (λ rows. (source : Source) (outer : List Combination) →
             source.block ≡ block.now → IsWellFor source outer rows) }
-        ensures order { IfOk result (λ rows. puts_in_order (store_in rows) ≡ not (comes_in_order (block_of block.now))) }
-        ensures distinct { IfOk result (λ rows. leaves_repeats_out (store_in rows) ≡ (block_of block.now).distinct) }
+        ensures kind { IfOk result (λ rows. kind_of (store_in rows)
+            ≡ printing (not (comes_in_order (block_of block.now))) (block_of block.now).distinct) }
     {
-        let store = RowStore::new(alloc, &block.items, !has_its_order(block), block.distinct)?;
+        let store = RowStore::to_print(alloc, &block.items, !has_its_order(block), block.distinct)?;
         BlockRows::new(alloc, block, store)
     }
 
-    /// Of no combinations; all rows are kept.
+    /// Rows of which the first values are kept.
     pub fn to_keep(alloc: Global, block: &'s Block) -> Result<BlockRows<'s>, AllocError>
         ensures told { IfOk result (λ rows. (source : Source) (outer : List Combination) →
             source.block ≡ block.now → TellsOf source outer [] rows) }
         ensures well { IfOk result (λ rows. (source : Source) (outer : List Combination) →
             source.block ≡ block.now → IsWellFor source outer rows) }
-        ensures order { IfOk result (λ rows. puts_in_order (store_in rows) ≡ true) }
-        ensures distinct { IfOk result (λ rows. leaves_repeats_out (store_in rows) ≡ (block_of block.now).distinct) }
+        ensures kind { IfOk result (λ rows. kind_of (store_in rows) ≡ keeping (block_of block.now).distinct) }
     {
-        let store = RowStore::new(alloc, &block.items, true, block.distinct)?;
-        BlockRows::new(alloc, block, store)
+        BlockRows::new(alloc, block, RowStore::to_keep(alloc, block.distinct))
     }
 
-    /// Of no combinations, with a store of rows.
+    /// Rows that go to a store, of which none has come.
     fn new(alloc: Global, block: &'s Block, store: RowStore) -> Result<BlockRows<'s>, AllocError>
         ensures told { IfOk result (λ rows. (source : Source) (outer : List Combination) →
             source.block ≡ block.now → Holds store (names_of source) [] → TellsOf source outer [] rows) }
@@ -90,8 +87,7 @@ impl<'s> BlockRows<'s> {
             TellsOf source.now (A.combinations around.now) cs self.old →
             TellsOf source.now (A.combinations around.now) (cs ++ seen source.now (A.combinations around.now)
             composite.now ∷ []) self.new) }
-        ensures order { puts_in_order (store_in self.new) ≡ puts_in_order (store_in self.old) }
-        ensures distinct { leaves_repeats_out (store_in self.new) ≡ leaves_repeats_out (store_in self.old) }
+        ensures kind { kind_of (store_in self.new) ≡ kind_of (store_in self.old) }
     {
         match self {
             BlockRows::Plain(rows) => {
@@ -120,9 +116,7 @@ impl<'s> BlockRows<'s> {
             AreTyped source.now (A.combinations around.now) cs →
             TellsOf source.now (A.combinations around.now) cs self.entry →
             MayRaiseOn source.now (A.combinations around.now) cs raise)) }
-        ensures order { IfOk result (λ store. puts_in_order store ≡ puts_in_order (store_in self.entry)) }
-        ensures distinct { IfOk result (λ store. leaves_repeats_out store
-            ≡ leaves_repeats_out (store_in self.entry)) }
+        ensures kind { IfOk result (λ store. kind_of store ≡ kind_of (store_in self.entry)) }
     {
         match self {
             BlockRows::Plain(rows) => rows.finish(),

@@ -17,11 +17,12 @@ ghost use Rattle.block_answers.specs.BlockRows.{store_in, IsWellFor};
 ghost use Rattle.block_answers.specs.Groups.{seen, AreTyped};
 ghost use Rattle.block_answers.specs.KeptRows.{rows_in, TellsKept};
 ghost use Rattle.block_answers.specs.Ready.{AreReady, CanAnswer};
-ghost use Rattle.block_answers.specs.Telling.{context_with, leaves_repeats_out, puts_in_order};
+ghost use Rattle.result_rows.specs.Stores.{keeping, kind_of};
+ghost use Rattle.block_answers.specs.Telling.{context_with};
 
 use crate::block_rows::BlockRows;
-use grouping::AnswerFault;
 use query_tree::Block;
+use result_rows::AnswerFault;
 use scans::{BlockSource, Composite, OuterRows};
 use sqlvalue::Raise;
 use std::alloc::{AllocError, Global};
@@ -35,16 +36,14 @@ pub struct KeptRows<'s> {
 }
 
 impl<'s> KeptRows<'s> {
-    /// Of no composites.
+    /// The rows of an inner block, of which no composite has come.
     pub fn new(alloc: Global, block: &'s Block) -> Result<KeptRows<'s>, AllocError>
         ensures told { IfOk result (λ kept. (source : Source) (outer : List Combination)
             (inner : ℕ → List Combination → Meaning (List Row)) → source.block ≡ block.now →
             TellsKept source outer inner [] kept) }
         ensures well { IfOk result (λ kept. (source : Source) (outer : List Combination) →
             source.block ≡ block.now → IsWellFor source outer (rows_in kept)) }
-        ensures order { IfOk result (λ kept. puts_in_order (store_in (rows_in kept)) ≡ true) }
-        ensures distinct { IfOk result (λ kept. leaves_repeats_out (store_in (rows_in kept))
-            ≡ (block_of block.now).distinct) }
+        ensures kind { IfOk result (λ kept. kind_of (store_in (rows_in kept)) ≡ keeping (block_of block.now).distinct) }
     {
         Ok(KeptRows {
             rows: BlockRows::to_keep(alloc, block)?,
@@ -73,8 +72,7 @@ impl<'s> KeptRows<'s> {
             TellsKept source.now (A.combinations around.now) inner (cs ++ seen source.now
             (A.combinations around.now) composite.now ∷ []) self.new) }
         ensures well { OnOk result (IsWellFor source.now (A.combinations around.now) (rows_in self.new)) }
-        ensures order { puts_in_order (store_in (rows_in self.new)) ≡ puts_in_order (store_in (rows_in self.old)) }
-        ensures distinct { leaves_repeats_out (store_in (rows_in self.new)) ≡ leaves_repeats_out (store_in (rows_in self.old)) }
+        ensures kind { kind_of (store_in (rows_in self.new)) ≡ kind_of (store_in (rows_in self.old)) }
     {
         if self.late.is_some() {
             return Ok(());
@@ -100,8 +98,7 @@ impl<'s> KeptRows<'s> {
         requires block { block.now ≡ source.now.block }
         requires can { CanAnswer source.now (A.combinations around.now) }
         requires well { IsWellFor source.now (A.combinations around.now) (rows_in self) }
-        requires order { puts_in_order (store_in (rows_in self)) ≡ true }
-        requires distinct { leaves_repeats_out (store_in (rows_in self)) ≡ (block_in source.now).distinct }
+        requires kind { kind_of (store_in (rows_in self)) ≡ keeping (block_in source.now).distinct }
         ensures { IfOk result (λ told. (inner : ℕ → List Combination → Meaning (List Row))
             (all : List stored.Composite) → AreReady source.now (A.combinations around.now) all →
             TellsKept source.now (A.combinations around.now) inner
@@ -115,8 +112,7 @@ impl<'s> KeptRows<'s> {
         }
         match rows.finish(alloc, source, block, around) {
             Ok(store) => {
-                let values = store.first_values(alloc)?;
-                let sorted = FirstValues::new(alloc, values)?;
+                let sorted = FirstValues::new(alloc, store.into_values())?;
                 Ok(Told::Values(sorted))
             }
             Err(AnswerFault::Raised(raise)) => Ok(Told::Raised(raise)),

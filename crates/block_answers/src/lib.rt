@@ -8,10 +8,8 @@ mod group_rows;
 mod having;
 mod kept_rows;
 mod late;
-mod result_rows;
 
 pub use block_row::row_at;
 pub use block_rows::BlockRows;
 pub use kept_rows::KeptRows;
 pub use late::{late_conditions, try_all};
-pub use result_rows::RowStore;

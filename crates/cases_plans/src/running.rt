@@ -108,12 +108,12 @@ fn run(
         answer.add(NONE);
         return Ok(());
     };
-    let mut line = open(alloc, source, space.orders(), plan, &NoOuterRows)?;
+    let mut pipeline = open(alloc, source, space.orders(), plan, &NoOuterRows)?;
     let tables = space.table_count();
-    'composites: while let Some(composite) = line.next(&NoOuterRows) {
+    'composites: while let Some(composite) = pipeline.next(&NoOuterRows) {
         add_composite(&composite, tables, answer);
     }
-    answer.add(line.opened_rows());
+    answer.add(pipeline.opened_rows());
     Ok(())
 }
 

@@ -6,7 +6,7 @@ use Rattle.definitions.specs.Limits.{most_index_columns}
 use Rattle.definitions.specs.Value.{SqlType, Texts, Char, kind_of}
 use Rattle.definitions.specs.Refusal.{Refusal, NameTaken, NotFound, OverLimit, MixedKinds}
 use Rattle.definitions.specs.Statement.{Name, Range, Statement, CreateIndex, SetTableStatistics, SetIndexStatistics}
-use Rattle.definitions.specs.Statement.{IndexStatistics as Given}
+use Rattle.definitions.specs.Statement.{GivenStatistics as Given}
 use Rattle.definitions.specs.Table.{Table, Database, table_named, column_numbers, index_on}
 use Rattle.definitions.specs.Key.{key_of, value_at, repeats, AreUnique}
 use Rattle.definitions.specs.Change as made

@@ -8,8 +8,8 @@ use Rattle.std.specs.declared.cmp.Ordering.TheVariants.{Less, Equal, Greater}
 use Rattle.std.proofs.lemmas.Bool.Decides.{nat_tests}
 use Rattle.std.proofs.lemmas.Int.{ints}
 use Rattle.definitions.specs.Value.{Value, Number, SqlType, HasType, scale_of, compare}
-use Rattle.definitions.specs.Statement.{Bound, Range, IndexStatistics}
-use Rattle.definitions.specs.Change.{bound_value, KeptAs}
+use Rattle.definitions.specs.Statement.{Bound, Range, GivenStatistics}
+use Rattle.definitions.specs.Change.{limit_value, KeptAs}
 use Rattle.definitions.specs.Loading.{negated}
 use Rattle.definitions.specs.IndexFaults.{Falls, NeverKept}
 use Rattle.definitions.proofs.Ranking.{rank_as_compared, power_is_positive, scaled}
@@ -19,10 +19,10 @@ use Rattle.catalog.specs.declared.fault.StatisticsFault.{StatisticsFault}
 use Rattle.catalog.specs.declared.fault.StatisticsFault.TheVariants as f
 
 -- two bounds compare as the units that they are kept as
-pub compared : (type : SqlType) (r : Range) (l h : ℤ) → KeptAs type r.low l → KeptAs type r.high h → compare (bound_value r.low) (bound_value r.high) ≡ Some (int_cmp l h)
+pub compared : (type : SqlType) (r : Range) (l h : ℤ) → KeptAs type r.low l → KeptAs type r.high h → compare (limit_value r.low) (limit_value r.high) ≡ Some (int_cmp l h)
 compared type r l h low high =
     let scale = scale_of type in
-    ap Some (as_equal (Number l scale) (bound_value r.low) (Number h scale) (bound_value r.high) (rank_as_compared (Number l scale) (bound_value r.low) Equal low.1) (rank_as_compared (Number h scale) (bound_value r.high) Equal high.1)
+    ap Some (as_equal (Number l scale) (limit_value r.low) (Number h scale) (limit_value r.high) (rank_as_compared (Number l scale) (limit_value r.low) Equal low.1) (rank_as_compared (Number h scale) (limit_value r.high) Equal high.1)
     ∙ sym (scaled l h (10 ^ scale) (power_is_positive scale)))
 
 above : (l h : ℤ) → h <ℤ l → int_cmp l h ≡ Greater
@@ -49,17 +49,17 @@ rises type r l h low high m fall =
     apart l h (int_cmp l h) m greater (int_ranks l h)
 
 -- a bound as it is written
-pub bound_is : (minus : Bool) (units digits scale k : ℕ) → k ≡ scale → Number (negated minus (pos units)) k ≡ bound_value (record { minus = minus; units = units; digits = digits; scale = scale })
+pub bound_is : (minus : Bool) (units digits scale k : ℕ) → k ≡ scale → Number (negated minus (pos units)) k ≡ limit_value (record { minus = minus; units = units; digits = digits; scale = scale })
 bound_is true units digits scale k e = ap (λ s. Number (negated true (pos units)) s) e
 bound_is false units digits scale k e = ap (λ s. Number (negated false (pos units)) s) e
 
 -- no value is equal to a bound where none is to the number that it writes
-pub never : (type : SqlType) (o : Option ℤ) (b : Bound) (v : Value) → v ≡ bound_value b → IfNone o ((w : Value) → HasType type w × (compare w v ≡ Some Equal) → ⊥) → IfNone o (NeverKept type b)
+pub never : (type : SqlType) (o : Option ℤ) (b : Bound) (v : Value) → v ≡ limit_value b → IfNone o ((w : Value) → HasType type w × (compare w v ≡ Some Equal) → ⊥) → IfNone o (NeverKept type b)
 never type (Some u) b v e h = h
 never type None b v e h = λ units kept. h (Number units (scale_of type)) (rw e kept)
 
 -- a fault of LOW and HIGH is one of the statistics
-pub given_refused : (type : SqlType) (given : IndexStatistics) (r : Range) (fault : StatisticsFault) → given.range ≡ Some r → RefusesRange type r fault → RefusesGiven type given fault
+pub given_refused : (type : SqlType) (given : GivenStatistics) (r : Range) (fault : StatisticsFault) → given.range ≡ Some r → RefusesRange type r fault → RefusesGiven type given fault
 given_refused type given r f.Texts e h = (r, e, h)
 given_refused type given r (f.Unfit end) e h = (r, e, h)
 given_refused type given r f.Falls e h = (r, e, h)

@@ -11,7 +11,7 @@ use Rattle.definitions.specs.Statement.{Name, CreateTable}
 use Rattle.definitions.specs.Table.{Column, Index, Table, Database, is_key, table_named}
 use Rattle.definitions.specs.Statistics.{index_statistics}
 use Rattle.definitions.specs.Change as made
-use Rattle.definitions.specs.Change.{Makes, column_of, new_index, key_indexes, new_table}
+use Rattle.definitions.specs.Change.{Makes, declared_column, new_index, key_indexes, new_table}
 use Rattle.definitions.specs.Faults as faults
 use Rattle.definitions.specs.Faults.{Faulty, IsAccepted, count_of, definition_names}
 use Rattle.definitions.specs.Lists.{AnyOf}
@@ -69,9 +69,9 @@ pub empty_filled : (ds : List statement.ColumnDefinition) → AreFilled 0 (map e
 empty_filled [] = tt
 empty_filled (d ∷ ds) = (refl, empty_filled ds)
 
-pub empty_headers : (ds : List statement.ColumnDefinition) → headers (map empty_column ds) ≡ map column_of ds
+pub empty_headers : (ds : List statement.ColumnDefinition) → headers (map empty_column ds) ≡ map declared_column ds
 empty_headers [] = refl
-empty_headers (d ∷ ds) = ap (λ cs. column_of d ∷ cs) (empty_headers ds)
+empty_headers (d ∷ ds) = ap (λ cs. declared_column d ∷ cs) (empty_headers ds)
 
 -- ---- indexes of keys
 

@@ -6,7 +6,7 @@ use Rattle.std.proofs.lemmas.Slice.Eq.{bytes_eq-Decides}
 use Rattle.definitions.specs.Limits.{most_index_columns}
 use Rattle.definitions.specs.Value.{SqlType}
 use Rattle.definitions.specs.Statement.{Name}
-use Rattle.definitions.specs.Statement.{IndexStatistics as Given}
+use Rattle.definitions.specs.Statement.{GivenStatistics as Given}
 use Rattle.definitions.specs.Table.{Column, Index, IndexStatistics, Table, TableStatistics, is_on, column_numbers}
 use Rattle.definitions.specs.Change.{with_index_statistics, first_type, StatisticsKept}
 use Rattle.definitions.specs.Invariant.{AreApart, IsRange, IsTable, type_at}

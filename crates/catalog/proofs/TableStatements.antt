@@ -4,7 +4,7 @@ use Rattle.std.specs.Prelude.{IfOk, IfErr, IfSome, OnOk, OnErr}
 use Rattle.std.proofs.lemmas.Result.{on_ok_weaker, IfOk-weaker, IfErr-weaker}
 use Rattle.std.proofs.lemmas.List.{set-get_or}
 use Rattle.definitions.specs.Statement.{Name, CreateIndex, SetTableStatistics, SetIndexStatistics}
-use Rattle.definitions.specs.Statement.{IndexStatistics as Given}
+use Rattle.definitions.specs.Statement.{GivenStatistics as Given}
 use Rattle.definitions.specs.Table.{Table, Database, table_named}
 use Rattle.definitions.specs.Change as made
 use Rattle.definitions.specs.Change.{Makes, changed, with_rows, with_index, with_table_statistics, with_index_statistics}

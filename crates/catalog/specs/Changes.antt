@@ -3,7 +3,7 @@ use Rattle.std.specs.Prelude.{ℕ, ◌<◌, ◌≤◌, ◌≡◌, Bool, true, Li
 use Rattle.definitions.specs.Limits.{most_indexes, most_index_columns}
 use Rattle.definitions.specs.Value.{SqlType}
 use Rattle.definitions.specs.Statement.{Name, CreateIndex}
-use Rattle.definitions.specs.Statement.{IndexStatistics as Given}
+use Rattle.definitions.specs.Statement.{GivenStatistics as Given}
 use Rattle.definitions.specs.Table.{Table, Database, Index, IndexStatistics, AreDistinct, column_numbers, index_on}
 use Rattle.definitions.specs.Key.{key_of, AreUnique}
 use Rattle.definitions.specs.Change.{with_index, with_index_statistics, first_type, StatisticsKept, RepeatsKeys}

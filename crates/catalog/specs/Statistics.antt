@@ -1,7 +1,7 @@
 -- Statistics that SET STATISTICS gives.
 use Rattle.std.specs.Prelude.{◌≡◌, Some}
 use Rattle.definitions.specs.Value.{SqlType, Numbers, Texts, kind_of}
-use Rattle.definitions.specs.Statement.{Range, IndexStatistics}
+use Rattle.definitions.specs.Statement.{Range, GivenStatistics}
 use Rattle.definitions.specs.IndexFaults.{Falls, NeverKept}
 use Rattle.definitions.specs.Invariant.{IsCount, IsPageCount}
 use Rattle.catalog.specs.declared.fault.StatisticsFault.{StatisticsFault}
@@ -9,7 +9,7 @@ use Rattle.catalog.specs.declared.fault.StatisticsFault.TheVariants as f
 use Rattle.catalog.specs.declared.fault.RangeEnd.TheVariants as e
 
 -- statistics that may be given, whatever the index
-pub record IsGiven (given : IndexStatistics) : Type 0 where
+pub record IsGiven (given : GivenStatistics) : Type 0 where
   pub keys : IsCount given.keys
   pub pages : IsPageCount given.pages
   pub rising : (r : Range) → given.range ≡ Some r → ¬ (Falls r)
@@ -23,7 +23,7 @@ RefusesRange type r f.Falls = Falls r
 RefusesRange type r _ = ⊥
 
 -- why statistics are not kept for it
-abbrev pub RefusesGiven : SqlType → IndexStatistics → StatisticsFault → Type 0
+abbrev pub RefusesGiven : SqlType → GivenStatistics → StatisticsFault → Type 0
 RefusesGiven type given f.Keys = ¬ (IsCount given.keys)
 RefusesGiven type given f.Pages = ¬ (IsPageCount given.pages)
 RefusesGiven type given fault = (r : Range) × (given.range ≡ Some r) × RefusesRange type r fault

@@ -171,7 +171,7 @@ impl TableStatisticsFault {
     }
 }
 
-/// LOW or HIGH.
+/// Which end of a range of keys a bound of SET STATISTICS gives: LOW or HIGH.
 #[derive(Clone, Copy, Debug, PartialEq, Eq)]
 pub enum RangeEnd {
     Low,
@@ -237,7 +237,7 @@ pub struct RepeatedRecord {
     pub line: u64,
 }
 
-/// Why LOAD is refused.
+/// Why a file is not loaded; none of its rows is in the table then.
 #[derive(Clone, Copy, Debug, PartialEq, Eq, Error)]
 pub enum LoadFault {
     #[error("there is no such table")]

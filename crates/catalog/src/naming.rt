@@ -29,7 +29,7 @@ impl Model for Names {
 }
 
 impl Names {
-    /// No names.
+    /// A set without names.
     pub(crate) fn new(alloc: Global) -> Names
         ensures { result ≡ [] }
     {
@@ -73,7 +73,7 @@ impl Names {
     }
 }
 
-/// What has a name.
+/// What stands in a list under a name that no other has.
 pub(crate) trait Named {
     ghost named: { Self → List ℕ };
 

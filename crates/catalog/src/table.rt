@@ -101,7 +101,7 @@ impl Table {
         })
     }
 
-    /// The table's name.
+    /// The name that CREATE TABLE gave, in upper case.
     pub fn name(&self) -> &str
         ensures { result.now ≡ self.now.name }
     {

@@ -10,7 +10,7 @@ use Rattle.definitions.specs.Plans.Certificate.{StateCost}
 use Rattle.definitions.specs.Estimates.Version.{Version}
 use Rattle.definitions.specs.Certificates.CertifiedBlock as c
 use Rattle.definitions.specs.Certificates.Text.{Written}
-use Rattle.definitions.specs.Certificates.Spelling.{index_meant, path_meant, plan_meant, IsOneOf, IsIndex, IsTable, IsConjunct, PathIsThere, PlanIsThere, StateIsThere, AreThere}
+use Rattle.definitions.specs.Certificates.Spelling.{index_meant, path_meant, plan_meant, IsOneOf, IndexIsThere, TableIsThere, ConjunctIsThere, PathIsThere, PlanIsThere, StateIsThere, AreThere}
 use Rattle.certificate.specs.Blocks.{IsOf, block_in, any_conjunct}
 use Rattle.certificate.specs.declared.certified.CertifiedBlock.{CertifiedBlock}
 
@@ -59,16 +59,16 @@ module _ (a b : c.CertifiedBlock) (is : Alike a b) where
       ap₂ (λ (p : Plan) (q : Path). Merge p (conjunct - 1) (record inner { path = q })) (plan_meant_alike outer) (path_meant_alike inner.path)
   plan_meant_alike (Sort input order) = ap (λ (p : Plan). Sort p order) (plan_meant_alike input)
 
-  table_alike : (table : ℕ) → IsTable a table → IsTable b table
+  table_alike : (table : ℕ) → TableIsThere a table → TableIsThere b table
   table_alike table h = subst (λ (n : ℕ). IsOneOf n table) is.tables h
 
-  conjunct_alike : (number : ℕ) → IsConjunct a number → IsConjunct b number
+  conjunct_alike : (number : ℕ) → ConjunctIsThere a number → ConjunctIsThere b number
   conjunct_alike number h = subst (λ (n : ℕ). IsOneOf n number) is.conjuncts h
 
-  index_alike : (table index : ℕ) → IsIndex a.version (c.indexes_of a table) index → IsIndex b.version (c.indexes_of b table) index
+  index_alike : (table index : ℕ) → IndexIsThere a.version (c.indexes_of a table) index → IndexIsThere b.version (c.indexes_of b table) index
   index_alike table index h =
-      subst (λ (v : Version). IsIndex v (get_or b.indexes table []) index) is.version
-      (subst (λ (xs : List (List (List ℕ))). IsIndex a.version (get_or xs table []) index) is.indexes h)
+      subst (λ (v : Version). IndexIsThere v (get_or b.indexes table []) index) is.version
+      (subst (λ (xs : List (List (List ℕ))). IndexIsThere a.version (get_or xs table []) index) is.indexes h)
 
   path_alike : (path : Path) → PathIsThere a path → PathIsThere b path
   path_alike (SegmentScan table) h = table_alike table h

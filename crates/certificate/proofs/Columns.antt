@@ -4,7 +4,7 @@ use Rattle.std.specs.Prelude.{slice_get, option_map, option_and_then, unwrap_or}
 use Rattle.std.specs.Global.{Vec}
 use Rattle.std.proofs.lemmas.List.{map-append}
 use Rattle.definitions.specs.Table.{Index, Table, Database}
-use Rattle.definitions.specs.Certificates.Explaining.{indexes_at, index_columns}
+use Rattle.definitions.specs.Certificates.Explaining.{index_columns_at, columns_of_indexes}
 use Rattle.certificate.specs.Blocks.{columns_in}
 
 pub next : (i : ℕ) → i + 1 ≡ suc i
@@ -34,12 +34,12 @@ found db numbers number t is = of_place (slice_get numbers number) refl is
     of_place (Some n) at e = (n, at, e)
 
 pub next_indexes : (db : Database) (numbers : List ℕ) (number : ℕ) (t : Table) (all : List (Vec (Vec ℕ))) (indexes : Vec (Vec ℕ))
-    → option_and_then (slice_get db) (slice_get numbers number) ≡ Some t → columns_in indexes ≡ index_columns t
-    → map columns_in all ≡ map (indexes_at db) (take number numbers)
-    → map columns_in (all ++ indexes ∷ []) ≡ map (indexes_at db) (take (suc number) numbers)
+    → option_and_then (slice_get db) (slice_get numbers number) ≡ Some t → columns_in indexes ≡ columns_of_indexes t
+    → map columns_in all ≡ map (index_columns_at db) (take number numbers)
+    → map columns_in (all ++ indexes ∷ []) ≡ map (index_columns_at db) (take (suc number) numbers)
 next_indexes db numbers number t all indexes is same so_far =
     let (n, at, there) = found db numbers number t is in
-    let own : indexes_at db n ≡ index_columns t = ap (λ o. unwrap_or (option_map index_columns o) []) there in
+    let own : index_columns_at db n ≡ columns_of_indexes t = ap (λ o. unwrap_or (option_map columns_of_indexes o) []) there in
     map-append columns_in all (indexes ∷ [])
     ∙ ap₂ (λ (xs : List (List (List ℕ))) (x : List (List ℕ)). xs ++ x ∷ []) so_far (same ∙ sym own)
-    ∙ sym (taken_more (indexes_at db) numbers number n at)
+    ∙ sym (taken_more (index_columns_at db) numbers number n at)

@@ -1,4 +1,3 @@
-mod SaidAndMeant
 mod Same
 mod Wholes
 mod Elements

@@ -9,7 +9,7 @@ use Rattle.definitions.specs.Estimates.Laws.{HasPlans}
 use Rattle.definitions.specs.Estimates.PlanConjuncts.{plan_conjuncts}
 use Rattle.definitions.specs.Estimates.BlockSpace.{space_of}
 use Rattle.definitions.specs.Estimates.Version as v
-use Rattle.definitions.specs.Certificates.Explaining.{certified, indexes_at}
+use Rattle.definitions.specs.Certificates.Explaining.{certified, index_columns_at}
 use Rattle.definitions.proofs.EstimateTheory.FormedSpaces.{formed_has_plans}
 use Rattle.query_tree.specs.Bound.{block_of}
 use Rattle.query_tree.specs.declared.block.Block.{Block}
@@ -35,16 +35,16 @@ same_space p version db block a b c =
 
 pub is_space : (db : Database) (given : Block) (number : ℕ) (version : Version) (e : Estimated) (p : Planned) (indexes : Vec (Vec (Vec ℕ))) (conjuncts : List PlanConjunct)
     → e.database ≡ db → e.block ≡ given → p.version ≡ version_of version → p.database ≡ e.database → p.block ≡ e.block
-    → map columns_in indexes.items ≡ map (indexes_at e.database) (block_of e.block).tables → map conjunct_of conjuncts ≡ plan_conjuncts e.database (block_of e.block)
+    → map columns_in indexes.items ≡ map (index_columns_at e.database) (block_of e.block).tables → map conjunct_of conjuncts ≡ plan_conjuncts e.database (block_of e.block)
     → IsBlockSpace (certified db number (block_of given) (version_of version)) (record { space = p; version = version; number = number; indexes = indexes; conjunct_count = length conjuncts })
 is_space db given number version e p indexes conjuncts of_db of_block a b c columns planned =
-    let own : map columns_in indexes.items ≡ map (indexes_at db) (block_of given).tables = rw (of_db, of_block) at columns in
+    let own : map columns_in indexes.items ≡ map (index_columns_at db) (block_of given).tables = rw (of_db, of_block) at columns in
     let all : map conjunct_of conjuncts ≡ plan_conjuncts db (block_of given) = rw (of_db, of_block) at planned in
     record {
       space = same_space p (version_of version) db given a (b ∙ of_db) (c ∙ of_block);
       version = refl;
       number = refl;
       indexes = sym own;
-      tables = omega (arith, ap length own, length-map indexes.items columns_in, length-map (block_of given).tables (indexes_at db));
+      tables = omega (arith, ap length own, length-map indexes.items columns_in, length-map (block_of given).tables (index_columns_at db));
       conjuncts = ap length (sym all) ∙ length-map conjuncts conjunct_of;
     }

@@ -1,12 +1,11 @@
 -- Whole texts, read.
-use Rattle.std.proofs.Common.{sym, subst, List, ℕ, Option, Some, None}
+use Rattle.std.proofs.Common.{refl, sym, subst, List, ℕ, Option, Some, None}
 use Rattle.definitions.specs.Plans.Plan as spec
 use Rattle.definitions.specs.Plans.Certificate as k
 use Rattle.definitions.specs.Certificates.CertifiedBlock as c
 use Rattle.definitions.specs.Certificates.Text.{Written}
 use Rattle.definitions.specs.Certificates.Spelling.{plan_meant, AreBelow, AreThere, Spells}
-use Rattle.definitions.specs.Certificates.Fault.{Says}
-use Rattle.certificate.proofs.SaidAndMeant.{spelled}
+use Rattle.definitions.specs.Certificates.Form.{Says}
 use Rattle.plan_tree.specs.declared.plan.Plan.{Plan}
 use Rattle.interesting_orders.specs.Versions.{version_of}
 use Rattle.certificate.specs.Blocks.{IsOf, block_in}
@@ -30,7 +29,7 @@ module _ (of : c.CertifiedBlock) (s : CertifiedBlock) (is : IsOf of s) (bytes : 
   spells_meant : AreThere (block_in s) said → AreBelow said.certificate → Spells of bytes (plan_meant (block_in s) said.plan) said.certificate
   spells_meant there below =
       subst (λ (p : spec.Plan). Spells of bytes p said.certificate) (plan_meant_alike of (block_in s) (alike_in of s is) said.plan)
-      (spelled of bytes said says_of (there_of there) below)
+      (record { said = said; says = says_of; there = there_of there; meant = refl; as_written = refl; below = below })
 
   plan_read : (plan : Option Plan) → PlanIsMeant (plan_meant (block_in s) said.plan) plan
       → Spells of bytes (plan_meant (block_in s) said.plan) said.certificate → PlanIsRead of bytes said.certificate plan

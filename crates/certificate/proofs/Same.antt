@@ -3,7 +3,7 @@ use Rattle.std.proofs.Common.{◌≡◌, ℕ, ◌+◌, map, refl, ap, ap₂}
 use Rattle.definitions.specs.Plans.Path.{Path, SegmentScan, IndexScan, MatchingScan}
 use Rattle.definitions.specs.Plans.Plan.{Plan, Access, Loop, Merge, Sort}
 use Rattle.definitions.specs.Certificates.CertifiedBlock as c
-use Rattle.definitions.specs.Certificates.Spelling.{index_written, path_written, plan_written}
+use Rattle.definitions.specs.Certificates.Writing.{index_written, path_written, plan_written}
 use Rattle.certificate.specs.Blocks.{IsOf, block_in}
 use Rattle.certificate.specs.declared.certified.CertifiedBlock.{CertifiedBlock}
 

@@ -7,7 +7,7 @@ use Rattle.definitions.specs.Plans.Certificate.{Certificate}
 use Rattle.definitions.specs.Certificates.CertifiedBlock as c
 use Rattle.definitions.specs.Certificates.Text.{number_of_version}
 use Rattle.definitions.specs.Certificates.Text.{plan_text, state_line, end_line}
-use Rattle.definitions.specs.Certificates.Spelling.{plan_written, spelling}
+use Rattle.definitions.specs.Certificates.Writing.{plan_written, text_written}
 use Rattle.certificate.specs.Blocks.{IsOf, block_in}
 use Rattle.interesting_orders.specs.Versions.{version_of}
 use Rattle.certificate.specs.Lines.{lines_of}
@@ -27,7 +27,7 @@ pub is_spelling : (of : c.CertifiedBlock) (s : CertifiedBlock) (plan : Plan) (ce
     → version ≡ number_of_version (version_of s.version) → number ≡ s.number + 1
     → empty ≡ [] → first ≡ empty ++ line (codes "CERTIFICATE " ++ decimal version) → second ≡ first ++ line (codes "BLOCK " ++ decimal number)
     → text ≡ second ++ lines_of (plan_written (block_in s) plan) certificate
-    → text ≡ spelling of plan certificate
+    → text ≡ text_written of plan certificate
 is_spelling of s plan certificate empty first second text version number is named counted e0 e1 e2 e3 =
     let own : Plan = plan_written (block_in s) plan in
     let l1 : List ℕ = line (codes "CERTIFICATE " ++ decimal version) in

@@ -3,8 +3,8 @@
 ghost use Rattle.std.specs.Prelude.{◌≡◌, IfOk, map};
 ghost use Rattle.definitions.specs.Binding.Formed.{IsFormedSomewhere};
 ghost use Rattle.definitions.specs.Certificates.CertifiedBlock as c;
-ghost use Rattle.definitions.specs.Certificates.Explaining.{certified, indexes_at};
-ghost use Rattle.definitions.specs.Certificates.Explaining.{index_columns};
+ghost use Rattle.definitions.specs.Certificates.Explaining.{certified, index_columns_at};
+ghost use Rattle.definitions.specs.Certificates.Explaining.{columns_of_indexes};
 ghost use Rattle.query_tree.specs.Bound.{block_of};
 ghost use Rattle.certificate.specs.Blocks.{IsOf, columns_in};
 ghost use Rattle.interesting_orders.specs.Versions.{version_of};
@@ -71,7 +71,7 @@ impl<'a> BlockSpace<'a> {
 /// The columns of the indexes of a block's tables.
 fn indexes_of(alloc: Global, estimate: &Estimate<'_>) -> Result<Vec<Vec<Vec<usize>>>, AllocError>
     ensures { IfOk result (λ all. map columns_in all.items
-        ≡ map (indexes_at estimate.now.database) (block_of estimate.now.block).tables) }
+        ≡ map (index_columns_at estimate.now.database) (block_of estimate.now.block).tables) }
 {
     let mut all = Vec::new(alloc);
     'tables: for number in 0..estimate.table_count() {
@@ -83,7 +83,7 @@ fn indexes_of(alloc: Global, estimate: &Estimate<'_>) -> Result<Vec<Vec<Vec<usiz
 
 /// The columns of the indexes of a table.
 fn columns_of(alloc: Global, table: &Table) -> Result<Vec<Vec<usize>>, AllocError>
-    ensures { IfOk result (λ all. columns_in all ≡ index_columns table.now) }
+    ensures { IfOk result (λ all. columns_in all ≡ columns_of_indexes table.now) }
 {
     let mut all = Vec::new(alloc);
     'indexes: for number in 0..table.index_count() {

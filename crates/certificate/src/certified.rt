@@ -2,7 +2,7 @@
 
 ghost use Rattle.std.specs.Prelude.{◌≡◌, ◌+◌, ◌-◌};
 ghost use Rattle.definitions.specs.Certificates.CertifiedBlock.{indexes_of};
-ghost use Rattle.definitions.specs.Certificates.Spelling as spec;
+ghost use Rattle.definitions.specs.Certificates.Writing as spec;
 ghost use Rattle.interesting_orders.specs.Versions.{version_of};
 ghost use Rattle.certificate.specs.Blocks.{block_in, columns_at, columns_of};
 

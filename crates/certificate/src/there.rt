@@ -3,7 +3,7 @@
 ghost use Rattle.std.specs.Prelude.{◌-◌, OnOk, OnErr, All};
 ghost use Rattle.std.specs.Bool.{Decides};
 ghost use Rattle.definitions.specs.Certificates.CertifiedBlock.{indexes_of};
-ghost use Rattle.definitions.specs.Certificates.Spelling.{IsOneOf, IsIndex, IsTable, IsConjunct, IsOrder, PathIsThere, PlanIsThere};
+ghost use Rattle.definitions.specs.Certificates.Spelling.{IsOneOf, IndexIsThere, TableIsThere, ConjunctIsThere, OrderIsThere, PathIsThere, PlanIsThere};
 ghost use Rattle.certificate_syntax.specs.Said.{path_said, plan_said};
 ghost use Rattle.interesting_orders.specs.Versions.{version_of};
 ghost use Rattle.certificate.specs.Blocks.{block_in, columns_of};
@@ -66,8 +66,8 @@ fn path_there(block: &CertifiedBlock<'_>, path: &WrittenPath) -> Result<(), Miss
 }
 
 fn table_there(block: &CertifiedBlock<'_>, table: u64) -> Result<(), Missing>
-    ensures ok { OnOk result (IsTable (block_in block.now) table) }
-    ensures err { OnErr result (IsTable (block_in block.now) table → ⊥) }
+    ensures ok { OnOk result (TableIsThere (block_in block.now) table) }
+    ensures err { OnErr result (TableIsThere (block_in block.now) table → ⊥) }
 {
     if is_one_of(block.indexes.len(), table) {
         Ok(())
@@ -77,9 +77,9 @@ fn table_there(block: &CertifiedBlock<'_>, table: u64) -> Result<(), Missing>
 }
 
 fn index_there(block: &CertifiedBlock<'_>, table: u64, index: u64) -> Result<(), Missing>
-    ensures ok { OnOk result (IsIndex (version_of block.now.version) (indexes_of (block_in block.now) (table - 1))
+    ensures ok { OnOk result (IndexIsThere (version_of block.now.version) (indexes_of (block_in block.now) (table - 1))
         index) }
-    ensures err { OnErr result (IsIndex (version_of block.now.version) (indexes_of (block_in block.now) (table - 1))
+    ensures err { OnErr result (IndexIsThere (version_of block.now.version) (indexes_of (block_in block.now) (table - 1))
         index → ⊥) }
 {
     let indexes = block.indexes_of(from_zero(table));
@@ -92,7 +92,7 @@ fn index_there(block: &CertifiedBlock<'_>, table: u64, index: u64) -> Result<(),
 
 /// Whether one of some indexes has a number, or in the first version is on one column alone.
 fn is_index(version: Version, indexes: &[Vec<usize>], index: u64) -> bool
-    ensures { Decides result (IsIndex (version_of version) (columns_of indexes.now) index) }
+    ensures { Decides result (IndexIsThere (version_of version) (columns_of indexes.now) index) }
 {
     match version {
         Version::One => 0 < index && place_on_column(indexes, (index - 1) as usize).is_some(),
@@ -101,8 +101,8 @@ fn is_index(version: Version, indexes: &[Vec<usize>], index: u64) -> bool
 }
 
 fn conjuncts_there(block: &CertifiedBlock<'_>, conjuncts: &[u64]) -> Result<(), Missing>
-    ensures ok { OnOk result (All (IsConjunct (block_in block.now)) conjuncts.now) }
-    ensures err { OnErr result (All (IsConjunct (block_in block.now)) conjuncts.now → ⊥) }
+    ensures ok { OnOk result (All (ConjunctIsThere (block_in block.now)) conjuncts.now) }
+    ensures err { OnErr result (All (ConjunctIsThere (block_in block.now)) conjuncts.now → ⊥) }
 {
     'conjuncts: for conjunct in conjuncts {
         conjunct_there(block, *conjunct)?;
@@ -111,8 +111,8 @@ fn conjuncts_there(block: &CertifiedBlock<'_>, conjuncts: &[u64]) -> Result<(), 
 }
 
 fn conjunct_there(block: &CertifiedBlock<'_>, conjunct: u64) -> Result<(), Missing>
-    ensures ok { OnOk result (IsConjunct (block_in block.now) conjunct) }
-    ensures err { OnErr result (IsConjunct (block_in block.now) conjunct → ⊥) }
+    ensures ok { OnOk result (ConjunctIsThere (block_in block.now) conjunct) }
+    ensures err { OnErr result (ConjunctIsThere (block_in block.now) conjunct → ⊥) }
 {
     if is_one_of(block.conjunct_count, conjunct) {
         Ok(())
@@ -122,8 +122,8 @@ fn conjunct_there(block: &CertifiedBlock<'_>, conjunct: u64) -> Result<(), Missi
 }
 
 fn order_there(block: &CertifiedBlock<'_>, order: u64) -> Result<(), Missing>
-    ensures ok { OnOk result (IsOrder (block_in block.now) order) }
-    ensures err { OnErr result (IsOrder (block_in block.now) order → ⊥) }
+    ensures ok { OnOk result (OrderIsThere (block_in block.now) order) }
+    ensures err { OnErr result (OrderIsThere (block_in block.now) order → ⊥) }
 {
     if order < block.orders.len() as u64 {
         Ok(())

@@ -4,7 +4,7 @@ ghost use Rattle.std.specs.Prelude.{◌≡◌, ◌+◌, ◌++◌, map, codes, de
 ghost use Rattle.definitions.specs.Printing.{line};
 ghost use Rattle.definitions.specs.Certificates.CertifiedBlock as c;
 ghost use Rattle.definitions.specs.Certificates.Text as spec;
-ghost use Rattle.definitions.specs.Certificates.Spelling.{path_written, plan_written, spelling};
+ghost use Rattle.definitions.specs.Certificates.Writing.{path_written, plan_written, text_written};
 ghost use Rattle.plan_tree.specs.Plans.{path_of, plan_of};
 ghost use Rattle.interesting_orders.specs.Versions.{version_of};
 ghost use Rattle.plan_tree.specs.Certificates.{state_of, certificate_of};
@@ -17,7 +17,7 @@ use itoa::Buffer;
 use plan_tree::{Certificate, Inner, Path, Plan, State};
 use std::alloc::{AllocError, Global};
 
-/// The one spelling of a plan and a certificate of a block.
+/// The one text_written of a plan and a certificate of a block.
 pub fn write_text(
     alloc: Global,
     block: &CertifiedBlock<'_>,
@@ -25,7 +25,7 @@ pub fn write_text(
     certificate: &Certificate,
 ) -> Result<Vec<u8>, AllocError>
     ensures { (of : c.CertifiedBlock) → IsOf of block.now →
-        IfOk result (λ text. text.items ≡ spelling of (plan_of plan.now) (certificate_of certificate.now)) }
+        IfOk result (λ text. text.items ≡ text_written of (plan_of plan.now) (certificate_of certificate.now)) }
 {
     let mut text = Vec::new(alloc);
     let version = u128::from(version_number(block.version));
@@ -56,7 +56,7 @@ fn write_line(text: &mut Vec<u8>, word: &[u8], number: u128) -> Result<(), Alloc
     text.extend_from_slice(b"\n")
 }
 
-/// The lines behind them.
+/// The lines TARGET, STATE and END, which stand behind the plan's.
 fn write_lines(
     text: &mut Vec<u8>,
     block: &CertifiedBlock<'_>,

@@ -13,7 +13,7 @@ use Rattle.definitions.specs.Estimates.Version.{Version}
 use Rattle.definitions.specs.Certificates.CertifiedBlock.{CertifiedBlock}
 use Rattle.definitions.specs.Certificates.Explaining.{certified}
 use Rattle.definitions.specs.Certificates.Spelling.{Spells}
-use Rattle.definitions.specs.Certificates.Verdicts.{Told, Passes, FailsAt, IsFaulty, IsTold}
+use Rattle.definitions.specs.Certificates.Verdicts.{TextVerdict, Passes, FailsAt, IsFaulty, IsTextVerdict}
 use Rattle.definitions.proofs.CertificateTheory.Faults.{spelled_certificate}
 use Rattle.plan_tree.specs.Plans.{plan_of}
 use Rattle.plan_tree.specs.declared.plan.Plan.{Plan}
@@ -35,13 +35,13 @@ module _ (db : Database) (number : ℕ) (block : Block) (version : Version) (spa
   plan_stands valid None (plan, spells, long) =
       (plan, spells, subst (λ (s : Space). InSpace s plan → ⊥) same (λ inside. no_long_plan db block valid version plan inside.0 long))
 
-  told_is : (p : spec.Plan) → Spells own bytes p certificate → (told : Told) → IsToldBy own.space p certificate told → IsTold own bytes told
+  told_is : (p : spec.Plan) → Spells own bytes p certificate → (told : TextVerdict) → IsToldBy own.space p certificate told → IsTextVerdict own bytes told
   told_is p spells Passes valid = (p, certificate, spells, valid)
   told_is p spells (FailsAt rule) fails = (p, certificate, spells, fails)
   told_is p spells (IsFaulty fault) h = absurd h
 
-  pub told_of_read : IsDatabase db → (plan : Option Plan) → PlanIsRead own bytes certificate plan → (told : Told)
-      → ((p : spec.Plan) → StandsFor space p plan → IsToldBy space p certificate told) → IsTold own bytes told
+  pub told_of_read : IsDatabase db → (plan : Option Plan) → PlanIsRead own bytes certificate plan → (told : TextVerdict)
+      → ((p : spec.Plan) → StandsFor space p plan → IsToldBy space p certificate told) → IsTextVerdict own bytes told
   told_of_read valid plan read told all =
       let (p, spells, stands) = plan_stands valid plan read in
       told_is p spells told (subst (λ (s : Space). IsToldBy s p certificate told) (sym same) (all p stands))

@@ -10,6 +10,7 @@ use Rattle.definitions.specs.Plans.Validity.{IsValid}
 use Rattle.definitions.specs.Plans.Checking.{Refused, IsVerdict}
 use Rattle.definitions.specs.Certificates.Fault.{Fault, BadForm, NoSuchNumber, BadStates}
 use Rattle.definitions.specs.Certificates.Verdicts as spec
+use Rattle.definitions.specs.Ended as ends
 use Rattle.certificate.specs.declared.fault.TextFault.{TextFault}
 use Rattle.certificate.specs.declared.fault.TextFault.TheVariants as fault
 use Rattle.cert_check.specs.Verdicts.{rule_of}
@@ -27,7 +28,7 @@ fault_of (fault.Missing missing) = NoSuchNumber
 fault_of (fault.States bad) = BadStates
 fault_of fault.Memory = BadForm
 
-abbrev pub told_of : Told → spec.Told
+abbrev pub told_of : Told → spec.TextVerdict
 told_of told.Passes = spec.Passes
 told_of (told.Fails rule place) = spec.FailsAt (rule_of rule)
 told_of (told.Faulty fault) = spec.IsFaulty (fault_of fault)
@@ -42,11 +43,11 @@ StandsFor space plan (Some own) = plan_of own ≡ plan
 StandsFor space plan None = InSpace space plan → ⊥
 
 -- what is told of a plan and a certificate of the space
-abbrev pub IsToldBy : Space → plans.Plan → Certificate → spec.Told → Type 0
+abbrev pub IsToldBy : Space → plans.Plan → Certificate → spec.TextVerdict → Type 0
 IsToldBy space plan certificate spec.Passes = IsValid space plan certificate
 IsToldBy space plan certificate (spec.FailsAt rule) = (tables : TableSet) × (order : OrderNumber) × IsVerdict space certificate plan (Refused rule tables order)
 IsToldBy space plan certificate (spec.IsFaulty fault) = ⊥
 
-abbrev pub check_ended_of : FileEnded → spec.CheckEnded
-check_ended_of ended.Well = spec.Well
-check_ended_of ended.Refused = spec.Refused'
+abbrev pub check_ended_of : FileEnded → ends.Ended
+check_ended_of ended.Well = ends.Well
+check_ended_of ended.Refused = ends.Refused

@@ -2,13 +2,14 @@
 
 ghost use Rattle.std.specs.Prelude.{◌≡◌, ◌≤◌, IfOk, length, map};
 ghost use Rattle.std.specs.List.{AllByRecursion};
+ghost use Rattle.definitions.specs.Ended.{both_ended};
 ghost use Rattle.definitions.specs.Limits.{most_blocks};
 ghost use Rattle.definitions.specs.Invariant.{IsDatabase};
 ghost use Rattle.definitions.specs.Binding.Formed.{IsFormedSomewhere};
 ghost use Rattle.definitions.specs.Estimates.Version.{current_version};
 ghost use Rattle.definitions.specs.Certificates.Explaining.{certified_from};
 ghost use Rattle.definitions.specs.Certificates.File.{lines_of};
-ghost use Rattle.definitions.specs.Certificates.Verdicts.{AreTold, both_ended, ended_of, rest_ended};
+ghost use Rattle.definitions.specs.Certificates.Verdicts.{AreTold, ended_of, rest_ended};
 ghost use Rattle.query_tree.specs.Bound.{block_of};
 ghost use Rattle.certificate_files.specs.Telling.{told_of, check_ended_of};
 

@@ -3,7 +3,7 @@
 ghost use Rattle.std.specs.Prelude.{◌≡◌, ◌++◌, OnOk};
 ghost use Rattle.definitions.specs.Estimates.Version.{current_version};
 ghost use Rattle.definitions.specs.Certificates.File.{lines_of};
-ghost use Rattle.definitions.specs.Certificates.Verdicts.{told_text, rest_text, space_text};
+ghost use Rattle.definitions.specs.Certificates.Verdicts.{verdict_text, rest_text, space_text};
 ghost use Rattle.definitions.specs.Certificates.Verdicts as verdicts;
 ghost use Rattle.cert_check.specs.Verdicts.{rule_of};
 ghost use Rattle.interesting_orders.specs.Versions.{version_of};
@@ -45,7 +45,7 @@ pub(crate) fn write_rest(text: &mut Vec<u8>, left: &[u8]) -> Result<(), AllocErr
 }
 
 fn told_words(told: Told) -> &'static [u8]
-    ensures { result.now ≡ told_text (told_of told) }
+    ensures { result.now ≡ verdict_text (told_of told) }
 {
     match told {
         Told::Passes => b"pass",
@@ -55,7 +55,7 @@ fn told_words(told: Told) -> &'static [u8]
 }
 
 fn rule_words(rule: Rule) -> &'static [u8]
-    ensures { result.now ≡ told_text (verdicts.FailsAt (rule_of rule)) }
+    ensures { result.now ≡ verdict_text (verdicts.FailsAt (rule_of rule)) }
 {
     match rule {
         Rule::Accesses => b"refused K1",
@@ -67,7 +67,7 @@ fn rule_words(rule: Rule) -> &'static [u8]
 
 /// A fault is told by its kind; want of memory is not told.
 fn fault_words(fault: TextFault) -> &'static [u8]
-    ensures { result.now ≡ told_text (verdicts.IsFaulty (fault_of fault)) }
+    ensures { result.now ≡ verdict_text (verdicts.IsFaulty (fault_of fault)) }
 {
     match fault {
         TextFault::Form { .. } | TextFault::Memory => b"refused C1",

@@ -8,7 +8,7 @@ ghost use Rattle.definitions.specs.Plans.Checking.{IsVerdict};
 ghost use Rattle.definitions.specs.Plans.Plan as spec;
 ghost use Rattle.definitions.specs.Certificates.CertifiedBlock.{CertifiedBlock};
 ghost use Rattle.definitions.specs.Certificates.Explaining.{certified};
-ghost use Rattle.definitions.specs.Certificates.Verdicts.{IsTold};
+ghost use Rattle.definitions.specs.Certificates.Verdicts.{IsTextVerdict};
 ghost use Rattle.query_tree.specs.Bound.{block_of};
 ghost use Rattle.plan_tree.specs.Certificates.{certificate_of};
 ghost use Rattle.certificate.specs.Reads.{HasTextFault};
@@ -49,7 +49,7 @@ pub(crate) fn block_told(
 ) -> Result<Told, AllocError>
     requires valid { IsDatabase database.now }
     requires formed { IsFormedSomewhere database.now (block_of block.now) }
-    ensures told { IfOk result (λ told. IsTold (certified database.now number (block_of block.now)
+    ensures told { IfOk result (λ told. IsTextVerdict (certified database.now number (block_of block.now)
         (version_of version)) bytes.now (told_of told)) }
     ensures text { IfOk result IsOfText }
 {
@@ -82,7 +82,7 @@ fn add_notes(
 /// What is told of a text that has a fault.
 fn fault_told(fault: TextFault) -> Result<Told, AllocError>
     ensures told { (block : CertifiedBlock) (bytes : List ℕ) → HasTextFault block bytes fault →
-        IfOk result (λ told. IsTold block bytes (told_of told)) }
+        IfOk result (λ told. IsTextVerdict block bytes (told_of told)) }
     ensures text { IfOk result IsOfText }
 {
     match fault {

@@ -10,8 +10,7 @@ use Rattle.definitions.specs.Plans.Plan.{Plan}
 use Rattle.definitions.specs.Plans.Certificate.{StateCost}
 use Rattle.definitions.specs.Estimates.Version.{Version}
 use Rattle.definitions.specs.Certificates.Text.{Written, plan_text, state_line, first_line, end_line, text_of}
-use Rattle.definitions.specs.Certificates.Form.{is_number, is_plan, is_state, word_count, word_limit, has_form}
-use Rattle.definitions.specs.Certificates.Fault.{Says}
+use Rattle.definitions.specs.Certificates.Form.{is_number, is_plan, is_state, word_count, word_limit, has_form, Says}
 use Rattle.definitions.proofs.CertificateTheory.Reading.{and_left, and_right}
 use Rattle.certificate_syntax.specs.declared.fault.Expected.{Expected}
 use Rattle.certificate_syntax.specs.declared.fault.FormFault.{FormFault}

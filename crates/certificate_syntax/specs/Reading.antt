@@ -8,8 +8,7 @@ use Rattle.definitions.specs.Plans.Plan.{Plan, Loop, Merge, Sort}
 use Rattle.definitions.specs.Plans.Certificate.{StateCost}
 use Rattle.definitions.specs.Estimates.Version.{Version}
 use Rattle.definitions.specs.Certificates.Text.{Written, direction_text, conjuncts_text, path_text, sorted_text, plan_text, state_line, first_line, text_of}
-use Rattle.definitions.specs.Certificates.Form.{is_number, is_direction, is_match, is_path, is_plan, is_state, word_count, word_limit, has_form}
-use Rattle.definitions.specs.Certificates.Fault.{Says}
+use Rattle.definitions.specs.Certificates.Form.{is_number, is_direction, is_match, is_path, is_plan, is_state, word_count, word_limit, has_form, Says}
 use Rattle.definitions.specs.Printing.{line}
 use Rattle.certificate_syntax.specs.declared.fault.FormFault.{FormFault}
 use Rattle.certificate_syntax.specs.declared.fault.FormFault.TheVariants as fault

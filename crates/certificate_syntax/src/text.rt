@@ -1,7 +1,7 @@
 //! Reads the whole text of a certificate: its version, block, plan, target and states.
 
 ghost use Rattle.std.specs.Prelude.{IfOk, IfErr, map};
-ghost use Rattle.definitions.specs.Certificates.Fault.{Says};
+ghost use Rattle.definitions.specs.Certificates.Form.{Says};
 ghost use Rattle.interesting_orders.specs.Versions.{version_of};
 ghost use Rattle.certificate_syntax.specs.Said.{plan_said, state_said, said_of};
 ghost use Rattle.certificate_syntax.specs.Reading.{Reads, AllIn, StateIn, BlockIn, PlanLineIn, TextIn, SaysAll, SaysNothing, IsFaultOf};

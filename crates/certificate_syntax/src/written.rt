@@ -54,7 +54,7 @@ pub struct WrittenState {
     pub cost: u64,
 }
 
-/// What a text says.
+/// What a text says, with the numbers that stand there, whatever block it is of.
 #[derive(Drop)]
 pub struct Written {
     pub block: u64,

@@ -27,7 +27,7 @@ impl Model for NullBits {
 }
 
 impl NullBits {
-    /// No rows (own).
+    /// The bits of a column without rows.
     pub(crate) fn new(alloc: Global) -> NullBits
         ensures { result ≡ [] }
     {

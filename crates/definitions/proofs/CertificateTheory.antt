@@ -2,6 +2,7 @@ pub mod Decisions
 pub mod Texts
 pub mod Reading
 pub mod Faults
+pub mod Writing
 pub mod Files
 pub mod Verdicts
 pub mod Passing

@@ -15,12 +15,12 @@ use Rattle.definitions.specs.Limits.{most_tables, most_columns, most_indexes, mo
 use Rattle.definitions.specs.Refusal.{NameTaken, NotFound, OverLimit}
 use Rattle.definitions.specs.Value.{Value, Number, SqlType, Smallint, Integer, Numeric, Char, IsType, scale_of, rank}
 use Rattle.definitions.specs.Statement.{Name, ColumnDefinition, Range, Statement, CreateTable, CreateIndex, SetTableStatistics, SetIndexStatistics}
-use Rattle.definitions.specs.Statement.{IndexStatistics as Given}
+use Rattle.definitions.specs.Statement.{GivenStatistics as Given}
 use Rattle.definitions.specs.Table.{Column, KeyRange, IndexStatistics, Index, Table, Database, table_named, type_named, column_number, column_numbers, is_key, is_primary, is_on, index_on, AreDistinct}
 use Rattle.definitions.specs.Key.{key_of, AreUnique}
 use Rattle.definitions.specs.Statistics.{index_statistics}
 use Rattle.definitions.specs.Change as made
-use Rattle.definitions.specs.Change.{new_table, with_index, with_table_statistics, with_index_statistics, changed, bound_value, KeptAs, RangeKept, StatisticsKept, first_type, Makes}
+use Rattle.definitions.specs.Change.{new_table, with_index, with_table_statistics, with_index_statistics, changed, limit_value, KeptAs, RangeKept, StatisticsKept, first_type, Makes}
 use Rattle.definitions.specs.IndexFaults as index
 use Rattle.definitions.specs.IndexFaults.{Falls}
 use Rattle.definitions.specs.Faults as faults
@@ -334,8 +334,8 @@ as_equal a b c d h k =
 kept_rising : (type : SqlType) (r : Range) (l h : ℤ) → KeptAs type r.low l → KeptAs type r.high h → ¬ (Falls r) → l ≤ℤ h
 kept_rising type r l h low high n =
     let scale = scale_of type in
-    let same : rank (bound_value r.low) (bound_value r.high) ≡ int_cmp (l *ℤ pos (10 ^ scale)) (h *ℤ pos (10 ^ scale)) =
-    as_equal (Number l scale) (bound_value r.low) (Number h scale) (bound_value r.high) (rank_as_compared (Number l scale) (bound_value r.low) Equal low.1) (rank_as_compared (Number h scale) (bound_value r.high) Equal high.1) in
+    let same : rank (limit_value r.low) (limit_value r.high) ≡ int_cmp (l *ℤ pos (10 ^ scale)) (h *ℤ pos (10 ^ scale)) =
+    as_equal (Number l scale) (limit_value r.low) (Number h scale) (limit_value r.high) (rank_as_compared (Number l scale) (limit_value r.low) Equal low.1) (rank_as_compared (Number h scale) (limit_value r.high) Equal high.1) in
     rising l h (int_cmp l h) (λ e. n (ap Some (same ∙ sym (scaled l h (10 ^ scale) (power_is_positive scale)) ∙ e))) (int_ranks l h)
 
 pub kept_range : (type : SqlType) (given : Option Range) (kept : Option KeyRange) → RangeKept type given kept → ((r : Range) → given ≡ Some r → ¬ (Falls r)) → IsRange (Some type) kept

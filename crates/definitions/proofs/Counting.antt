@@ -10,8 +10,8 @@ use Rattle.definitions.specs.Value.{IsType}
 use Rattle.definitions.specs.Statement.{Name, ColumnDefinition}
 use Rattle.definitions.specs.Table.{Column, Row, Index, Table, is_key, is_primary, IsRow, AreDistinct, column_names}
 use Rattle.definitions.specs.Key.{key_of, AreUnique}
-use Rattle.definitions.specs.Statistics.{index_statistics, counted}
-use Rattle.definitions.specs.Change.{column_of, new_index, key_indexes, new_table, with_rows}
+use Rattle.definitions.specs.Statistics.{index_statistics, counted_statistics}
+use Rattle.definitions.specs.Change.{declared_column, new_index, key_indexes, new_table, with_rows}
 use Rattle.definitions.specs.Faults.{count_of, definition_names}
 use Rattle.definitions.specs.Invariant.{IsIndex, IsTable, AreApart, KeepsNullsOut}
 use Rattle.definitions.specs.Loading.{Record, AllLoad}
@@ -65,7 +65,7 @@ apart_counted : (t : Table) (indexes : List Index) → AreApart indexes → AreA
 apart_counted t [] h = tt
 apart_counted t (i ∷ indexes) h = (still_apart t i indexes h.0, apart_counted t indexes h.1)
 
-pub counted_is_table : (t : Table) → IsUncounted t → IsTable (counted t)
+pub counted_is_table : (t : Table) → IsUncounted t → IsTable (counted_statistics t)
 counted_is_table t s = record {
   columns = s.columns;
   rows = s.rows;
@@ -75,7 +75,7 @@ counted_is_table t s = record {
   types = s.types;
   typed = s.typed;
   no_nulls = s.no_nulls;
-  each_index = each_counted t (counted t) t.indexes refl refl s s.each_index;
+  each_index = each_counted t (counted_statistics t) t.indexes refl refl s s.each_index;
   apart = apart_counted t t.indexes s.apart;
   row_count = omega (arith, s.rows);
   page_count = table_pages t.columns t.rows s.columns s.types s.rows;
@@ -158,34 +158,34 @@ keys_counted from (d ∷ ds) =
     count_by_one (is_key d.constraint) from (key_indexes (from + 1) ds) ∙ ap (λ n. cond (is_key d.constraint) 1 0 + n) (keys_counted (from + 1) ds)
     ∙ sym (sum_by-cons (λ (c : ColumnDefinition). cond (is_key c.constraint) 1 0) d ds)
 
-pub primary_counted : (ds : List ColumnDefinition) → count_by (λ (c : Column). is_primary c.constraint) (map column_of ds) ≡ count_of is_primary ds
+pub primary_counted : (ds : List ColumnDefinition) → count_by (λ (c : Column). is_primary c.constraint) (map declared_column ds) ≡ count_of is_primary ds
 primary_counted [] = refl
 primary_counted (d ∷ ds) =
-    sum_by-cons (λ (c : Column). cond (is_primary c.constraint) 1 0) (column_of d) (map column_of ds) ∙ ap (λ n. cond (is_primary d.constraint) 1 0 + n) (primary_counted ds)
+    sum_by-cons (λ (c : Column). cond (is_primary c.constraint) 1 0) (declared_column d) (map declared_column ds) ∙ ap (λ n. cond (is_primary d.constraint) 1 0 + n) (primary_counted ds)
     ∙ sym (sum_by-cons (λ (c : ColumnDefinition). cond (is_primary c.constraint) 1 0) d ds)
 
-names_of : (ds : List ColumnDefinition) → column_names (map column_of ds) ≡ definition_names ds
+names_of : (ds : List ColumnDefinition) → column_names (map declared_column ds) ≡ definition_names ds
 names_of [] = refl
 names_of (d ∷ ds) = ap (λ ns. d.name ∷ ns) (names_of ds)
 
-types_of : (ds : List ColumnDefinition) → AllByRecursion (λ (d : ColumnDefinition). IsType d.type) ds → AllByRecursion (λ (c : Column). IsType c.type) (map column_of ds)
+types_of : (ds : List ColumnDefinition) → AllByRecursion (λ (d : ColumnDefinition). IsType d.type) ds → AllByRecursion (λ (c : Column). IsType c.type) (map declared_column ds)
 types_of [] h = tt
 types_of (d ∷ ds) h = (h.0, types_of ds h.1)
 
 abbrev bare_table : Name → List ColumnDefinition → Table
-bare_table name ds = record { name = name; columns = map column_of ds; indexes = key_indexes 0 ds; rows = []; statistics = record { rows = 0; pages = 1 } }
+bare_table name ds = record { name = name; columns = map declared_column ds; indexes = key_indexes 0 ds; rows = []; statistics = record { rows = 0; pages = 1 } }
 
 bare_keys : (name : Name) (ds : List ColumnDefinition) (indexes : List Index) → AllByRecursion (IsKeyOf 0 (length ds)) indexes → AllByRecursion (IsBare (bare_table name ds)) indexes
 bare_keys name ds [] h = tt
 bare_keys name ds (i ∷ indexes) h =
     let (n, e, l, m) = h.0 in
-    let there : AllByRecursion (λ k. k < length (map column_of ds)) (n ∷ []) = (omega (arith, m, length-map ds column_of), tt) in
+    let there : AllByRecursion (λ k. k < length (map declared_column ds)) (n ∷ []) = (omega (arith, m, length-map ds declared_column), tt) in
     (record { some = omega (arith, ap length e); columns = omega (arith, ap length e); there = rw e there; unique = λ x. tt }, bare_keys name ds indexes h.1)
 
 pub new_is_table : (name : Name) (ds : List ColumnDefinition) → length ds ≤ most_columns → AreDistinct (definition_names ds) → AllByRecursion (λ (d : ColumnDefinition). IsType d.type) ds
     → count_of is_key ds ≤ most_indexes → count_of is_primary ds ≤ 1 → IsTable (new_table name ds)
 new_is_table name ds narrow distinct types keys primary = counted_is_table (bare_table name ds) (record {
-  columns = omega (arith, narrow, length-map ds column_of);
+  columns = omega (arith, narrow, length-map ds declared_column);
   rows = omega arith;
   indexes = omega (arith, keys, keys_counted 0 ds);
   primary = omega (arith, primary, primary_counted ds);

@@ -9,7 +9,7 @@ use Rattle.definitions.specs.Statement as s
 use Rattle.definitions.specs.Rule.{Rule, At, Gives, Then}
 use Rattle.definitions.specs.Rule as g
 use Rattle.definitions.specs.Grammar as r
-use Rattle.definitions.specs.Grammar.{Inner, within, Closed, Enclosed, Optional, Maybe, ListOf, NameAt, CountAt, StringAt, ScaleAt, ParametersAt, LengthAt, TypeAt, ConstraintAt, ColumnAt, ReferenceAt, SourceAt, DistinctAt, GroupsAt, ArgumentOf, ParenthesisOf, OtherPrimaryOf, PrimaryOf, SignOf, ProductOf, SumOf, NullOf, InListOf, BetweenOf, LikeOf, PredicateOf, ComparedOf, TailOf, TestOf, NegationOf, ConjunctionOf, ExprOf, MemberOf, ItemOf, SelectListOf, ConditionOf, BlockOf, SubqueryOf, KeyNameAt, DirectionAt, KeyAt, OrderAt, SelectOf, NamesAt, BoundAt, RangeAt, TableAt, IndexAt, CreateAt, LoadAt, StatisticsAt, SetAt, StatementOf, LineKind, LineOf}
+use Rattle.definitions.specs.Grammar.{InnerRules, within, Closed, Enclosed, Optional, Maybe, ListOf, NameAt, CountAt, StringAt, ScaleAt, ParametersAt, LengthAt, TypeAt, ConstraintAt, ColumnAt, ReferenceAt, SourceAt, DistinctAt, GroupsAt, ArgumentOf, ParenthesisOf, OtherPrimaryOf, PrimaryOf, SignOf, ProductOf, SumOf, NullOf, InListOf, BetweenOf, LikeOf, PredicateOf, ComparedOf, TailOf, TestOf, NegationOf, ConjunctionOf, ExprOf, MemberOf, ItemOf, SelectListOf, ConditionOf, BlockOf, SubqueryOf, KeyNameAt, DirectionAt, KeyAt, OrderAt, SelectOf, NamesAt, BoundAt, RangeAt, TableAt, IndexAt, CreateAt, LoadAt, StatisticsAt, SetAt, StatementOf, LineKind, LineOf}
 use Rattle.definitions.proofs.Alike.{Agree, Alike, never_alike, alike_never, never_alike_all, gives_alike, past_alike, sees_alike, if_alike, reads_alike, then_alike, repeats_alike}
 
 -- ---- what many rules share
@@ -94,7 +94,7 @@ groups_alike = if_alike _ (past_alike _ (list_alike reference_alike)) (gives_ali
 
 -- ---- expressions and blocks, whose inner rules are alike
 
-pub record InnerAlike (i j : Inner) : Type 0 where
+pub record InnerAlike (i j : InnerRules) : Type 0 where
   pub negation : Alike i.negation j.negation
   pub sign : Alike i.sign j.sign
   pub parenthesis : Alike i.parenthesis j.parenthesis
@@ -102,7 +102,7 @@ pub record InnerAlike (i j : Inner) : Type 0 where
   pub argument : (f : SetFunction) → Alike (i.argument f) (j.argument f)
   pub in_list : (negated : Bool) (value : Expr) → Alike (i.in_list negated value) (j.in_list negated value)
 
-module _ {i j : Inner} (h : InnerAlike i j) where
+module _ {i j : InnerRules} (h : InnerAlike i j) where
   pub other_primary_alike : Alike (OtherPrimaryOf i) (OtherPrimaryOf j)
   unfolding OtherPrimaryOf
   other_primary_alike =
@@ -271,7 +271,7 @@ pub order_alike : Alike OrderAt OrderAt
 unfolding OrderAt
 order_alike = if_alike _ (past_alike _ (list_alike key_alike)) (gives_alike _)
 
-pub select_alike : {i j : Inner} → InnerAlike i j → Alike (SelectOf i) (SelectOf j)
+pub select_alike : {i j : InnerRules} → InnerAlike i j → Alike (SelectOf i) (SelectOf j)
 unfolding SelectOf
 select_alike h = then_alike (block_alike h) (λ b. then_alike order_alike (λ o. gives_alike _))
 
@@ -317,7 +317,7 @@ set_alike =
     if_alike _ (then_alike count_alike (λ rows. past_alike _ (then_alike count_alike (λ pages. gives_alike _))))
     (then_alike names_alike (λ cs. then_alike statistics_alike (λ f. gives_alike _)))))
 
-pub statement_alike : {i j : Inner} → InnerAlike i j → Alike (StatementOf i) (StatementOf j)
+pub statement_alike : {i j : InnerRules} → InnerAlike i j → Alike (StatementOf i) (StatementOf j)
 unfolding StatementOf
 statement_alike h =
     if_alike _ create_alike
@@ -332,15 +332,15 @@ past_end [] k h = cc
 past_end (t ∷ ts) k h = past_end ts k h
 
 -- where a statement begins there is a token
-block_there : (i : Inner) (ts : List TokenKind) (at to : ℕ) (x : s.Block) → BlockOf i ts at to x → (k : TokenKind) × At ts at k
+block_there : (i : InnerRules) (ts : List TokenKind) (at to : ℕ) (x : s.QuerySpecification) → BlockOf i ts at to x → (k : TokenKind) × At ts at k
 unfolding BlockOf
 block_there i ts at to x (g.past a b z h k) = (_, h)
 
-select_there : (i : Inner) (ts : List TokenKind) (at to : ℕ) (x : s.Select) → SelectOf i ts at to x → (k : TokenKind) × At ts at k
+select_there : (i : InnerRules) (ts : List TokenKind) (at to : ℕ) (x : s.Select) → SelectOf i ts at to x → (k : TokenKind) × At ts at k
 unfolding SelectOf
 select_there i ts at to x (g.then a m b z w h k) = block_there i ts _ _ _ h
 
-pub statement_there : (i : Inner) (ts : List TokenKind) (at to : ℕ) (x : Statement) → StatementOf i ts at to x → (k : TokenKind) × At ts at k
+pub statement_there : (i : InnerRules) (ts : List TokenKind) (at to : ℕ) (x : Statement) → StatementOf i ts at to x → (k : TokenKind) × At ts at k
 unfolding StatementOf
 statement_there i ts at to x (g.sees a b z h k) = (_, h)
 statement_there i ts at to x (g.misses a b z h (g.sees a' b' z' h' k)) = (_, h')
@@ -354,7 +354,7 @@ agree_self ts n k h = refl
 pub no_token_there : (ts : List TokenKind) (at : ℕ) (k : TokenKind) → at ≡ length ts → At ts at k → ⊥
 no_token_there ts at k e h = past_end ts k (rw e at h)
 
-next_script : (levels : ℕ) (ts : List TokenKind) (m m' : ℕ) (xs : List Statement) → m ≡ m' → r.ScriptAt levels ts (m' + 1) xs → r.ScriptAt levels ts (m + 1) xs
+pub next_script : (levels : ℕ) (ts : List TokenKind) (m m' : ℕ) (xs : List Statement) → m ≡ m' → r.ScriptAt levels ts (m' + 1) xs → r.ScriptAt levels ts (m + 1) xs
 next_script levels ts m m' xs e g = rw e g
 
 script_once : (n m : ℕ) (ts : List TokenKind) (at : ℕ) (x y : List Statement) → r.ScriptAt n ts at x → r.ScriptAt m ts at y → x ≡ y

@@ -1,6 +1,11 @@
 pub mod Lexing
 pub mod Alike
 pub mod Grammar
+pub mod Moving
+mod Levels
+pub mod Readings
+pub mod ReadTokens
+mod Keeping
 pub mod Loading
 pub mod Ranking
 pub mod KeyRanks
@@ -22,3 +27,4 @@ pub mod BindingTheory
 pub mod EstimateTheory
 pub mod CertificateTheory
 pub mod WrittenParts
+pub mod WrittenTexts

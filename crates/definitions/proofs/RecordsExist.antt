@@ -12,7 +12,7 @@ use Rattle.definitions.specs.Value.{Value, Null, Number, Text, SqlType, kind_of}
 use Rattle.definitions.specs.Refusal.{FieldError, BadText, Refusal, FieldCount, Field, NullOrRepeated}
 use Rattle.definitions.specs.Table.{Column, Row, Table, may_be_null}
 use Rattle.definitions.specs.Loading as f
-use Rattle.definitions.specs.Loading.{Record, AreFileRecords, null_field, Writes, StoresAs, not_stored, FieldLoads, ColumnLoads, FieldsLoad, RecordReads, RecordLoads, AllLoad, LoadsUpTo, repeats_key}
+use Rattle.definitions.specs.Loading.{Record, AreFileRecords, null_field, Writes, StoresAs, not_stored, FieldLoads, ColumnLoads, FieldsLoad, RecordReads, RecordLoads, repeats_key}
 use Rattle.definitions.proofs.PlanTheory.LeastPlans.{undecided}
 
 -- ---- records

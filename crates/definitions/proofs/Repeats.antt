@@ -12,7 +12,7 @@ use Rattle.definitions.specs.Key.{Key, key_of, key_rank, value_at, has_null, rep
 use Rattle.definitions.specs.Refusal.{Refusal, FieldError}
 use Rattle.definitions.specs.Invariant.{KeepsNullsOut}
 use Rattle.definitions.specs.Loading as load
-use Rattle.definitions.specs.Loading.{Record, FieldLoads, ColumnLoads, FieldsLoad, RecordReads, RecordLoads, AllLoad, repeats_key}
+use Rattle.definitions.specs.Loading.{Record, FieldLoads, ColumnLoads, FieldsLoad, RecordReads, AllLoad, repeats_key}
 use Rattle.definitions.proofs.Ranking.{rank_total}
 
 -- ---- what is said of two keys is said of them the other way round

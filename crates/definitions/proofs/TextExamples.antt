@@ -10,9 +10,9 @@ use Rattle.definitions.specs.Token.{TokenKind, Reserved}
 use Rattle.definitions.specs.Statement.{Statement, Load}
 use Rattle.definitions.specs.Rule as r
 use Rattle.definitions.specs.Grammar as g
-use Rattle.definitions.specs.Grammar.{BeginsNone, Derives, SyntaxFails}
+use Rattle.definitions.specs.Grammar.{BeginsNone}
 use Rattle.definitions.specs.Loading as f
-use Rattle.definitions.specs.Loading.{FieldLoads, StoresAs}
+use Rattle.definitions.specs.Loading.{StoresAs}
 use Rattle.definitions.specs.Refusal.{Unexpected}
 use Rattle.definitions.specs.Examples.Texts.{ValuesCompare, TextsRead, TokensDerive, FieldsAndRows, CellsCompare}
 

@@ -2,10 +2,10 @@
 use Rattle.std.proofs.Common.{◌<◌, List, [], ◌∷◌, ◌++◌, map}
 use Rattle.std.specs.Prelude.{⊤, flat_map, length}
 use Rattle.std.specs.List.{AllByRecursion}
-use Rattle.definitions.specs.Statement.{Expr, Column, Numeral, String, Signed, Line, Not, Compare, CompareAll, IsNull, Between, Like, InList, InQuery, Exists, Scalar, CountRows, Function, Operands, NoOperand, Operand, Members, NoMember, NullMember, Member, Items, NoItem, AddItem, Item, listed, SelectList, Asterisk, Listed, Condition, Absent, Present, Block, Specification, Select}
+use Rattle.definitions.specs.Statement.{Expr, Column, Numeral, String, Signed, Line, Not, Compare, CompareAll, IsNull, Between, Like, InList, InQuery, Exists, Scalar, CountRows, Function, LineOperands, NoOperand, Operand, Members, NoMember, NullMember, Member, Items, NoItem, AddItem, DerivedColumn, listed, SelectList, Asterisk, Listed, SearchClause, Absent, Present, QuerySpecification, Specification, Select}
 use Rattle.definitions.specs.Table.{Database}
 use Rattle.definitions.specs.Binding.Scopes.{Scopes, scope_of}
-use Rattle.definitions.specs.Binding.Parts.{PlacedBlock, inner_parts, operand_parts, member_parts, parts, item_values, condition_values, blocks_in, operand_blocks, member_blocks, item_blocks, list_blocks, condition_blocks, block_blocks}
+use Rattle.definitions.specs.Binding.Parts.{PlacedBlock, inner_parts, operand_parts, member_parts, parts, item_values, condition_values, placed_blocks_in, placed_operand_blocks, member_blocks, item_blocks, list_blocks, condition_blocks, block_blocks}
 use Rattle.definitions.specs.Binding.Faults.{argument_parts, all_parts, where_parts, shown_parts}
 use Rattle.definitions.specs.Binding.Formed.{IsWrittenNumeral, IsWrittenString, IsWritten, NamesTables, AreWritten}
 
@@ -28,7 +28,7 @@ abbrev mutual
   WrittenExpr (Function function distinct argument) = WrittenExpr argument
   WrittenExpr _ = ⊤
 
-  pub WrittenOperands : Operands → Type 0
+  pub WrittenOperands : LineOperands → Type 0
   WrittenOperands NoOperand = ⊤
   WrittenOperands (Operand operator e others) = WrittenExpr e × WrittenOperands others
 
@@ -45,11 +45,11 @@ abbrev mutual
   WrittenList Asterisk = ⊤
   WrittenList (Listed items) = WrittenItems items
 
-  pub WrittenCondition : Condition → Type 0
+  pub WrittenCondition : SearchClause → Type 0
   WrittenCondition Absent = ⊤
   WrittenCondition (Present e) = WrittenExpr e
 
-  pub WrittenBlock : Block → Type 0
+  pub WrittenBlock : QuerySpecification → Type 0
   WrittenBlock (Specification distinct list sources where' groups having) = WrittenList list × WrittenCondition where' × WrittenCondition having × (0 < length sources)
 
 all_both : {X : Type 0} (P : X → Type 0) (xs ys : List X) → AllByRecursion P xs → AllByRecursion P ys → AllByRecursion P (xs ++ ys)
@@ -83,7 +83,7 @@ mutual
   inner (Numeral units digits scale) w = tt
   inner (String codes) w = tt
 
-  of_operands : (others : Operands) → WrittenOperands others → AllByRecursion WrittenExpr (operand_parts others)
+  of_operands : (others : LineOperands) → WrittenOperands others → AllByRecursion WrittenExpr (operand_parts others)
   of_operands NoOperand w = tt
   of_operands (Operand operator e others) w = (w.0, all_both WrittenExpr (inner_parts e) (operand_parts others) (inner e w.0) (of_operands others w.1))
 
@@ -111,7 +111,7 @@ literal _ w = tt
 
 -- ---- blocks
 
-values_of_items : (items : Items) → WrittenItems items → AllByRecursion WrittenExpr (map (λ (i : Item). i.value) (listed items))
+values_of_items : (items : Items) → WrittenItems items → AllByRecursion WrittenExpr (map (λ (i : DerivedColumn). i.value) (listed items))
 values_of_items NoItem w = tt
 values_of_items (AddItem value alias others) w = (w.0, values_of_items others w.1)
 
@@ -119,16 +119,16 @@ values_of_list : (list : SelectList) → WrittenList list → AllByRecursion Wri
 values_of_list Asterisk w = tt
 values_of_list (Listed items) w = values_of_items items w
 
-values_of_condition : (c : Condition) → WrittenCondition c → AllByRecursion WrittenExpr (condition_values c)
+values_of_condition : (c : SearchClause) → WrittenCondition c → AllByRecursion WrittenExpr (condition_values c)
 values_of_condition Absent w = tt
 values_of_condition (Present e) w = (w, tt)
 
 abbrev IsWrittenBlock : PlacedBlock → Type 0
 IsWrittenBlock p = AllByRecursion IsWritten (all_parts p.block) × NamesTables p.block
 
-block_itself : (block : Block) → WrittenBlock block → AllByRecursion IsWritten (all_parts block) × NamesTables block
+block_itself : (block : QuerySpecification) → WrittenBlock block → AllByRecursion IsWritten (all_parts block) × NamesTables block
 block_itself (Specification distinct list sources where' groups having) w =
-    let block : Block = Specification distinct list sources where' groups having in
+    let block : QuerySpecification = Specification distinct list sources where' groups having in
     let in_where = parts_of_all (condition_values where') (values_of_condition where' w.1) in
     let in_shown = parts_of_all (item_values list ++ condition_values having) (all_both WrittenExpr (item_values list) (condition_values having) (values_of_list list w.0) (values_of_condition having w.2)) in
     let both = all_both WrittenExpr (where_parts block) (shown_parts block) in_where in_shown in
@@ -136,18 +136,18 @@ block_itself (Specification distinct list sources where' groups having) w =
 
 module _ (db : Database) where
   mutual
-    in_expr : (scopes : Scopes) (e : Expr) → WrittenExpr e → AllByRecursion IsWrittenBlock (blocks_in db scopes e)
+    in_expr : (scopes : Scopes) (e : Expr) → WrittenExpr e → AllByRecursion IsWrittenBlock (placed_blocks_in db scopes e)
     in_expr scopes (Signed minus e) w = in_expr scopes e w
-    in_expr scopes (Line first others) w = all_both IsWrittenBlock (blocks_in db scopes first) (operand_blocks db scopes others) (in_expr scopes first w.0) (in_operands scopes others w.1)
+    in_expr scopes (Line first others) w = all_both IsWrittenBlock (placed_blocks_in db scopes first) (placed_operand_blocks db scopes others) (in_expr scopes first w.0) (in_operands scopes others w.1)
     in_expr scopes (Not e) w = in_expr scopes e w
-    in_expr scopes (Compare op left right) w = all_both IsWrittenBlock (blocks_in db scopes left) (blocks_in db scopes right) (in_expr scopes left w.0) (in_expr scopes right w.1)
-    in_expr scopes (CompareAll op quantifier e query) w = all_both IsWrittenBlock (blocks_in db scopes e) (block_blocks db scopes query) (in_expr scopes e w.0) (in_block scopes query w.1)
+    in_expr scopes (Compare op left right) w = all_both IsWrittenBlock (placed_blocks_in db scopes left) (placed_blocks_in db scopes right) (in_expr scopes left w.0) (in_expr scopes right w.1)
+    in_expr scopes (CompareAll op quantifier e query) w = all_both IsWrittenBlock (placed_blocks_in db scopes e) (block_blocks db scopes query) (in_expr scopes e w.0) (in_block scopes query w.1)
     in_expr scopes (IsNull negated e) w = in_expr scopes e w
     in_expr scopes (Between negated e low high) w =
-        all_both IsWrittenBlock (blocks_in db scopes e ++ blocks_in db scopes low) (blocks_in db scopes high) (all_both IsWrittenBlock (blocks_in db scopes e) (blocks_in db scopes low) (in_expr scopes e w.0) (in_expr scopes low w.1)) (in_expr scopes high w.2)
+        all_both IsWrittenBlock (placed_blocks_in db scopes e ++ placed_blocks_in db scopes low) (placed_blocks_in db scopes high) (all_both IsWrittenBlock (placed_blocks_in db scopes e) (placed_blocks_in db scopes low) (in_expr scopes e w.0) (in_expr scopes low w.1)) (in_expr scopes high w.2)
     in_expr scopes (Like negated e pattern) w = in_expr scopes e w
-    in_expr scopes (InList negated e members) w = all_both IsWrittenBlock (blocks_in db scopes e) (member_blocks db scopes members) (in_expr scopes e w.0) (in_members scopes members w.1)
-    in_expr scopes (InQuery negated e query) w = all_both IsWrittenBlock (blocks_in db scopes e) (block_blocks db scopes query) (in_expr scopes e w.0) (in_block scopes query w.1)
+    in_expr scopes (InList negated e members) w = all_both IsWrittenBlock (placed_blocks_in db scopes e) (member_blocks db scopes members) (in_expr scopes e w.0) (in_members scopes members w.1)
+    in_expr scopes (InQuery negated e query) w = all_both IsWrittenBlock (placed_blocks_in db scopes e) (block_blocks db scopes query) (in_expr scopes e w.0) (in_block scopes query w.1)
     in_expr scopes (Exists query) w = in_block scopes query w
     in_expr scopes (Scalar query) w = in_block scopes query w
     in_expr scopes (Function function distinct argument) w = in_expr scopes argument w
@@ -156,28 +156,28 @@ module _ (db : Database) where
     in_expr scopes (Numeral units digits scale) w = tt
     in_expr scopes (String codes) w = tt
 
-    in_operands : (scopes : Scopes) (others : Operands) → WrittenOperands others → AllByRecursion IsWrittenBlock (operand_blocks db scopes others)
+    in_operands : (scopes : Scopes) (others : LineOperands) → WrittenOperands others → AllByRecursion IsWrittenBlock (placed_operand_blocks db scopes others)
     in_operands scopes NoOperand w = tt
-    in_operands scopes (Operand operator e others) w = all_both IsWrittenBlock (blocks_in db scopes e) (operand_blocks db scopes others) (in_expr scopes e w.0) (in_operands scopes others w.1)
+    in_operands scopes (Operand operator e others) w = all_both IsWrittenBlock (placed_blocks_in db scopes e) (placed_operand_blocks db scopes others) (in_expr scopes e w.0) (in_operands scopes others w.1)
 
     in_members : (scopes : Scopes) (members : Members) → WrittenMembers members → AllByRecursion IsWrittenBlock (member_blocks db scopes members)
     in_members scopes NoMember w = tt
     in_members scopes (NullMember others) w = in_members scopes others w
-    in_members scopes (Member e others) w = all_both IsWrittenBlock (blocks_in db scopes e) (member_blocks db scopes others) (in_expr scopes e w.0) (in_members scopes others w.1)
+    in_members scopes (Member e others) w = all_both IsWrittenBlock (placed_blocks_in db scopes e) (member_blocks db scopes others) (in_expr scopes e w.0) (in_members scopes others w.1)
 
     in_items : (scopes : Scopes) (items : Items) → WrittenItems items → AllByRecursion IsWrittenBlock (item_blocks db scopes items)
     in_items scopes NoItem w = tt
-    in_items scopes (AddItem value alias others) w = all_both IsWrittenBlock (blocks_in db scopes value) (item_blocks db scopes others) (in_expr scopes value w.0) (in_items scopes others w.1)
+    in_items scopes (AddItem value alias others) w = all_both IsWrittenBlock (placed_blocks_in db scopes value) (item_blocks db scopes others) (in_expr scopes value w.0) (in_items scopes others w.1)
 
     in_list : (scopes : Scopes) (list : SelectList) → WrittenList list → AllByRecursion IsWrittenBlock (list_blocks db scopes list)
     in_list scopes Asterisk w = tt
     in_list scopes (Listed items) w = in_items scopes items w
 
-    in_condition : (scopes : Scopes) (c : Condition) → WrittenCondition c → AllByRecursion IsWrittenBlock (condition_blocks db scopes c)
+    in_condition : (scopes : Scopes) (c : SearchClause) → WrittenCondition c → AllByRecursion IsWrittenBlock (condition_blocks db scopes c)
     in_condition scopes Absent w = tt
     in_condition scopes (Present e) w = in_expr scopes e w
 
-    in_block : (outer : Scopes) (block : Block) → WrittenBlock block → AllByRecursion IsWrittenBlock (block_blocks db outer block)
+    in_block : (outer : Scopes) (block : QuerySpecification) → WrittenBlock block → AllByRecursion IsWrittenBlock (block_blocks db outer block)
     in_block outer (Specification distinct list sources where' groups having) w =
         let scopes : Scopes = scope_of db sources ∷ outer in (
           block_itself (Specification distinct list sources where' groups having) w,

@@ -1,16 +1,15 @@
 -- What an evaluation means, a result or exceptions; and exact arithmetic.
-use Rattle.std.specs.Prelude.{ℕ, ℤ, pos, neg_ℤ, ◌+ℤ◌, ◌*ℤ◌, ◌+◌, ◌-◌, ◌^◌, ◌==◌, max, Bool, ◌&&◌, nat_lt, nat_abs, int_div, List, [], if◌then◌else◌}
+use Rattle.std.specs.Prelude.{ℕ, ℤ, pos, neg_ℤ, ◌+ℤ◌, ◌*ℤ◌, ◌+◌, ◌-◌, ◌^◌, ◌==◌, max, Bool, ◌&&◌, nat_lt, nat_abs}
+use Rattle.std.specs.Prelude.{int_div, List, [], if◌then◌else◌}
 use Rattle.definitions.specs.Limits.{most_digits}
 use Rattle.definitions.specs.Value.{Value, Null, Number}
 
 -- the exceptions that a query can raise (ISO/IEC 9075:1992, 22.1)
 pub data Raise : Type 0 where
-  OutOfRange : Raise
-  DivisionByZero : Raise
-  Cardinality : Raise
+  OutOfRange DivisionByZero Cardinality : Raise
 
--- a result; or exceptions, one at least, of which any one may be told: how often one is listed, and where, says nothing (the standard leaves
--- the order of evaluation open, 3.3.4.4; how far it is open here is own)
+-- a result; or exceptions, one at least, of which any one may be told: how often one is listed, and where, says nothing
+-- (the standard leaves the order of evaluation open, 3.3.4.4; how far it is open here is own)
 pub data Meaning (X : Type 0) : Type 0 where
   Is : (result : X) → Meaning X
   Raises : (first : Raise) (others : List Raise) → Meaning X
@@ -36,7 +35,8 @@ abbrev pub negative : Value → Value
 negative (Number units scale) = Number (neg_ℤ units) scale
 negative v = v
 
--- the scale of a sum is the greater one, to which both operands must come in bounds (6.12, syntax rule 1; the bounds are own)
+-- the scale of a sum is the greater one, to which both operands must come in bounds (6.12, syntax rule 1; the bounds
+-- are own)
 abbrev pub plus : Value → Value → Meaning Value
 plus (Number a m) (Number b n) =
     if is_in_bounds (at_scale (max m n) a m) && is_in_bounds (at_scale (max m n) b n)
@@ -52,7 +52,8 @@ abbrev pub times : Value → Value → Meaning Value
 times (Number a m) (Number b n) = judged (a *ℤ b) (m + n)
 times _ _ = Is Null
 
--- a quotient keeps the scale of what is divided, but has 6 digits behind the point at least (6.12, syntax rule 1, leaves it open; own)
+-- a quotient keeps the scale of what is divided, but has 6 digits behind the point at least (6.12, syntax rule 1,
+-- leaves it open; own)
 abbrev pub quotient_scale : ℕ → ℕ
 quotient_scale scale = max scale 6
 

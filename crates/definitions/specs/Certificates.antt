@@ -1,5 +1,5 @@
--- The texts of plans and their certificates: how they are spelled, what can be wrong with one, what a checker tells of them, and what EXPLAIN prints.
--- To be read in this order.
+-- The texts of plans and their certificates: how they are spelled, what can be wrong with one, what a checker tells of
+-- them, and what EXPLAIN prints. To be read in this order.
 pub mod CertifiedBlock
 pub mod Text
 pub mod Form
@@ -8,4 +8,5 @@ pub mod Fault
 pub mod File
 pub mod Verdicts
 pub mod Explaining
+pub mod Writing
 pub mod Laws

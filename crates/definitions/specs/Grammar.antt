@@ -1,15 +1,20 @@
--- Which statements a list of tokens is, rule by rule. The rules of expressions and queries are given the rules of what a token opens:
--- a parenthesis, a NOT or a sign, whose own inner rules have one level less.
-use Rattle.std.specs.Prelude.{ℕ, zero, suc, ◌+◌, ◌≤◌, ◌≡◌, Bool, true, false, List, [], ◌∷◌, ◌++◌, Option, Some, None, slice_get, length, take, map, unwrap_or}
+-- Which statements a list of tokens is, rule by rule. The rules of expressions and queries are given the rules of what
+-- a token opens: a parenthesis, a NOT or a sign, whose own inner rules have one level less.
+use Rattle.std.specs.Prelude.{ℕ, zero, suc, ◌+◌, ◌≤◌, ◌≡◌, Bool, true, false, List, [], ◌∷◌, ◌++◌, Option, Some, None}
+use Rattle.std.specs.Prelude.{slice_get, length, take, map, unwrap_or}
 use Rattle.definitions.specs.Limits.{most_levels}
 use Rattle.definitions.specs.Refusal.{Refusal}
 use Rattle.definitions.specs.Refusal as refusal
 use Rattle.definitions.specs.Value.{SqlType, Smallint, Integer, Numeric, Char}
 use Rattle.definitions.specs.Word.{Word}
 use Rattle.definitions.specs.Word as w
-use Rattle.definitions.specs.Token.{Symbol, OpenParen, CloseParen, Comma, Semicolon, Point, Asterisk, Solidus, Plus, Minus, TokenKind, Reserved, Mark, Token}
+use Rattle.definitions.specs.Token.{OpenParen, CloseParen, Comma, Semicolon, Point, Asterisk, Solidus, Plus}
+use Rattle.definitions.specs.Token.{Minus, TokenKind, Reserved, Mark, Token}
 use Rattle.definitions.specs.Token as t
-use Rattle.definitions.specs.Statement.{Name, ComparisonOperator, LineOperator, Quantifier, SetFunction, ColumnReference, Source, Expr, Operands, Members, Items, SelectList, Item, Condition, Block, KeyName, Key, Select, Constraint, ColumnDefinition, Bound, Range, IndexStatistics, Statement}
+use Rattle.definitions.specs.Statement.{Name, ComparisonOperator, LineOperator, Quantifier, SetFunction}
+use Rattle.definitions.specs.Statement.{ColumnReference, Source, Expr, LineOperands, Members, Items, SelectList}
+use Rattle.definitions.specs.Statement.{DerivedColumn, SearchClause, QuerySpecification, KeyName, SortSpecification}
+use Rattle.definitions.specs.Statement.{Select, Constraint, ColumnDefinition, Bound, Range, GivenStatistics, Statement}
 use Rattle.definitions.specs.Statement as s
 use Rattle.definitions.specs.Rule.{Rule, At, Never, Gives, Past, Sees, If, Reads, Then, Repeats}
 
@@ -70,10 +75,7 @@ StringAt = Reads string_in (λ codes. Gives codes) Never
 
 -- the words of one type (6.1)
 pub data TypeWord : Type 0 where
-  SmallintWord : TypeWord
-  IntegerWord : TypeWord
-  NumericWord : TypeWord
-  CharWord : TypeWord
+  SmallintWord IntegerWord NumericWord CharWord : TypeWord
 
 abbrev pub type_word : Option TokenKind → Option TypeWord
 type_word (Some (Reserved w.Smallint)) = Some SmallintWord
@@ -119,13 +121,17 @@ ConstraintAt =
 
 -- name type [constraint] (11.4)
 unfoldable pub ColumnAt : Rule ColumnDefinition
-ColumnAt = Then NameAt (λ n. Then TypeAt (λ ty. Then ConstraintAt (λ c. Gives (record { name = n; type = ty; constraint = c }))))
+ColumnAt =
+    Then NameAt (λ n. Then TypeAt (λ ty. Then ConstraintAt (λ c.
+    Gives (record { name = n; type = ty; constraint = c }))))
 
 -- ---- expressions
 
 -- name ["." name] (6.4)
 unfoldable pub ReferenceAt : Rule ColumnReference
-ReferenceAt = Then NameAt (λ n. If (Mark Point) (Then NameAt (λ m. Gives (record { qualifier = Some n; name = m }))) (Gives (record { qualifier = None; name = n })))
+ReferenceAt =
+    Then NameAt (λ n. If (Mark Point) (Then NameAt (λ m. Gives (record { qualifier = Some n; name = m })))
+    (Gives (record { qualifier = None; name = n })))
 
 -- the comparison that a token stands for (8.2)
 abbrev pub op_in : Option TokenKind → Option ComparisonOperator
@@ -161,10 +167,7 @@ function_in _ = None
 
 -- the four kinds of line, and the operators of each (8.12, 6.12)
 pub data LineKind : Type 0 where
-  Disjunction : LineKind
-  Conjunction : LineKind
-  Sum : LineKind
-  Product : LineKind
+  Disjunction Conjunction Sum Product : LineKind
 
 abbrev pub operator_in : LineKind → Option TokenKind → Option LineOperator
 operator_in Disjunction (Some (Reserved w.Or)) = Some s.Or
@@ -175,38 +178,41 @@ operator_in Product (Some (Mark Asterisk)) = Some s.Times
 operator_in Product (Some (Mark Solidus)) = Some s.Divided
 operator_in _ _ = None
 
-abbrev pub operands : List (LineOperator × Expr) → Operands
+abbrev pub operands : List (LineOperator × Expr) → LineOperands
 operands [] = s.NoOperand
 operands (x ∷ xs) = s.Operand x.0 x.1 (operands xs)
 
 -- one operand alone is no line
-abbrev pub line : Expr → Operands → Expr
-line first s.NoOperand = first
-line first (s.Operand operator operand others) = s.Line first (s.Operand operator operand others)
+abbrev pub operator_line : Expr → LineOperands → Expr
+operator_line first s.NoOperand = first
+operator_line first (s.Operand operator operand others) = s.Line first (s.Operand operator operand others)
 
 -- operand { operator operand }
 abbrev pub LineOf : LineKind → Rule Expr → Rule Expr
-LineOf kind operand = Then operand (λ first. Then (Repeats (operator_in kind) (λ operator. Then operand (λ e. Gives (operator, e)))) (λ others. Gives (line first (operands others))))
+LineOf kind operand =
+    Then operand (λ first.
+    Then (Repeats (operator_in kind) (λ operator. Then operand (λ e. Gives (operator, e))))
+    (λ others. Gives (operator_line first (operands others))))
 
--- the rules of what stands behind a token that opens a level: NOT, a sign, and the parenthesis of an expression, a subquery,
--- a set function and IN
-pub record Inner : Type 1 where
+-- the rules of what stands behind a token that opens a level: NOT, a sign, and the parenthesis of an expression, a
+-- subquery, a set function and IN
+pub record InnerRules : Type 1 where
   pub negation : Rule Expr
   pub sign : Rule Expr
   pub parenthesis : Rule Expr
-  pub subquery : Rule Block
+  pub subquery : Rule QuerySpecification
   pub argument : SetFunction → Rule Expr
   pub in_list : Bool → Expr → Rule Expr
 
 -- EXISTS "(" subquery | "(" parenthesis | ref (6.4, 6.11, 7.11, 8.9)
-unfoldable pub OtherPrimaryOf : Inner → Rule Expr
+unfoldable pub OtherPrimaryOf : InnerRules → Rule Expr
 OtherPrimaryOf inner =
     If (Reserved w.Exists) (Past (Mark OpenParen) (Then inner.subquery (λ q. Gives (s.Exists q))))
     (If (Mark OpenParen) inner.parenthesis
     (Then ReferenceAt (λ r. Gives (s.Column r))))
 
 -- number | string | function "(" argument | another primary (6.2, 6.3, 6.5)
-unfoldable pub PrimaryOf : Inner → Rule Expr
+unfoldable pub PrimaryOf : InnerRules → Rule Expr
 PrimaryOf inner =
     Reads numeral_in (λ n. Gives (s.Numeral n.0 n.1 (unwrap_or n.2 0)))
     (Reads string_in (λ codes. Gives (s.String codes))
@@ -214,20 +220,21 @@ PrimaryOf inner =
     (OtherPrimaryOf inner)))
 
 -- ("+" | "-") sign | primary (6.12)
-unfoldable pub SignOf : Inner → Rule Expr
+unfoldable pub SignOf : InnerRules → Rule Expr
 SignOf inner = Reads sign_in (λ minus. Then inner.sign (λ e. Gives (s.Signed minus e))) (PrimaryOf inner)
 
 -- sign { ("*" | "/") sign } and product { ("+" | "-") product } (6.12)
-unfoldable pub ProductOf : Inner → Rule Expr
+unfoldable pub ProductOf : InnerRules → Rule Expr
 ProductOf inner = LineOf Product (SignOf inner)
 
-unfoldable pub SumOf : Inner → Rule Expr
+unfoldable pub SumOf : InnerRules → Rule Expr
 SumOf inner = LineOf Sum (ProductOf inner)
 
 -- behind a comparison operator: (ALL | ANY | SOME) "(" subquery (8.7) | sum (8.2)
-unfoldable pub ComparedOf : Inner → ComparisonOperator → Expr → Rule Expr
+unfoldable pub ComparedOf : InnerRules → ComparisonOperator → Expr → Rule Expr
 ComparedOf inner op value =
-    Reads quantifier_in (λ quantifier. Past (Mark OpenParen) (Then inner.subquery (λ q. Gives (s.CompareAll op quantifier value q))))
+    Reads quantifier_in (λ quantifier. Past (Mark OpenParen)
+    (Then inner.subquery (λ q. Gives (s.CompareAll op quantifier value q))))
     (Then (SumOf inner) (λ e. Gives (s.Compare op value e)))
 
 -- behind IS: [NOT] NULL (8.6)
@@ -235,8 +242,10 @@ unfoldable pub NullOf : Expr → Rule Expr
 NullOf value = Then (Maybe (Reserved w.Not)) (λ negated. Past (Reserved w.Null) (Gives (s.IsNull negated value)))
 
 -- behind BETWEEN: sum AND sum (8.3)
-unfoldable pub BetweenOf : Inner → Bool → Expr → Rule Expr
-BetweenOf inner negated value = Then (SumOf inner) (λ low. Past (Reserved w.And) (Then (SumOf inner) (λ high. Gives (s.Between negated value low high))))
+unfoldable pub BetweenOf : InnerRules → Bool → Expr → Rule Expr
+BetweenOf inner negated value =
+    Then (SumOf inner) (λ low. Past (Reserved w.And)
+    (Then (SumOf inner) (λ high. Gives (s.Between negated value low high))))
 
 -- behind LIKE: string (8.5)
 unfoldable pub LikeOf : Bool → Expr → Rule Expr
@@ -248,7 +257,7 @@ alone true value = Never
 alone false value = Gives value
 
 -- BETWEEN .. | LIKE .. | IN "(" in_list; or, but not behind NOT, nothing (8.3 to 8.5)
-unfoldable pub PredicateOf : Inner → Bool → Expr → Rule Expr
+unfoldable pub PredicateOf : InnerRules → Bool → Expr → Rule Expr
 PredicateOf inner negated value =
     If (Reserved w.Between) (BetweenOf inner negated value)
     (If (Reserved w.Like) (LikeOf negated value)
@@ -256,7 +265,7 @@ PredicateOf inner negated value =
     (alone negated value)))
 
 -- behind a value: [op .. | IS .. | [NOT] (BETWEEN .. | LIKE .. | IN ..)] (8.1)
-unfoldable pub TailOf : Inner → Expr → Rule Expr
+unfoldable pub TailOf : InnerRules → Expr → Rule Expr
 TailOf inner value =
     Reads op_in (λ op. ComparedOf inner op value)
     (If (Reserved w.Is) (NullOf value)
@@ -264,18 +273,18 @@ TailOf inner value =
     (PredicateOf inner false value)))
 
 -- sum [tail] (8.1)
-unfoldable pub TestOf : Inner → Rule Expr
+unfoldable pub TestOf : InnerRules → Rule Expr
 TestOf inner = Then (SumOf inner) (λ value. TailOf inner value)
 
 -- NOT negation | test (8.12)
-unfoldable pub NegationOf : Inner → Rule Expr
+unfoldable pub NegationOf : InnerRules → Rule Expr
 NegationOf inner = If (Reserved w.Not) (Then inner.negation (λ e. Gives (s.Not e))) (TestOf inner)
 
 -- negation { AND negation } and conjunction { OR conjunction } (8.12)
-unfoldable pub ConjunctionOf : Inner → Rule Expr
+unfoldable pub ConjunctionOf : InnerRules → Rule Expr
 ConjunctionOf inner = LineOf Conjunction (NegationOf inner)
 
-unfoldable pub ExprOf : Inner → Rule Expr
+unfoldable pub ExprOf : InnerRules → Rule Expr
 ExprOf inner = LineOf Disjunction (ConjunctionOf inner)
 
 -- ---- query blocks
@@ -285,31 +294,37 @@ unfoldable pub DistinctAt : Rule Bool
 DistinctAt = If (Reserved w.All) (Gives false) (Maybe (Reserved w.Distinct))
 
 -- expr [AS name] (7.9)
-unfoldable pub ItemOf : Inner → Rule Item
-ItemOf inner = Then (ExprOf inner) (λ e. Then (Optional (Reserved w.As) NameAt) (λ alias. Gives (record { value = e; alias = alias })))
+unfoldable pub ItemOf : InnerRules → Rule DerivedColumn
+ItemOf inner =
+    Then (ExprOf inner) (λ e. Then (Optional (Reserved w.As) NameAt) (λ alias.
+    Gives (record { value = e; alias = alias })))
 
-abbrev pub items : List Item → Items
+abbrev pub items : List DerivedColumn → Items
 items [] = s.NoItem
 items (x ∷ xs) = s.AddItem x.value x.alias (items xs)
 
 -- "*" | item { "," item } (7.9)
-unfoldable pub SelectListOf : Inner → Rule SelectList
-SelectListOf inner = If (Mark Asterisk) (Gives s.Asterisk) (Then (ListOf (ItemOf inner)) (λ xs. Gives (s.Listed (items xs))))
+unfoldable pub SelectListOf : InnerRules → Rule SelectList
+SelectListOf inner =
+    If (Mark Asterisk) (Gives s.Asterisk) (Then (ListOf (ItemOf inner)) (λ xs. Gives (s.Listed (items xs))))
 
 -- name [name] (6.3)
 unfoldable pub SourceAt : Rule Source
-SourceAt = Then NameAt (λ n. Reads name_in (λ c. Gives (record { table = n; correlation = Some c })) (Gives (record { table = n; correlation = None })))
+SourceAt =
+    Then NameAt (λ n. Reads name_in (λ c. Gives (record { table = n; correlation = Some c }))
+    (Gives (record { table = n; correlation = None })))
 
 -- [word expr], the word being WHERE (7.6) or HAVING (7.8)
-unfoldable pub ConditionOf : Inner → Word → Rule Condition
+unfoldable pub ConditionOf : InnerRules → Word → Rule SearchClause
 ConditionOf inner word = If (Reserved word) (Then (ExprOf inner) (λ e. Gives (s.Present e))) (Gives s.Absent)
 
 -- [GROUP BY ref { "," ref }] (7.7)
 unfoldable pub GroupsAt : Rule (List ColumnReference)
 GroupsAt = If (Reserved w.Group) (Past (Reserved w.By) (ListOf ReferenceAt)) (Gives [])
 
--- SELECT [ALL | DISTINCT] list FROM source { "," source } [WHERE expr] [GROUP BY ref { "," ref }] [HAVING expr] (7.9, 7.3, 7.4, 7.6 to 7.8)
-unfoldable pub BlockOf : Inner → Rule Block
+-- SELECT [ALL | DISTINCT] list FROM source { "," source } [WHERE expr] [GROUP BY ref { "," ref }] [HAVING expr] (7.9,
+-- 7.3, 7.4, 7.6 to 7.8)
+unfoldable pub BlockOf : InnerRules → Rule QuerySpecification
 BlockOf inner =
     Past (Reserved w.Select) (Then DistinctAt (λ distinct. Then (SelectListOf inner) (λ list.
     Past (Reserved w.From) (Then (ListOf SourceAt) (λ sources.
@@ -321,39 +336,49 @@ BlockOf inner =
 -- ---- what stands behind an opening parenthesis
 
 -- block ")" (7.11)
-unfoldable pub SubqueryOf : Inner → Rule Block
+unfoldable pub SubqueryOf : InnerRules → Rule QuerySpecification
 SubqueryOf inner = Closed (BlockOf inner)
 
 -- block ")" | expr ")" (6.11, 7.11)
-unfoldable pub ParenthesisOf : Inner → Rule Expr
-ParenthesisOf inner = Sees (Reserved w.Select) (Then (SubqueryOf inner) (λ q. Gives (s.Scalar q))) (Closed (ExprOf inner))
+unfoldable pub ParenthesisOf : InnerRules → Rule Expr
+ParenthesisOf inner =
+    Sees (Reserved w.Select) (Then (SubqueryOf inner) (λ q. Gives (s.Scalar q))) (Closed (ExprOf inner))
 
 -- [ALL | DISTINCT] expr ")", and for COUNT also "*" ")" (6.5)
-abbrev pub DistinctOf : Inner → SetFunction → Rule Expr
+abbrev pub DistinctOf : InnerRules → SetFunction → Rule Expr
 DistinctOf inner f = Then DistinctAt (λ distinct. Then (Closed (ExprOf inner)) (λ e. Gives (s.Function f distinct e)))
 
-unfoldable pub ArgumentOf : Inner → SetFunction → Rule Expr
+unfoldable pub ArgumentOf : InnerRules → SetFunction → Rule Expr
 ArgumentOf inner s.Count = If (Mark Asterisk) (Past (Mark CloseParen) (Gives s.CountRows)) (DistinctOf inner s.Count)
 ArgumentOf inner f = DistinctOf inner f
 
 -- sum | NULL (8.4; NULL is own)
-unfoldable pub MemberOf : Inner → Rule (Option Expr)
+unfoldable pub MemberOf : InnerRules → Rule (Option Expr)
 MemberOf inner = If (Reserved w.Null) (Gives None) (Then (SumOf inner) (λ e. Gives (Some e)))
 
-abbrev pub members : List (Option Expr) → Members
-members [] = s.NoMember
-members (None ∷ xs) = s.NullMember (members xs)
-members (Some e ∷ xs) = s.Member e (members xs)
+abbrev pub member_list : List (Option Expr) → Members
+member_list [] = s.NoMember
+member_list (None ∷ xs) = s.NullMember (member_list xs)
+member_list (Some e ∷ xs) = s.Member e (member_list xs)
 
 -- block ")" | member { "," member } ")" (8.4)
-unfoldable pub InListOf : Inner → Bool → Expr → Rule Expr
+unfoldable pub InListOf : InnerRules → Bool → Expr → Rule Expr
 InListOf inner negated value =
     Sees (Reserved w.Select) (Then (SubqueryOf inner) (λ q. Gives (s.InQuery negated value q)))
-    (Then (Closed (ListOf (MemberOf inner))) (λ xs. Gives (s.InList negated value (members xs))))
+    (Then (Closed (ListOf (MemberOf inner))) (λ xs. Gives (s.InList negated value (member_list xs))))
 
--- what is within so many levels: nothing within none; within one more, the rules whose own inner ones have one less (own)
-abbrev pub within : ℕ → Inner
-within zero = record { negation = Never; sign = Never; parenthesis = Never; subquery = Never; argument = λ f. Never; in_list = λ negated value. Never }
+-- what is within so many levels: nothing within none; within one more, the rules whose own inner ones have one less
+-- (own)
+abbrev pub within : ℕ → InnerRules
+within zero =
+    record {
+      negation = Never;
+      sign = Never;
+      parenthesis = Never;
+      subquery = Never;
+      argument = λ f. Never;
+      in_list = λ negated value. Never;
+    }
 within (suc levels) = record {
   negation = NegationOf (within levels);
   sign = SignOf (within levels);
@@ -373,14 +398,14 @@ KeyNameAt = Reads name_in (λ n. Gives (s.ByName n)) (Then CountAt (λ n. Gives 
 unfoldable pub DirectionAt : Rule Bool
 DirectionAt = If (Reserved w.Asc) (Gives false) (Maybe (Reserved w.Desc))
 
-unfoldable pub KeyAt : Rule Key
+unfoldable pub KeyAt : Rule SortSpecification
 KeyAt = Then KeyNameAt (λ k. Then DirectionAt (λ d. Gives (record { named = k; descending = d })))
 
 -- block [ORDER BY key { "," key }] (13.1)
-unfoldable pub OrderAt : Rule (List Key)
+unfoldable pub OrderAt : Rule (List SortSpecification)
 OrderAt = If (Reserved w.Order) (Past (Reserved w.By) (ListOf KeyAt)) (Gives [])
 
-unfoldable pub SelectOf : Inner → Rule Select
+unfoldable pub SelectOf : InnerRules → Rule Select
 SelectOf inner = Then (BlockOf inner) (λ b. Then OrderAt (λ o. Gives (record { block = b; order = o })))
 
 -- "(" name { "," name } ")" (own)
@@ -393,7 +418,10 @@ TableAt = Then NameAt (λ n. Then (Enclosed (ListOf ColumnAt)) (λ columns. Give
 
 -- [UNIQUE] INDEX ON name names (own)
 unfoldable pub IndexAt : Rule Statement
-IndexAt = Then (Maybe (Reserved w.Unique)) (λ unique. Past (Reserved w.Index) (Past (Reserved w.On) (Then NameAt (λ n. Then NamesAt (λ columns. Gives (s.CreateIndex unique n columns))))))
+IndexAt =
+    Then (Maybe (Reserved w.Unique))
+    (λ unique. Past (Reserved w.Index)
+    (Past (Reserved w.On) (Then NameAt (λ n. Then NamesAt (λ columns. Gives (s.CreateIndex unique n columns))))))
 
 -- behind CREATE: TABLE .. | .. INDEX ..
 unfoldable pub CreateAt : Rule Statement
@@ -405,17 +433,20 @@ LoadAt = Then NameAt (λ n. Past (Reserved w.From) (Then StringAt (λ file. Give
 
 -- ["+" | "-"] number (5.3)
 abbrev pub UnsignedAt : Bool → Rule Bound
-UnsignedAt minus = Reads numeral_in (λ n. Gives (record { minus = minus; units = n.0; digits = n.1; scale = unwrap_or n.2 0 })) Never
+UnsignedAt minus =
+    Reads numeral_in (λ n. Gives (record { minus = minus; units = n.0; digits = n.1; scale = unwrap_or n.2 0 })) Never
 
 unfoldable pub BoundAt : Rule Bound
 BoundAt = Reads sign_in (λ minus. UnsignedAt minus) (UnsignedAt false)
 
 -- [LOW bound HIGH bound] (own)
 unfoldable pub RangeAt : Rule (Option Range)
-RangeAt = Optional (Reserved w.Low) (Then BoundAt (λ low. Past (Reserved w.High) (Then BoundAt (λ high. Gives (record { low = low; high = high })))))
+RangeAt =
+    Optional (Reserved w.Low)
+    (Then BoundAt (λ low. Past (Reserved w.High) (Then BoundAt (λ high. Gives (record { low = low; high = high })))))
 
 -- KEYS count PAGES count [CLUSTERED] [LOW bound HIGH bound] (own)
-unfoldable pub StatisticsAt : Rule IndexStatistics
+unfoldable pub StatisticsAt : Rule GivenStatistics
 StatisticsAt =
     Past (Reserved w.Keys) (Then CountAt (λ keys. Past (Reserved w.Pages) (Then CountAt (λ pages.
     Then (Maybe (Reserved w.Clustered)) (λ clustered. Then RangeAt (λ range.
@@ -425,11 +456,12 @@ StatisticsAt =
 unfoldable pub SetAt : Rule Statement
 SetAt =
     Past (Reserved w.Statistics) (Then NameAt (λ n.
-    If (Reserved w.Rows) (Then CountAt (λ rows. Past (Reserved w.Pages) (Then CountAt (λ pages. Gives (s.SetTableStatistics n rows pages)))))
+    If (Reserved w.Rows) (Then CountAt
+    (λ rows. Past (Reserved w.Pages) (Then CountAt (λ pages. Gives (s.SetTableStatistics n rows pages)))))
     (Then NamesAt (λ columns. Then StatisticsAt (λ statistics. Gives (s.SetIndexStatistics n columns statistics))))))
 
 -- CREATE .. | LOAD .. | SET .. | EXPLAIN query (own) | query (13.1)
-unfoldable pub StatementOf : Inner → Rule Statement
+unfoldable pub StatementOf : InnerRules → Rule Statement
 StatementOf inner =
     If (Reserved w.Create) CreateAt
     (If (Reserved w.Load) LoadAt
@@ -440,7 +472,9 @@ StatementOf inner =
 -- { statement ";" }, up to the end of the tokens
 pub data ScriptAt (levels : ℕ) (tokens : List TokenKind) : ℕ → List Statement → Type 0 where
   end : (at : ℕ) → at ≡ length tokens → ScriptAt levels tokens at []
-  next : (at mid : ℕ) (statement : Statement) (rest : List Statement) → StatementOf (within levels) tokens at mid statement → At tokens mid (Mark Semicolon) → ScriptAt levels tokens (mid + 1) rest → ScriptAt levels tokens at (statement ∷ rest)
+  next : (at mid : ℕ) (statement : Statement) (rest : List Statement)
+      → StatementOf (within levels) tokens at mid statement → At tokens mid (Mark Semicolon)
+      → ScriptAt levels tokens (mid + 1) rest → ScriptAt levels tokens at (statement ∷ rest)
 
 -- the statements that tokens derive
 abbrev pub Derives : List TokenKind → List Statement → Type 0
@@ -450,7 +484,8 @@ Derives tokens statements = ScriptAt most_levels tokens 0 statements
 
 -- no script within so many levels begins with these tokens
 abbrev pub BeginsNone : ℕ → List TokenKind → Type 0
-BeginsNone levels tokens = (more : List TokenKind) (statements : List Statement) → ScriptAt levels (tokens ++ more) 0 statements → ⊥
+BeginsNone levels tokens =
+    (more : List TokenKind) (statements : List Statement) → ScriptAt levels (tokens ++ more) 0 statements → ⊥
 
 -- how many of some tokens can open a level: parentheses, signs and NOTs
 abbrev pub opens : TokenKind → ℕ
@@ -467,14 +502,18 @@ openers (k ∷ ks) = opens k + openers ks
 abbrev pub kinds : List Token → List TokenKind
 kinds tokens = map (λ (t : Token). t.kind) tokens
 
--- what is wrong where some tokens end with the one that is told: no script of any depth begins with them; or none of at most 64 levels does,
--- though 65 or more of them can open one
+-- what is wrong where some tokens end with the one that is told: no script of any depth begins with them; or none of at
+-- most 64 levels does, though 65 or more of them can open one
 abbrev pub IsWrong : Refusal → List TokenKind → Type 0
 IsWrong refusal.Unexpected front = (levels : ℕ) → BeginsNone levels front
 IsWrong refusal.TooDeep front = (most_levels + 1 ≤ openers front) × BeginsNone most_levels front
 IsWrong _ front = ⊥
 
--- a syntax fault at a byte of a text of so many: it stands at a token; or at the text's end, where the tokens are no script of any depth
+-- a syntax fault at a byte of a text of so many: it stands at a token; or at the text's end, where the tokens are no
+-- script of any depth
 pub data SyntaxFails (tokens : List Token) (size : ℕ) : Refusal → ℕ → Type 0 where
-  at_token : (r : Refusal) (at place : ℕ) (token : Token) → slice_get tokens place ≡ Some token → at ≡ token.at → IsWrong r (take (place + 1) (kinds tokens)) → SyntaxFails tokens size r at
-  at_end : (r : Refusal) (at : ℕ) → r ≡ refusal.Unexpected → at ≡ size → ((levels : ℕ) (statements : List Statement) → ScriptAt levels (kinds tokens) 0 statements → ⊥) → SyntaxFails tokens size r at
+  at_token : (r : Refusal) (at place : ℕ) (token : Token) → slice_get tokens place ≡ Some token → at ≡ token.at
+      → IsWrong r (take (place + 1) (kinds tokens)) → SyntaxFails tokens size r at
+  at_end : (r : Refusal) (at : ℕ) → r ≡ refusal.Unexpected → at ≡ size
+      → ((levels : ℕ) (statements : List Statement) → ScriptAt levels (kinds tokens) 0 statements → ⊥)
+      → SyntaxFails tokens size r at

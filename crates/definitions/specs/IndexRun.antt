@@ -1,6 +1,7 @@
--- The rows of a table as an index gives them (own; Selinger et al. 1979, section 3: an index scan returns rows in key value order,
--- and may have a start and a stop key).
-use Rattle.std.specs.Prelude.{ℕ, ◌+◌, Bool, true, false, not, ◌&&◌, List, [], ◌∷◌, filter, map, ⊤, IsTrue, IsPermutation, Option, option_map, unwrap_or}
+-- The rows of a table as an index gives them (own; Selinger et al. 1979, section 3: an index scan returns rows in key
+-- value order, and may have a start and a stop key).
+use Rattle.std.specs.Prelude.{ℕ, ◌+◌, Bool, true, false, not, ◌&&◌, List, [], ◌∷◌, filter, map, ⊤, IsTrue}
+use Rattle.std.specs.Prelude.{IsPermutation, Option, option_map, unwrap_or}
 use Rattle.std.specs.List.{AllByRecursion}
 use Rattle.std.specs.Ordering.{nat_cmp, ordering_then, is_eq, is_lt, is_gt, is_le, is_ge}
 use Rattle.std.specs.declared.cmp.Ordering.{Ordering}
@@ -29,8 +30,8 @@ AreRising (entry ∷ entries) = AllByRecursion (λ other. IsTrue (comes_before e
 abbrev pub IsRun : List Key → List Entry → Type 0
 IsRun keys run = IsPermutation (entries_from 0 keys) run × AreRising run
 
-abbrev pub rows_of : List Entry → List ℕ
-rows_of = map (λ (e : Entry). e.row)
+abbrev pub entry_rows : List Entry → List ℕ
+entry_rows = map (λ (e : Entry). e.row)
 
 abbrev pub keys_of : List Entry → List Key
 keys_of = map (λ (e : Entry). e.key)

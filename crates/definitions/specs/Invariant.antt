@@ -1,9 +1,12 @@
 -- What holds of every table, and every database, that statements make (the limits are own).
-use Rattle.std.specs.Prelude.{ℕ, ◌<◌, ◌≤◌, ◌≡◌, ◌≤ℤ◌, ⊤, List, [], ◌∷◌, Option, Some, None, length, map, count_by, slice_get, option_map, true, IsTrue, IsFalse, not, ◌||◌, bytes_eq}
+use Rattle.std.specs.Prelude.{ℕ, ◌<◌, ◌≤◌, ◌≡◌, ◌≤ℤ◌, ⊤, List, [], ◌∷◌, Option, Some, None, length, map, count_by}
+use Rattle.std.specs.Prelude.{slice_get, option_map, true, IsTrue, IsFalse, not, ◌||◌, bytes_eq}
 use Rattle.std.specs.List.{AllByRecursion, AllZip}
-use Rattle.definitions.specs.Limits.{most_tables, most_columns, most_rows, most_indexes, most_index_columns, greatest_statistic}
+use Rattle.definitions.specs.Limits.{most_tables, most_columns, most_rows, most_indexes, most_index_columns}
+use Rattle.definitions.specs.Limits.{greatest_statistic}
 use Rattle.definitions.specs.Value.{SqlType, IsType, IsInRange, is_null}
-use Rattle.definitions.specs.Table.{Column, Row, KeyRange, Index, Table, Database, may_be_null, is_primary, IsRow, AreDistinct, column_names}
+use Rattle.definitions.specs.Table.{Column, Row, KeyRange, Index, Table, Database, may_be_null, is_primary, IsRow}
+use Rattle.definitions.specs.Table.{AreDistinct, column_names}
 use Rattle.definitions.specs.Key.{key_of, AreUnique}
 
 -- a count of rows or keys, and one of pages, of which there is one at least
@@ -41,7 +44,8 @@ pub record IsIndex (t : Table) (i : Index) : Type 0 where
 -- no two indexes are on one list of columns
 abbrev pub AreApart : List Index → Type 0
 AreApart [] = ⊤
-AreApart (i ∷ indexes) = AllByRecursion (λ (j : Index). IsFalse (bytes_eq i.columns j.columns)) indexes × AreApart indexes
+AreApart (i ∷ indexes) =
+    AllByRecursion (λ (j : Index). IsFalse (bytes_eq i.columns j.columns)) indexes × AreApart indexes
 
 pub record IsTable (t : Table) : Type 0 where
   pub columns : length t.columns ≤ most_columns

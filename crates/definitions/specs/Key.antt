@@ -17,7 +17,8 @@ value_at row column = slice_index_or row column Null
 abbrev pub key_of : List ℕ → Row → Key
 key_of columns row = map (value_at row) columns
 
--- keys go by the ranks of their values in turn; keys of one index are of one length (ISO/IEC 9075:1992, 13.1, general rule 2)
+-- keys go by the ranks of their values in turn; keys of one index are of one length (ISO/IEC 9075:1992, 13.1, general
+-- rule 2)
 abbrev pub key_rank : Key → Key → Ordering
 key_rank (a ∷ as') (b ∷ bs) = ordering_then (rank a b) (key_rank as' bs)
 key_rank _ _ = Equal

@@ -8,14 +8,16 @@ use Rattle.definitions.specs.Value.{Value, Null, SqlType, compare, rank, AreNotD
 use Rattle.definitions.specs.Refusal.{FieldError}
 use Rattle.definitions.specs.Loading.{Record, FieldLoads, AreFileRecords}
 use Rattle.definitions.specs.Token.{Token, TokenKind}
-use Rattle.definitions.specs.Lexing.{LexFault, Reads, quoted}
+use Rattle.definitions.specs.Lexing.{LexFault, ReadsAs, quoted}
 use Rattle.definitions.specs.Statement.{Statement}
 use Rattle.definitions.specs.Grammar.{Derives}
 use Rattle.definitions.specs.Printing.{doubled}
 
 -- every text has its tokens or a lexical fault, and only one of these
 abbrev pub EachTextReadsOnce : Type 0
-EachTextReadsOnce = (text : List ℕ) → (outcome : Result (List Token) LexFault) × Reads text outcome × ((other : Result (List Token) LexFault) → Reads text other → other ≡ outcome)
+EachTextReadsOnce =
+    (text : List ℕ) → (outcome : Result (List Token) LexFault) × ReadsAs text outcome
+    × ((other : Result (List Token) LexFault) → ReadsAs text other → other ≡ outcome)
 
 -- tokens derive at most one list of statements
 abbrev pub DerivesAtMostOne : Type 0
@@ -23,18 +25,21 @@ DerivesAtMostOne = (tokens : List TokenKind) (a b : List Statement) → Derives 
 
 -- the spelling of a text literal reads as that text
 abbrev pub QuotedReadsBack : Type 0
-QuotedReadsBack = (text : List ℕ) → quoted false (doubled text ++ quote ∷ []) ≡ Some (record { closed = true; codes = text })
+QuotedReadsBack =
+    (text : List ℕ) → quoted false (doubled text ++ quote ∷ []) ≡ Some (record { closed = true; codes = text })
 
 -- a field loads as at most one value or error
 abbrev pub FieldLoadsOnce : Type 0
-FieldLoadsOnce = (type : SqlType) (field : List ℕ) (a b : Result Value FieldError) → FieldLoads type field a → FieldLoads type field b → a ≡ b
+FieldLoadsOnce =
+    (type : SqlType) (field : List ℕ) (a b : Result Value FieldError) → FieldLoads type field a
+    → FieldLoads type field b → a ≡ b
 
 -- a file has at most one list of records
 abbrev pub FileReadsOnce : Type 0
 FileReadsOnce = (bytes : List ℕ) (a b : List Record) → AreFileRecords bytes a → AreFileRecords bytes b → a ≡ b
 
--- each value ranks as equal to itself; two the other way round rank the reverse; what is less than a lesser value is less; and values of
--- equal rank stand alike to every other
+-- each value ranks as equal to itself; two the other way round rank the reverse; what is less than a lesser value is
+-- less; and values of equal rank stand alike to every other
 abbrev pub RankIsTotalOrder : Type 0
 RankIsTotalOrder = ((v : Value) → rank v v ≡ Equal) × IsTotalOrder rank
 

@@ -42,8 +42,8 @@ most_index_columns = 4
 abbrev pub greatest_statistic : ℕ
 greatest_statistic = 10 ^ 18
 
--- of a query: its blocks, and of a block the tables, the items of its select list, the conjuncts of WHERE, the members of an IN list, the
--- columns of GROUP BY, the keys of ORDER BY, and the scale of a number
+-- of a query: its blocks, and of a block the tables, the items of its select list, the conjuncts of WHERE, the members
+-- of an IN list, the columns of GROUP BY, the keys of ORDER BY, and the scale of a number
 abbrev pub most_blocks : ℕ
 most_blocks = 32
 

@@ -3,34 +3,14 @@ use Rattle.std.specs.Prelude.{ℕ, List, codes}
 
 -- what is wrong with a field of a file
 pub data FieldError : Type 0 where
-  BadText : FieldError
-  OutOfRange : FieldError
-  TooLong : FieldError
+  BadText OutOfRange TooLong : FieldError
 
 -- first those of a script's text, then those of a statement
 pub data Refusal : Type 0 where
-  StrayCharacter : Refusal
-  OpenString : Refusal
-  LongLiteral : Refusal
-  LongName : Refusal
-  Unexpected : Refusal
-  TooDeep : Refusal
-  NameTaken : Refusal
-  NotFound : Refusal
-  OverLimit : Refusal
-  FieldCount : Refusal
+  StrayCharacter OpenString LongLiteral LongName Unexpected TooDeep NameTaken NotFound OverLimit FieldCount : Refusal
   Field : FieldError → Refusal
-  NullOrRepeated : Refusal
-  ScaleTooGreat : Refusal
-  UnknownColumn : Refusal
-  MixedKinds : Refusal
-  MisplacedCondition : Refusal
-  MisplacedFunction : Refusal
-  UngroupedColumn : Refusal
-  UnknownKey : Refusal
-  ManyTables : Refusal
-  OverQueryLimit : Refusal
-  NoFile : Refusal
+  NullOrRepeated ScaleTooGreat UnknownColumn MixedKinds MisplacedCondition MisplacedFunction UngroupedColumn : Refusal
+  UnknownKey ManyTables OverQueryLimit NoFile : Refusal
 
 -- the label that is printed (own)
 abbrev pub label : Refusal → List ℕ
@@ -57,8 +37,8 @@ label ManyTables = codes "E20"
 label OverQueryLimit = codes "E21"
 label NoFile = codes "E22"
 
--- the SQLSTATE: 42000 syntax error or access rule violation, 22003 numeric value out of range, 22001 string data, right truncation,
--- 23000 integrity constraint violation (ISO/IEC 9075:1992, 22.1)
+-- the SQLSTATE: 42000 syntax error or access rule violation, 22003 numeric value out of range, 22001 string data, right
+-- truncation, 23000 integrity constraint violation (ISO/IEC 9075:1992, 22.1)
 abbrev pub field_state : FieldError → List ℕ
 field_state BadText = codes "42000"
 field_state OutOfRange = codes "22003"

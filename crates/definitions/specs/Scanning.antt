@@ -1,5 +1,7 @@
--- What a scan of a column answers: the rows in which a comparison is true, and those in which it is unknown, as words of bits.
-use Rattle.std.specs.Prelude.{ℕ, ◌+◌, ◌*◌, Bool, false, List, [], ◌∷◌, if◌then◌else◌, map, take, drop, unwrap_or, is_none}
+-- What a scan of a column answers: the rows in which a comparison is true, and those in which it is unknown, as words
+-- of bits.
+use Rattle.std.specs.Prelude.{ℕ, ◌+◌, ◌*◌, Bool, false, List, [], ◌∷◌, if◌then◌else◌, map, take, drop, unwrap_or}
+use Rattle.std.specs.Prelude.{is_none}
 use Rattle.definitions.specs.Value.{Value}
 use Rattle.definitions.specs.Statement.{ComparisonOperator}
 use Rattle.definitions.specs.Truth.{truth_of}

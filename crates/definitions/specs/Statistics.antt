@@ -1,5 +1,7 @@
--- The statistics of a table and of an index, counted over the rows (own, after Selinger et al. 1979, section 4, whose names stand beside them).
-use Rattle.std.specs.Prelude.{ℕ, ℤ, ◌+◌, ◌*◌, max, Bool, true, not, ◌&&◌, List, [], ◌∷◌, Option, Some, None, length, map, filter_map, fold, slice_get, sum_by, option_map, unwrap_or}
+-- The statistics of a table and of an index, counted over the rows (own, after Selinger et al. 1979, section 4, whose
+-- names stand beside them).
+use Rattle.std.specs.Prelude.{ℕ, ℤ, ◌+◌, ◌*◌, max, Bool, true, not, ◌&&◌, List, [], ◌∷◌, Option, Some, None, length}
+use Rattle.std.specs.Prelude.{map, filter_map, fold, slice_get, sum_by, option_map, unwrap_or}
 use Rattle.std.specs.Int.{div_ceil, int_min, int_max}
 use Rattle.std.specs.Ordering.{is_gt}
 use Rattle.definitions.specs.Value.{Value, Number, SqlType, Smallint, Integer, Numeric, Char}
@@ -63,8 +65,8 @@ index_statistics columns rows numbers = record {
 }
 
 -- a table with all its statistics counted over its rows
-abbrev pub counted : Table → Table
-counted t = record t {
+abbrev pub counted_statistics : Table → Table
+counted_statistics t = record t {
   statistics = table_statistics t.columns t.rows;
   indexes = map (λ (i : Index). record i { statistics = index_statistics t.columns t.rows i.columns }) t.indexes;
 }

@@ -1,6 +1,6 @@
 //! Laws over the definitions of `specs/`, and worked examples of them.
 ghost use Rattle.definitions.specs.Certificates.Laws.{SaysOneThing, SpellsOnce, SpelledIsCertificate, SpelledOrFaulty, SpelledIsFaultless, HasOneFault, BrokenHasNoForm};
-ghost use Rattle.definitions.specs.Certificates.Laws.{ToldOnce, PassedIsLeast, FileToldOnce, WellIsLeast, ExplainedPasses, LinesAreFile, CutLosesNothing, TextIsCutOff};
+ghost use Rattle.definitions.specs.Certificates.Laws.{SpelledIsWritten, WrittenIsSpelled, HasOneSpelling, ToldOnce, PassedIsLeast, FileToldOnce, WellIsLeast, ExplainedPasses, LinesAreFile, CutLosesNothing, TextIsCutOff};
 ghost use Rattle.definitions.specs.Examples.Certificates.{OneTableIsSpelled, ColumnIsNamed, TwoTablesAreSpelled, OrderedIsSpelled, LoopIsSpelled, LaterPathsAreSpelled, OtherPlansAreSpelled, ProductIsSpelled};
 ghost use Rattle.definitions.specs.Examples.Certificates.{FaultsOfStates, FaultsOfNumbers, FaultsOfForm, BeginningsHaveNoForm, WordsAreCounted, VersionIsPartOfForm, FilesAreCut, VersionsOfTexts};
 ghost use Rattle.definitions.specs.Examples.Certificates.{RestIsRefused, EarlierSpaceIsNamed, RulesAreNamed, NothingIsRefused};
@@ -10,6 +10,13 @@ pub fn spelling_is_one()
     ensures says { SaysOneThing }
     ensures spells { SpellsOnce }
     ensures certificate { SpelledIsCertificate }
+{}
+
+/// What bytes spell is what is written of it, and the other way round: so a plan and a certificate have one spelling at most.
+pub fn spelling_is_writing()
+    ensures written { SpelledIsWritten }
+    ensures spelled { WrittenIsSpelled }
+    ensures one { HasOneSpelling }
 {}
 
 /// Any bytes are a spelling or have one fault, and a text that breaks off has no form.

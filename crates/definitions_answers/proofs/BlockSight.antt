@@ -1,19 +1,18 @@
 -- A block means what it does by its tables, its parameters and the blocks that it asks for; and so its plans work.
-use Rattle.std.proofs.Common.{sym, ap, ap₂, ◌∙◌, ◌≡◌, ℕ, ◌+◌, List, [], ◌∷◌, ◌++◌, map, filter, flat_map, slice_get, Bool, true, false, Option, Some, None, refl}
+use Rattle.std.proofs.Common.{ap, ap₂, ◌∙◌, ◌≡◌, ℕ, ◌+◌, List, [], ◌∷◌, ◌++◌, map, filter, flat_map, slice_get, Bool, true, false, Option, Some, None, refl}
 use Rattle.std.proofs.Math.Path.{fun_ext}
 use Rattle.std.proofs.lemmas.List.Elements.{recursion_from_All, All-contains_itself}
 use Rattle.definitions.specs.Binding.Formed.{blocks_of_option}
 use Rattle.std.specs.Prelude.{Contains, get_or, length, not, sum_by, if◌then◌else◌}
-use Rattle.std.specs.List.{list_all, AllByRecursion}
+use Rattle.std.specs.List.{AllByRecursion}
 use Rattle.definitions.specs.Value.{Value, Null}
 use Rattle.definitions.specs.Table.{Row, Database}
 use Rattle.definitions.specs.IndexRun as index
-use Rattle.definitions.specs.Arithmetic.{Raise, Meaning, Is}
-use Rattle.definitions.specs.Truth.{Truth}
+use Rattle.definitions.specs.Arithmetic.{Raise, Meaning}
 use Rattle.definitions.specs.Plans.Plan.{Plan}
 use Rattle.definitions.specs.Plans.Cost.{saturated}
 use Rattle.definitions.specs.Queries.BoundBlock.{ValueExpr, Condition, Aggregate, CountRows, OfValues, Item, Block}
-use Rattle.definitions.specs.Queries.Conjuncts.{conjuncts, conjuncts_of, conjuncts_of_option, is_late, early_conjuncts, late_conjuncts, tested_blocks, values_of, blocks_in, blocks_of}
+use Rattle.definitions.specs.Queries.Conjuncts.{conjuncts, conjuncts_of_option, is_late, early_conjuncts, late_conjuncts, tested_blocks, values_of, blocks_in, blocks_of}
 use Rattle.definitions.specs.Queries.Evaluation.{Combination, Environment, and_then, on_one, value, truth}
 use Rattle.definitions.specs.Queries.Combinations.{Context, at, at_group, is_surely_true, all_hold, all_combinations, passing, raises_of, raises_of_late, raises_of_where, kept}
 use Rattle.definitions.specs.Queries.Grouping.{aggregate, taken, all_results, results, unless_raised, function_value, groups_of}
@@ -25,7 +24,7 @@ use Rattle.definitions_execution.specs.Stored.{Composite, Stored}
 use Rattle.definitions_execution.specs.OfBlock.{combination_of, rows_in, index_run, is_true_at, stored_of}
 use Rattle.definitions_execution.specs.BlockRuns.{plan_work}
 use Rattle.definitions_execution.specs.Total.{BlockWork, subqueries, inner_work, block_total}
-use Rattle.definitions_answers.specs.Parameters.{OuterColumn, parameters_in, values_of_option, tested_of_option, arguments_of, values_in_block, tested_in_block, asked_blocks, own_parameters}
+use Rattle.definitions_answers.specs.Parameters.{parameters_in, values_of_option, tested_of_option, arguments_of, values_in_block, tested_in_block, asked_blocks, own_parameters}
 use Rattle.definitions_answers.proofs.Elements.{all_first, all_joined, all_flat, all_made, all_mapped, all_weaker, all_both, all_filtered, all_at, list_all_alike, flat_alike, map_alike, sum_alike}
 use Rattle.definitions_answers.proofs.Sight.{SameColumn, Seen, value_seen, truth_seen, OfCondition, of_conjuncts}
 
@@ -152,7 +151,7 @@ module _ (db : Database) (outer outer' : List Combination) (inner inner' : ℕ �
       with_holds h = record {
         row_count = λ table. length (rows_in db b table);
         value_in = λ column row. get_or (get_or (rows_in db b column.table) row []) column.number Null;
-        index_rows = λ table number. index.rows_of (index_run db b table number);
+        index_rows = λ table number. index.entry_rows (index_run db b table number);
         holds = h;
       }
 

@@ -1,21 +1,20 @@
 -- Of the blocks of a statement, each means what it does by its parameters, and so its total is.
 use Prim.Native.Nat.{zero}
-use Rattle.std.proofs.Common.{suc, sym, ap, ap₂, ◌∙◌, subst, ◌≡◌, ℕ, ◌+◌, List, [], ◌∷◌, ◌++◌, map, flat_map, Bool, true, false, refl}
+use Rattle.std.proofs.Common.{suc, sym, ap, ◌∙◌, ◌≡◌, ℕ, ◌+◌, List, [], ◌∷◌, ◌++◌, flat_map, Bool, true, false, refl}
 use Rattle.std.specs.Prelude.{◌==◌, drop, get_or, if◌then◌else◌}
 use Rattle.std.specs.List.{AllByRecursion}
-use Rattle.definitions.specs.Value.{Value}
 use Rattle.definitions.specs.Table.{Row, Database}
 use Rattle.definitions.specs.Arithmetic.{Meaning}
 use Rattle.definitions.specs.Plans.Order.{BlockColumn}
 use Rattle.definitions.specs.Plans.Plan.{Plan}
 use Rattle.definitions.specs.Queries.BoundBlock.{Block, Blocks}
 use Rattle.definitions.specs.Queries.Evaluation.{Combination}
-use Rattle.definitions.specs.Queries.Answer.{BlockMeaning, block_answer, meanings}
+use Rattle.definitions.specs.Queries.Answer.{block_answer, meanings}
 use Rattle.definitions.specs.Estimates.Version.{Version}
 use Rattle.definitions_execution.specs.Total.{BlockWork, block_total, totals}
 use Rattle.definitions_answers.specs.Parameters.{OuterColumn, outer_value, outer_values, own_parameters, asked_blocks, one_lowered, lowered, parameters_from, parameters}
 use Rattle.definitions_answers.specs.Laws.{MeaningGoesByParameters, TotalGoesByParameters, UncorrelatedMeansOne}
-use Rattle.definitions_answers.proofs.Elements.{all_first, all_flat, all_weaker, all_always}
+use Rattle.definitions_answers.proofs.Elements.{all_first, all_flat, all_weaker}
 use Rattle.definitions_answers.proofs.Sight.{SameColumn}
 use Rattle.definitions_answers.proofs.BlockSight.{SameInner, SeenAlike, seen_alike, answer_seen, truths_seen, total_same, subqueries_are}
 

@@ -1,18 +1,16 @@
 -- What EXISTS sees.
-use Rattle.std.proofs.Common.{◌≡◌, ◌∙◌, refl, sym, ap, ap₂, subst, List, [], ◌∷◌, ◌++◌, Bool, true, false, cond, length, map, arith}
+use Rattle.std.proofs.Common.{◌≡◌, ◌∙◌, refl, ap, ap₂, List, [], ◌∷◌, ◌++◌, Bool, true, false, cond, map, arith}
 use Rattle.std.specs.Prelude.{filter, flat_map, IsPermutation}
 use Rattle.std.specs.List.{AllByRecursion}
 use Rattle.std.proofs.lemmas.List.Sorted.{length_permutation}
 use Rattle.definitions.specs.Table.{Row}
 use Rattle.definitions.specs.Arithmetic.{Raise, Is}
 use Rattle.definitions.specs.Truth.{has_row}
-use Rattle.definitions.specs.Queries.BoundBlock.{Condition, Block}
 use Rattle.definitions.specs.Queries.Conjuncts.{late_conjuncts}
 use Rattle.definitions.specs.Queries.Evaluation.{Combination, on_one}
-use Rattle.definitions.specs.Queries.Combinations.{Context, at, all_hold, passing, raises_of_late}
-use Rattle.definitions.specs.Queries.Answer.{block_answer}
-use Rattle.definitions_answers.specs.Plain.{IsPlain, row_in, row_raises_in, late_raises, kept_of, column_raises, rows_of, TellsBlock}
-use Rattle.definitions_answers.specs.Exists.{is_any, ItemsAreQuiet, ExistsIsAnyKept, ExistsIsAnyPassing}
+use Rattle.definitions.specs.Queries.Combinations.{Context, at, all_hold, raises_of_late}
+use Rattle.definitions_answers.specs.Plain.{row_in, row_raises_in, late_raises, kept_of, column_raises, rows_of}
+use Rattle.definitions_answers.specs.Exists.{is_any, ExistsIsAnyKept, ExistsIsAnyPassing}
 use Rattle.definitions_answers.proofs.Plain.{plain_told}
 
 any_arranged : (rows : List Row) (others : List Row) → IsPermutation rows others → has_row rows ≡ is_any others

@@ -10,7 +10,7 @@ use Rattle.definitions.specs.Table.{Row}
 use Rattle.definitions.specs.Arithmetic.{Raise, Meaning, Is, Raises}
 use Rattle.definitions.specs.Truth.{Truth, is_true}
 use Rattle.definitions.specs.Plans.Order.{BlockColumn}
-use Rattle.definitions.specs.Queries.BoundBlock.{Aggregate, CountRows, OfValues, Key, Block}
+use Rattle.definitions.specs.Queries.BoundBlock.{Aggregate, CountRows, OfValues, OrderKey, Block}
 use Rattle.definitions.specs.Queries.Evaluation.{Combination, Environment, and_then, on_one, value}
 use Rattle.definitions.specs.Queries.Combinations.{Context, at, at_group, is_surely_true, raises_of, raises_of_where, kept}
 use Rattle.definitions.specs.Queries.Grouping.{aggregate, counted, taken, function_value, groups_of, results, unless_raised, all_results}
@@ -258,7 +258,7 @@ module _ (context : Context) (b : Block) where
   typed_only [] u regular shapes f = tt
   typed_only (g ∷ gs) u regular shapes f = all_joined (HasShapes shapes) (rows_in (short_row context b g)) (group_rows context b gs) (f g u.0.0) (typed_only gs u.1 regular shapes f)
 
-  told_raise : (f : List (List Row) → List Row) (rs : List Raise) (x : List (List Row)) (keys : List Key) (e : Raise) → Contains rs e → Allowed (on_one f (unless_raised rs x)) keys (Exception e)
+  told_raise : (f : List (List Row) → List Row) (rs : List Raise) (x : List (List Row)) (keys : List OrderKey) (e : Raise) → Contains rs e → Allowed (on_one f (unless_raised rs x)) keys (Exception e)
   told_raise f [] x keys e h = absurd (omega (arith, h.1))
   told_raise f (r ∷ rs) x keys e h = h
 
@@ -277,7 +277,7 @@ module _ (context : Context) (b : Block) where
       ap (λ rs. answer_after_where rs context b) quiet
       ∙ ap (λ t. on_one left_of (all_results (cond t (map (row_of_group context b) groups) (map (row_of_combination context b) (kept context b))))) grouped
 
-  told : IsRegular context b → AllByRecursion Typed (kept context b) → is_grouped b ≡ true → raises_of_where context b ≡ [] → (found : List (List Combination)) (keys : List Key) → AreSameGroups groups found
+  told : IsRegular context b → AllByRecursion Typed (kept context b) → is_grouped b ≡ true → raises_of_where context b ≡ [] → (found : List (List Combination)) (keys : List OrderKey) → AreSameGroups groups found
       → ((raise : Raise) → Contains (group_raises context b found) raise → Allowed (block_answer context b) keys (Exception raise))
       × ((rows : List Row) → group_raises context b found ≡ [] → IsPermutation (distinct_rows b.distinct (group_rows context b found)) rows → IsSorted (row_order keys) rows → Allowed (block_answer context b) keys (Rows rows))
   told regular typed grouped quiet found keys same =

@@ -1,5 +1,5 @@
 -- Kept results.
-use Rattle.std.proofs.Common.{◌≡◌, ◌∙◌, sym, subst}
+use Rattle.std.proofs.Common.{◌∙◌, sym, subst}
 use Rattle.definitions_answers.specs.Told.{TellsRows}
 use Rattle.definitions_answers.specs.Kept.{KeptIsRight}
 use Rattle.definitions_answers.proofs.Blocks.{meaning_by_parameters, total_by_parameters}

@@ -1,7 +1,7 @@
 -- Late conjuncts by what is told of their subqueries.
-use Rattle.std.proofs.Common.{◌≡◌, ◌∙◌, refl, sym, ap, ap₂, subst, ℕ, List, [], ◌∷◌, ◌++◌, ◌⊎◌, inl, inr, Result, arith}
-use Rattle.std.specs.Prelude.{flat_map, Contains, ◌&&◌}
-use Rattle.std.specs.List.{list_all, AllByRecursion}
+use Rattle.std.proofs.Common.{◌≡◌, ◌∙◌, refl, sym, ap, ℕ, List, [], ◌∷◌, ◌++◌, ◌⊎◌, inl, inr, Result}
+use Rattle.std.specs.Prelude.{flat_map, Contains}
+use Rattle.std.specs.List.{AllByRecursion}
 use Rattle.std.proofs.lemmas.List.Elements.{All-contains, Contains-append_left, Contains-append_right, Contains-append_cases}
 use Rattle.definitions.specs.Value.{Value}
 use Rattle.definitions.specs.Arithmetic.{Raise, Meaning, Is, Raises}

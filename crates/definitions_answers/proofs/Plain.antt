@@ -1,16 +1,16 @@
 -- What a plain block means, by an arrangement of the combinations that pass.
 use Rattle.std.proofs.Common.{◌≡◌, ◌∙◌, refl, sym, ap, ap₂, subst, List, [], ◌∷◌, ◌++◌, cond, map, false, arith}
-use Rattle.std.specs.Prelude.{filter, flat_map, Contains, IsPermutation}
+use Rattle.std.specs.Prelude.{flat_map, Contains, IsPermutation}
 use Rattle.std.proofs.lemmas.List.Sorted.{Contains-permutation, IsPermutation-map, IsPermutation-sym}
 use Rattle.definitions.specs.Table.{Row}
-use Rattle.definitions.specs.Arithmetic.{Raise, Meaning, Is, Raises}
+use Rattle.definitions.specs.Arithmetic.{Raise, Meaning, Is}
 use Rattle.definitions.specs.Queries.BoundBlock.{Block}
 use Rattle.definitions.specs.Queries.Conjuncts.{late_conjuncts}
 use Rattle.definitions.specs.Queries.Evaluation.{Combination, on_one}
 use Rattle.definitions.specs.Queries.Combinations.{Context, at, all_hold, kept, passing, raises_of, raises_of_late, raises_of_where}
 use Rattle.definitions.specs.Queries.Grouping.{results, groups_of, unless_raised, all_results}
 use Rattle.definitions.specs.Queries.Answer.{answer_after_where, block_answer, is_grouped, row_of_combination, row_of_group, rows_of_kept, distinct_rows}
-use Rattle.definitions_answers.specs.Plain.{IsPlain, row_in, row_raises_in, late_raises, kept_of, column_raises, rows_of, TellsBlock, PlainBlocksAreTold}
+use Rattle.definitions_answers.specs.Plain.{IsPlain, row_in, row_raises_in, late_raises, kept_of, column_raises, rows_of, PlainBlocksAreTold}
 use Rattle.definitions_answers.proofs.Arranged.{filter_arranged, flat_map_arranged, nothing_arranged}
 
 -- ---- lists of meanings

@@ -12,7 +12,7 @@ use Rattle.definitions.specs.Arithmetic.{Raise, Meaning, Is, Raises}
 use Rattle.definitions.specs.Estimates.Orders.{required_of, sort_key, column_of_item}
 use Rattle.definitions.specs.Estimates.Sides.{column_of}
 use Rattle.definitions.specs.Plans.Order.{ascending, BlockColumn, SortKey}
-use Rattle.definitions.specs.Queries.BoundBlock.{ValueExpr, Column, Parameter, Numeral, String, Signed, Chain, AggregateValue, Subquery, Item, Key, Block}
+use Rattle.definitions.specs.Queries.BoundBlock.{ValueExpr, Column, Parameter, Numeral, String, Signed, Chain, AggregateValue, Subquery, Item, OrderKey, Block}
 use Rattle.definitions.specs.Queries.Evaluation.{Combination, cell, on_one, value}
 use Rattle.definitions.specs.Queries.Combinations.{Context, at, raises_of, raises_of_where, kept}
 use Rattle.definitions.specs.Queries.Grouping.{results, unless_raised, all_results, groups_of}
@@ -33,11 +33,11 @@ raises_kept : {X Y : Type 0} (f : X → Y) (rs : List Raise) (x : X) → raises_
 raises_kept f [] x = refl
 raises_kept f (r ∷ rs) x = refl
 
-told_raise : (f : List (List Row) → List Row) (rs : List Raise) (x : List (List Row)) (keys : List Key) (e : Raise) → Contains rs e → Allowed (on_one f (unless_raised rs x)) keys (Exception e)
+told_raise : (f : List (List Row) → List Row) (rs : List Raise) (x : List (List Row)) (keys : List OrderKey) (e : Raise) → Contains rs e → Allowed (on_one f (unless_raised rs x)) keys (Exception e)
 told_raise f [] x keys e h = absurd (omega (arith, h.1))
 told_raise f (r ∷ rs) x keys e h = h
 
-abbrev keyed : Key → BlockColumn → SortKey
+abbrev keyed : OrderKey → BlockColumn → SortKey
 keyed key column = record { column = column; descending = key.descending }
 
 module _ (context : Context) (b : Block) where
@@ -80,7 +80,7 @@ module _ (context : Context) (b : Block) where
       ∙ ap (λ t. on_one left_of (all_results (cond t (map (row_of_group context b) (groups_of b.groups all)) (map one all)))) plain
       ∙ ap (λ rs. on_one left_of (unless_raised rs (results (map one all)))) (each_raises all)
 
-  told : (cs : List Combination) (keys : List Key) (shapes : List Shape) → is_grouped b ≡ false → raises_of_where context b ≡ [] → AllByRecursion Typed all → HavePlainShapes context b shapes → IsPermutation all cs
+  told : (cs : List Combination) (keys : List OrderKey) (shapes : List Shape) → is_grouped b ≡ false → raises_of_where context b ≡ [] → AllByRecursion Typed all → HavePlainShapes context b shapes → IsPermutation all cs
       → ((raise : Raise) → Contains (plain_raises context b cs) raise → Allowed (block_answer context b) keys (Exception raise))
       × ((rows : List Row) → plain_raises context b cs ≡ [] → IsPermutation (distinct_rows b.distinct (map (plain_row context b) cs)) rows → IsSorted (row_order keys) rows → Allowed (block_answer context b) keys (Rows rows))
   told cs keys shapes plain quiet typed has p =
@@ -130,7 +130,7 @@ module _ (context : Context) (b : Block) where
       step None e g = absurd (true≢false (sym (ap is_some g)))
       step (Some i) e g = quiet_result (values_at context b c) k (value (at context c) i.value) (cell c column) quiet (get_map (λ (j : Item). value (at context c) j.value) b.items k i e) (column_value i.value c column g)
 
-  same_order : (keys : List Key) (c d : Combination) → raised c ≡ [] → raised d ≡ [] → list_all (λ key. is_some (sort_key b.items key)) keys ≡ true
+  same_order : (keys : List OrderKey) (c d : Combination) → raised c ≡ [] → raised d ≡ [] → list_all (λ key. is_some (sort_key b.items key)) keys ≡ true
       → row_order keys (plain_row context b c) (plain_row context b d) ≡ ranked_by cell_of (filter_map (sort_key b.items) keys) c d
   same_order [] c d q r h = refl
   same_order (key ∷ keys) c d q r h = step (column_of_item b.items key.item) refl h (λ t. same_order keys c d q r t)
@@ -175,7 +175,7 @@ directed_reversed : (d : Bool) (o : Ordering) → directed d (ordering_reverse o
 directed_reversed true o = refl
 directed_reversed false o = refl
 
-row_antisymm : (keys : List Key) (a c : Row) → row_order keys a c ≡ ordering_reverse (row_order keys c a)
+row_antisymm : (keys : List OrderKey) (a c : Row) → row_order keys a c ≡ ordering_reverse (row_order keys c a)
 row_antisymm [] a c = refl
 row_antisymm (key ∷ keys) a c =
     let d = key.descending in
@@ -194,7 +194,7 @@ rises_at R (x ∷ []) r k d h = absurd (omega (arith, h))
 rises_at R (x ∷ y ∷ ys) r zero d h = r.0 y (inl refl)
 rises_at R (x ∷ y ∷ ys) r (suc k) d h = rises_at R (y ∷ ys) r.1 k d (omega (arith, h))
 
-pub rises_sorted : (keys : List Key) (rows : List Row) → Rises (λ r s. is_le (row_order keys r s) ≡ true) rows → IsSorted (row_order keys) rows
+pub rises_sorted : (keys : List OrderKey) (rows : List Row) → Rises (λ r s. is_le (row_order keys r s) ≡ true) rows → IsSorted (row_order keys) rows
 rises_sorted keys rows r k d low high =
     let n : suc k ≡ k + 1 = omega arith in
     let l : suc k < length rows = omega (arith, high) in
@@ -202,7 +202,7 @@ rises_sorted keys rows r k d low high =
     ∙ ap is_lt (row_antisymm keys (get_or rows (suc k) d) (get_or rows k d))
     ∙ not_back (row_order keys (get_or rows k d) (get_or rows (suc k) d)) (rises_at (λ a c. is_le (row_order keys a c) ≡ true) rows r k d l)
 
-distinct_rise : (keys : List Key) (distinct : Bool) (rows : List Row) → Rises (λ r s. is_le (row_order keys r s) ≡ true) rows → Rises (λ r s. is_le (row_order keys r s) ≡ true) (distinct_rows distinct rows)
+distinct_rise : (keys : List OrderKey) (distinct : Bool) (rows : List Row) → Rises (λ r s. is_le (row_order keys r s) ≡ true) rows → Rises (λ r s. is_le (row_order keys r s) ≡ true) (distinct_rows distinct rows)
 distinct_rise keys true rows h = repeats_keep_order (λ r s. is_le (row_order keys r s)) rows h
 distinct_rise keys false rows h = h
 

@@ -1,5 +1,5 @@
 -- An expression means what it does by the rows at hand, its parameters and the blocks that it asks for.
-use Rattle.std.proofs.Common.{ap, ap₂, ◌≡◌, ℕ, List, [], ◌∷◌, ◌++◌, map, Option, Some, None, refl}
+use Rattle.std.proofs.Common.{ap, ap₂, ◌≡◌, ℕ, List, [], ◌∷◌, map, Option, Some, None, refl}
 use Rattle.std.specs.List.{AllByRecursion}
 use Rattle.definitions.specs.Value.{Value, Null, is_null}
 use Rattle.definitions.specs.Table.{Row}

@@ -1,20 +1,17 @@
 -- Blocks inside a block that stands somewhere.
 use Prim.Native.Nat.{zero}
-use Rattle.std.proofs.Common.{suc, ◌≡◌, ◌∙◌, sym, ap, subst, ℕ, ◌<◌, List, [], ◌∷◌, ◌++◌, length, slice_get, flat_map, Option, Some, None, is_some, true≢false}
-use Rattle.std.specs.Prelude.{Contains, get_or, unwrap_or}
+use Rattle.std.proofs.Common.{suc, ◌≡◌, ◌∙◌, sym, ap, subst, ℕ, ◌<◌, List, ◌∷◌, length, slice_get, Some}
+use Rattle.std.specs.Prelude.{Contains, unwrap_or}
 use Rattle.std.specs.List.{AllByRecursion}
-use Rattle.std.proofs.lemmas.List.Elements.{All-contains_itself}
 use Rattle.std.proofs.lemmas.Option.{slice_get_within}
 use Rattle.definitions.specs.Table.{Database}
-use Rattle.definitions.specs.Queries.BoundBlock.{ValueExpr, Condition, Block, Blocks}
-use Rattle.definitions.specs.Queries.Conjuncts.{tested_blocks, values_of, blocks_in, blocks_of, late_conjuncts}
+use Rattle.definitions.specs.Queries.BoundBlock.{Block, Blocks}
 use Rattle.definitions.specs.Queries.Evaluation.{Combination}
 use Rattle.definitions.specs.Binding.Formed.{IsFormedBlock, AreFormed, formed, blocks_of_option}
 use Rattle.definitions_execution.specs.Total.{subqueries}
 use Rattle.definitions_execution.specs.TypedCombinations.{IsTypedCombination, AreTypedAround}
-use Rattle.definitions_answers.specs.Standing.{Stands, StandsInside, StandingBlocksAreFormed, SubqueriesStandInside}
-use Rattle.definitions_answers.specs.Parameters.{asked_blocks}
-use Rattle.definitions_answers.proofs.Elements.{all_weaker, all_both}
+use Rattle.definitions_answers.specs.Standing.{StandsInside, StandingBlocksAreFormed, SubqueriesStandInside}
+use Rattle.definitions_answers.proofs.Elements.{all_both}
 use Rattle.definitions_answers.proofs.BlockSight.{asked_by_condition, subqueries_are}
 use Rattle.definitions_answers.proofs.Steps.{formed_ask_behind}
 

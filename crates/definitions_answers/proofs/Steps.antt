@@ -8,18 +8,16 @@ use Rattle.definitions.specs.Arithmetic.{Meaning, Is}
 use Rattle.definitions.specs.Plans.Cost.{saturated}
 use Rattle.definitions.specs.Plans.Plan.{Plan}
 use Rattle.definitions.specs.Queries.BoundBlock.{ValueExpr, Column, Parameter, Numeral, String, Signed, Chain, AggregateValue, Subquery, Operands, NoOperand, Operand, Condition, Aggregate, CountRows, OfValues, Item, Block, Blocks}
-use Rattle.definitions.specs.Queries.Conjuncts.{conjuncts, early_conjuncts, tested_blocks, values_of, blocks_in, operand_blocks, blocks_of, is_late}
+use Rattle.definitions.specs.Queries.Conjuncts.{tested_blocks, values_of, blocks_in, operand_blocks, blocks_of}
 use Rattle.definitions.specs.Queries.Evaluation.{Combination}
-use Rattle.definitions.specs.Queries.Combinations.{Context, passing}
+use Rattle.definitions.specs.Queries.Combinations.{passing}
 use Rattle.definitions.specs.Queries.Answer.{block_answer, meanings}
-use Rattle.definitions.specs.Binding.Formed.{IsFormedValue, AreFormedOperands, IsTypedValue, IfCondition, IsFormedFunction, IsFormedBlock, IsInside}
+use Rattle.definitions.specs.Binding.Formed.{IsFormedValue, AreFormedOperands, IsTypedValue, IfCondition, IsFormedFunction, IsInside}
 use Rattle.definitions.specs.Estimates.Version.{Version}
-use Rattle.definitions.specs.Estimates.BlockSpace.{space_of}
 use Rattle.definitions.proofs.QueryTheory.Lemmas.{blocks_mean_by_those_behind, blocks_behind_mean_the_same}
-use Rattle.definitions_execution.specs.BlockRuns.{plan_work}
 use Rattle.definitions_execution.specs.Total.{subqueries, block_total, totals}
 use Rattle.definitions_execution.proofs.Totals.{by_behind, behind_same}
-use Rattle.definitions_answers.specs.Parameters.{OuterColumn, values_of_option, tested_of_option, arguments_of, values_in_block, tested_in_block, asked_blocks, own_parameters}
+use Rattle.definitions_answers.specs.Parameters.{values_of_option, tested_of_option, arguments_of, values_in_block, tested_in_block, asked_blocks, own_parameters}
 use Rattle.definitions_answers.specs.Steps.{AsksBehind, FormedBlocksAskBehind, context_among, context_alone, MeaningByOneStep, PassingByOneStep, totals_at, TotalByOneStep}
 use Rattle.definitions_answers.proofs.Elements.{all_first, all_joined, all_always, all_made, all_weaker}
 use Rattle.definitions_answers.proofs.Sight.{SameColumn}

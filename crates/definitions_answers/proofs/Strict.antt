@@ -1,5 +1,5 @@
 -- Strict evaluation.
-use Rattle.std.proofs.Common.{◌≡◌, refl, sym, ℕ, List, [], ◌∷◌, ◌++◌, map, flat_map, ◌⊎◌, inl, inr, Bool, true, false, Option, Some, None, true≢false}
+use Rattle.std.proofs.Common.{◌≡◌, refl, sym, ℕ, List, [], ◌∷◌, ◌++◌, map, flat_map, ◌⊎◌, inl, inr, true, false, Option, Some, None, true≢false}
 use Rattle.definitions.specs.Lists.{AnyOf}
 use Rattle.definitions.specs.Value.{Value, Null, is_null}
 use Rattle.definitions.specs.Statement.{Equals, GreaterOrEquals, LessOrEquals}
@@ -7,7 +7,7 @@ use Rattle.definitions.specs.Arithmetic.{Meaning, Is, Raises}
 use Rattle.definitions.specs.Truth.{and, opposite, all_true, any_true, compared, compared_with_any, unless, known, has_row}
 use Rattle.definitions.specs.Pattern.{like}
 use Rattle.definitions.specs.Queries.BoundBlock.{ValueExpr, Column, Parameter, Numeral, String, Signed, Chain, AggregateValue, Subquery, Operands, NoOperand, Operand, Condition, Conditions, NoPart, Part, Compare, Quantified, IsNull, Between, Like, InList, InQuery, Exists, Not, And, Or}
-use Rattle.definitions.specs.Queries.Conjuncts.{member_values, values_of, values_of_parts, tested_blocks, tested_blocks_of_parts, blocks_in, operand_blocks, blocks_of}
+use Rattle.definitions.specs.Queries.Conjuncts.{member_values, values_of, values_of_parts, tested_blocks, tested_blocks_of_parts, blocks_in, operand_blocks}
 use Rattle.definitions.specs.Queries.Evaluation.{Environment, value, chained, truth, truths, member, in_order, only_value, column_values, quantified, operation, signed, and_then, and_then_two, on_one, on_two}
 use Rattle.definitions_answers.specs.Strict.{is_raise, ConditionsAreStrict}
 

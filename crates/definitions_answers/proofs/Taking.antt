@@ -1,5 +1,5 @@
 -- One combination after another.
-use Rattle.std.proofs.Common.{◌≡◌, ◌∙◌, refl, sym, ap, ap₂, subst, List, [], ◌∷◌, ◌++◌, Bool, true, false, cond, map, Result, Ok, Err, arith}
+use Rattle.std.proofs.Common.{◌≡◌, ◌∙◌, sym, ap, ap₂, subst, List, [], ◌∷◌, ◌++◌, Bool, true, false, cond, map, Result, Ok, Err, arith}
 use Rattle.std.specs.Prelude.{filter, flat_map, Contains, IsPermutation, get_or}
 use Rattle.std.proofs.lemmas.Grind.{flat_map-append}
 use Rattle.std.proofs.lemmas.List.{append-nil, map-append}
@@ -15,7 +15,7 @@ use Rattle.definitions.specs.Queries.Combinations.{Context, at, all_hold, raises
 use Rattle.definitions.specs.Queries.Answer.{block_answer}
 use Rattle.definitions_answers.specs.Plain.{row_in, row_raises_in, late_raises, kept_of, column_raises, rows_of}
 use Rattle.definitions_answers.specs.Told.{TellsRows}
-use Rattle.definitions_answers.specs.Taking.{Found, Late, Column, Values, Says, Tells, RowTells, with_row, with_more, told_at_end, OneMoreIsTold, AllAreTold}
+use Rattle.definitions_answers.specs.Taking.{Found, Late, Column, Values, Says, Tells, RowTells, with_row, with_more, OneMoreIsTold, AllAreTold}
 use Rattle.definitions_answers.proofs.Plain.{plain_told}
 
 module _ (context : Context) (b : Block) (done : List Combination) (c : Combination) where

@@ -1,5 +1,5 @@
 -- What conditions see of subqueries.
-use Rattle.std.proofs.Common.{◌≡◌, refl, sym, ap, ap₂, ◌∙◌, subst, ℕ, List, [], ◌∷◌, ◌++◌, Some, None, Option, Result, Ok, Err, map, arith, lit<}
+use Rattle.std.proofs.Common.{◌≡◌, refl, sym, ap, ap₂, ◌∙◌, subst, ℕ, List, [], ◌∷◌, Some, None, Option, Result, Ok, Err, map, arith, lit<}
 use Rattle.std.specs.Prelude.{get_or, Contains, IsPermutation}
 use Rattle.std.specs.List.{AllByRecursion}
 use Rattle.std.proofs.lemmas.List.Elements.{All-contains_itself, All-cons, All-nil}
@@ -9,7 +9,7 @@ use Rattle.definitions.specs.Table.{Row}
 use Rattle.definitions.specs.Statement.{ComparisonOperator, Equals, GreaterOrEquals, LessOrEquals, Quantifier}
 use Rattle.definitions.specs.Statement as s
 use Rattle.definitions.specs.Arithmetic.{Raise, Cardinality, Meaning, Is, Raises, raised}
-use Rattle.definitions.specs.Truth.{Truth, and, opposite, all_true, any_true, compared, compared_with_any, unless, known, has_row}
+use Rattle.definitions.specs.Truth.{and, opposite, all_true, any_true, compared, compared_with_any, unless, known, has_row}
 use Rattle.definitions.specs.Pattern.{like}
 use Rattle.definitions.specs.Queries.BoundBlock as b
 use Rattle.definitions.specs.Queries.BoundBlock.{ValueExpr, Operands, Condition, Conditions}

@@ -1,6 +1,5 @@
 -- What late conjuncts say.
-use Rattle.std.proofs.Common.{◌≡◌, ◌∙◌, ℕ, List, ◌∷◌, Result}
-use Rattle.std.specs.List.{AllByRecursion}
+use Rattle.std.proofs.Common.{◌∙◌, ℕ, ◌∷◌}
 use Rattle.definitions.specs.Queries.Conjuncts.{blocks_of, late_conjuncts}
 use Rattle.definitions.specs.Queries.Combinations.{at}
 use Rattle.definitions.specs.Queries.Answer.{meanings}

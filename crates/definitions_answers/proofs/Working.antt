@@ -1,5 +1,5 @@
 -- Early conjuncts ask for no inner block, so what passes, and what a plan opens, go by nothing else.
-use Rattle.std.proofs.Common.{sym, ap, ap₂, ◌∙◌, ◌≡◌, ℕ, ◌+◌, ◌⊎◌, inl, inr, List, [], ◌∷◌, ◌++◌, length, map, filter, slice_get, Bool, true, false, ◌||◌, ◌&&◌, not, cond, Option, Some, None, refl, true≢false}
+use Rattle.std.proofs.Common.{sym, ap, ap₂, ◌∙◌, ◌≡◌, ℕ, ◌+◌, inl, inr, List, [], ◌∷◌, length, filter, slice_get, Bool, true, false, ◌||◌, ◌&&◌, not, cond, Option, Some, None, refl, true≢false}
 use Rattle.std.proofs.Math.Path.{fun_ext}
 use Rattle.std.specs.Prelude.{set, nat_lt, sum_by, if◌then◌else◌, ◌==◌}
 use Rattle.std.specs.List.{list_all, list_any, range_with_len, AllByRecursion}
@@ -9,29 +9,28 @@ use Rattle.definitions.specs.Arithmetic.{Meaning}
 use Rattle.definitions.specs.Plans.TableSet.{TableSet, no_tables}
 use Rattle.definitions.specs.Plans.Order.{BlockColumn}
 use Rattle.definitions.specs.Plans.Conjunct.{Conjunct}
-use Rattle.definitions.specs.Plans.Path.{Path, SegmentScan, IndexScan, MatchingScan, table_of}
-use Rattle.definitions.specs.Plans.Plan.{Inner, Plan, Access, Loop, Merge, Sort}
+use Rattle.definitions.specs.Plans.Path.{Path, SegmentScan, IndexScan, MatchingScan}
+use Rattle.definitions.specs.Plans.Plan.{Plan, Access, Loop, Merge, Sort}
 use Rattle.definitions.specs.Plans.PlanSpace.{tables_of, IsPath, IsPlan, access, loop, merge, sort}
 use Rattle.definitions.specs.Plans.Space.{Space}
 use Rattle.definitions.specs.Plans.Cost.{saturated}
-use Rattle.definitions.specs.Queries.BoundBlock.{ValueExpr, Column, Parameter, Numeral, String, Signed, Chain, AggregateValue, Subquery, Operands, NoOperand, Operand, Condition, Block}
+use Rattle.definitions.specs.Queries.BoundBlock.{ValueExpr, Column, Parameter, Numeral, String, Signed, Chain, AggregateValue, Subquery, Operands, NoOperand, Operand, Condition}
 use Rattle.definitions.specs.Queries.CanRaise.{Size, size, joined_size, is_division, can_raise, chain_can_raise}
-use Rattle.definitions.specs.Queries.Conjuncts.{conjuncts, is_empty, is_late, early_conjuncts, tested_blocks, values_of, blocks_in, operand_blocks, condition_tables, condition_can_raise}
+use Rattle.definitions.specs.Queries.Conjuncts.{conjuncts, is_empty, is_late, tested_blocks, values_of, blocks_in, operand_blocks, condition_tables, condition_can_raise}
 use Rattle.definitions.specs.Plans.TableSet as t
 use Rattle.definitions.specs.Queries.Evaluation.{Combination}
 use Rattle.definitions.specs.Queries.Combinations.{Context, is_surely_true}
 use Rattle.definitions.specs.Estimates.BlockTables.{is_within}
-use Rattle.definitions.specs.Estimates.Version.{Version}
 use Rattle.definitions.specs.Estimates.BlockSpace.{space_of}
 use Rattle.definitions_execution.specs.Lists.{In}
 use Rattle.definitions_execution.specs.Fits.{Fits}
 use Rattle.definitions_execution.specs.Stored.{Composite, Stored, rows_along}
-use Rattle.definitions_execution.specs.Passing.{applies, applies_to, composites, nothing, passes, passing_composites}
-use Rattle.definitions_execution.specs.Running.{is_opened, run, work}
+use Rattle.definitions_execution.specs.Passing.{applies_to, composites, nothing, passes, passing_composites}
+use Rattle.definitions_execution.specs.Running.{run, work}
 use Rattle.definitions_execution.specs.OfBlock.{combination_of, is_true_at, stored_of}
 use Rattle.definitions_execution.proofs.BlockFits.{condition_of, fits}
 use Rattle.definitions_execution.proofs.Locality.{neither}
-use Rattle.definitions_answers.specs.Parameters.{OuterColumn, parameters_in}
+use Rattle.definitions_answers.specs.Parameters.{parameters_in}
 use Rattle.definitions_answers.specs.Laws.{PassingAsksNoInnerBlock, WorkAsksNoInnerBlock}
 use Rattle.definitions_answers.proofs.Elements.{all_joined, all_always, all_weaker, list_all_alike}
 use Rattle.definitions_answers.proofs.Sight.{SameColumn}

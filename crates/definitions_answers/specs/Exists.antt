@@ -1,4 +1,5 @@
--- What EXISTS sees of a block whose result columns raise nothing: whether any combination is kept; and, without late conjuncts, whether any passes.
+-- What EXISTS sees of a block whose result columns raise nothing: whether any combination is kept; and, without late
+-- conjuncts, whether any passes.
 use Rattle.std.specs.Prelude.{◌≡◌, List, [], ◌∷◌, IsPermutation}
 use Rattle.std.specs.List.{AllByRecursion}
 use Rattle.definitions.specs.Arithmetic.{Is}
@@ -19,9 +20,13 @@ ItemsAreQuiet context b all = AllByRecursion (λ c. row_raises_in (at context c)
 
 -- any one that is kept decides, if nothing raises on any of them
 abbrev pub ExistsIsAnyKept : Type 0
-ExistsIsAnyKept = (context : Context) (b : Block) (all : List Combination) → IsPlain b → IsPermutation (passing context b) all → late_raises context b all ≡ [] → ItemsAreQuiet context b all
+ExistsIsAnyKept =
+    (context : Context) (b : Block) (all : List Combination) → IsPlain b → IsPermutation (passing context b) all
+    → late_raises context b all ≡ [] → ItemsAreQuiet context b all
     → on_one has_row (block_answer context b) ≡ Is (is_any (kept_of context b all))
 
 abbrev pub ExistsIsAnyPassing : Type 0
-ExistsIsAnyPassing = (context : Context) (b : Block) (all : List Combination) → IsPlain b → IsPermutation (passing context b) all → late_conjuncts b ≡ [] → ItemsAreQuiet context b all
+ExistsIsAnyPassing =
+    (context : Context) (b : Block) (all : List Combination) → IsPlain b → IsPermutation (passing context b) all
+    → late_conjuncts b ≡ [] → ItemsAreQuiet context b all
     → on_one has_row (block_answer context b) ≡ Is (is_any all)

@@ -21,24 +21,36 @@ IsInPlace context blocks around b = IsDatabase context.database × AreTypedAroun
 
 -- arguments have shapes
 abbrev pub ArgumentsHaveShapes : Type 0
-ArgumentsHaveShapes = (context : Context) (blocks around : Blocks) (n : ℕ) (b : Block) → IsInPlace context blocks around b → IsFormedBlock context.database blocks around n b
+ArgumentsHaveShapes =
+    (context : Context) (blocks around : Blocks) (n : ℕ) (b : Block) → IsInPlace context blocks around b
+    → IsFormedBlock context.database blocks around n b
     → AllByRecursion IsRightFunction b.functions → AllByRecursion (HasArgumentShape context b) b.functions
 
 -- and so have the rows of a block that is not grouped
 abbrev pub PlainRowsHaveShapes : Type 0
-PlainRowsHaveShapes = (context : Context) (blocks around : Blocks) (n : ℕ) (b : Block) → IsInPlace context blocks around b → IsFormedBlock context.database blocks around n b → ItemsAskNoBlock b
+PlainRowsHaveShapes =
+    (context : Context) (blocks around : Blocks) (n : ℕ) (b : Block) → IsInPlace context blocks around b
+    → IsFormedBlock context.database blocks around n b → ItemsAskNoBlock b
     → (shapes : List Shape) × HavePlainShapes context b shapes
 
 -- a grouped block is regular
 abbrev pub FormedAreRegular : Type 0
-FormedAreRegular = (context : Context) (blocks around : Blocks) (n : ℕ) (b : Block) → IsInPlace context blocks around b → IsFormedBlock context.database blocks around n b
+FormedAreRegular =
+    (context : Context) (blocks around : Blocks) (n : ℕ) (b : Block) → IsInPlace context blocks around b
+    → IsFormedBlock context.database blocks around n b
     → IsAnswerable b → is_grouped b ≡ true → IsRegular context b
 
 -- what WHERE keeps is typed
 abbrev pub KeptAreTyped : Type 0
-KeptAreTyped = (context : Context) (b : Block) → IsDatabase context.database → AllByRecursion (IsTypedCombination context.database b) (kept context b)
+KeptAreTyped =
+    (context : Context) (b : Block) → IsDatabase context.database
+    → AllByRecursion (IsTypedCombination context.database b) (kept context b)
 
 -- the value of a set function over a group is of the type that is told of it
 abbrev pub FunctionValuesHaveTheirTypes : Type 0
-FunctionValuesHaveTheirTypes = (context : Context) (blocks around : Blocks) (n : ℕ) (b : Block) (f : Aggregate) (type : ValueType) (group : List Combination) → IsInPlace context blocks around b
-    → IsFormedFunction context.database blocks around n b f → IsRightFunction f → AllByRecursion (IsTypedCombination context.database b) group → set_function_type f ≡ Some type → MeansOne type (function_value context group f)
+FunctionValuesHaveTheirTypes =
+    (context : Context) (blocks around : Blocks) (n : ℕ) (b : Block) (f : Aggregate) (type : ValueType)
+    (group : List Combination) → IsInPlace context blocks around b
+    → IsFormedFunction context.database blocks around n b f → IsRightFunction f
+    → AllByRecursion (IsTypedCombination context.database b) group → set_function_type f ≡ Some type
+    → MeansOne type (function_value context group f)

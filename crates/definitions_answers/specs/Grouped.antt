@@ -1,5 +1,5 @@
--- Where result columns and HAVING of a grouped block look at columns of GROUP BY and at set functions alone, they mean the same on each combination of
--- a group.
+-- Where result columns and HAVING of a grouped block look at columns of GROUP BY and at set functions alone, they mean
+-- the same on each combination of a group.
 use Rattle.std.specs.Prelude.{◌≡◌, true, List}
 use Rattle.std.specs.List.{AllByRecursion}
 use Rattle.definitions.specs.Value.{Value, SqlType}
@@ -15,4 +15,5 @@ use Rattle.definitions_answers.specs.GroupRows.{row_of_values}
 abbrev pub GroupsHaveOneRow : Type 0
 GroupsHaveOneRow = (context : Context) (b : Block) (c d : Combination) (values : List Value)
     → AllByRecursion (λ column. (type : SqlType) × HasColumn context.database b column type) b.groups → LooksAtGroups b
-    → IsTypedCombination context.database b c → IsTypedCombination context.database b d → in_one_group b.groups c d ≡ true → row_of_values context b c values ≡ row_of_values context b d values
+    → IsTypedCombination context.database b c → IsTypedCombination context.database b d
+    → in_one_group b.groups c d ≡ true → row_of_values context b c values ≡ row_of_values context b d values

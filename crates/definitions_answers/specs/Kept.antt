@@ -20,12 +20,18 @@ pub record Kept : Type 0 where
 module _ (version : Version) (db : Database) (blocks : Blocks) (plans : List Plan) (k : ℕ) where
   -- it is told of the block, and is its total, wherever its parameters have these values
   abbrev pub IsRight : Kept → Type 0
-  IsRight kept = (outer : List Combination) → outer_values outer (parameters blocks k) ≡ kept.key → TellsRows (meanings db 0 blocks k outer) kept.told × (kept.total ≡ totals version db 0 blocks plans k outer)
+  IsRight kept =
+      (outer : List Combination) → outer_values outer (parameters blocks k) ≡ kept.key
+      → TellsRows (meanings db 0 blocks k outer) kept.told × (kept.total ≡ totals version db 0 blocks plans k outer)
 
   -- what is told once, and counted once, is right there
   abbrev pub WhatIsToldOnceIsRight : Type 0
-  WhatIsToldOnceIsRight = (outer : List Combination) (told : Result (List Value) Raise) (total : ℕ) → TellsRows (meanings db 0 blocks k outer) told → total ≡ totals version db 0 blocks plans k outer
+  WhatIsToldOnceIsRight =
+      (outer : List Combination) (told : Result (List Value) Raise) (total : ℕ)
+      → TellsRows (meanings db 0 blocks k outer) told → total ≡ totals version db 0 blocks plans k outer
       → IsRight (record { key = outer_values outer (parameters blocks k); told = told; total = total })
 
 abbrev pub KeptIsRight : Type 0
-KeptIsRight = (version : Version) (db : Database) (blocks : Blocks) (plans : List Plan) (k : ℕ) → WhatIsToldOnceIsRight version db blocks plans k
+KeptIsRight =
+    (version : Version) (db : Database) (blocks : Blocks) (plans : List Plan) (k : ℕ)
+    → WhatIsToldOnceIsRight version db blocks plans k

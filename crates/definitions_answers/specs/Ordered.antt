@@ -21,12 +21,18 @@ AreRequired block cs = Rises (NotAfter cell_of (required_of block)) cs
 
 -- what a plan delivers that gives the required order comes in it, as combinations
 abbrev pub DeliveredAreRequired : Type 0
-DeliveredAreRequired = (version : Version) (context : Context) (block : Block) (plan : Plan) (composites : List Composite)
-    → InSpace (space_of version context.database block) plan → GivesRequired (space_of version context.database block) plan
-    → Delivers (space_of version context.database block) (stored_of context block) (tables_of (space_of version context.database block) plan)
-    (order_at (space_of version context.database block) (order_of (space_of version context.database block) plan)) composites
+DeliveredAreRequired =
+    (version : Version) (context : Context) (block : Block) (plan : Plan) (composites : List Composite)
+    → InSpace (space_of version context.database block) plan
+    → GivesRequired (space_of version context.database block) plan
+    → Delivers (space_of version context.database block) (stored_of context block)
+    (tables_of (space_of version context.database block) plan)
+    (order_at (space_of version context.database block)
+    (order_of (space_of version context.database block) plan)) composites
     → AreRequired block (map (combination_of context.database block) composites)
 
 -- and what is left of them by a test does too
 abbrev pub LeftAreRequired : Type 0
-LeftAreRequired = (block : Block) (test : Combination → Bool) (cs : List Combination) → AreRequired block cs → AreRequired block (filter test cs)
+LeftAreRequired =
+    (block : Block) (test : Combination → Bool) (cs : List Combination) → AreRequired block cs
+    → AreRequired block (filter test cs)

@@ -13,7 +13,9 @@ Stands db blocks k outer = (around : Blocks) × AreFormed db blocks around k × 
 
 -- it is formed there
 abbrev pub StandingBlocksAreFormed : Type 0
-StandingBlocksAreFormed = (db : Database) (blocks : Blocks) (k : ℕ) (b : Block) (outer : List Combination) → slice_get blocks k ≡ Some b → Stands db blocks k outer
+StandingBlocksAreFormed =
+    (db : Database) (blocks : Blocks) (k : ℕ) (b : Block) (outer : List Combination) → slice_get blocks k ≡ Some b
+    → Stands db blocks k outer
     → (around : Blocks) × IsFormedBlock db blocks around k b × AreTypedAround db around outer
 
 -- and so stands each block that its late conjuncts ask for, at any rows of it that have types
@@ -23,5 +25,7 @@ pub record StandsInside (db : Database) (blocks : Blocks) (k : ℕ) (outer : Lis
   pub stands : Stands db blocks j outer
 
 abbrev pub SubqueriesStandInside : Type 0
-SubqueriesStandInside = (db : Database) (blocks : Blocks) (k : ℕ) (b : Block) (outer : List Combination) (c : Combination) → slice_get blocks k ≡ Some b → Stands db blocks k outer → IsTypedCombination db b c
+SubqueriesStandInside =
+    (db : Database) (blocks : Blocks) (k : ℕ) (b : Block) (outer : List Combination) (c : Combination)
+    → slice_get blocks k ≡ Some b → Stands db blocks k outer → IsTypedCombination db b c
     → AllByRecursion (StandsInside db blocks k (c ∷ outer)) (subqueries b)

@@ -1,7 +1,7 @@
 -- The combinations of a plain block, taken one after another: what they tell so far.
-use Rattle.std.specs.Prelude.{◌≡◌, List, [], ◌∷◌, ◌++◌, Bool, true, false, Result, Ok, Err, Contains, IsPermutation, get_or}
+use Rattle.std.specs.Prelude.{◌≡◌, List, [], ◌∷◌, ◌++◌, Bool, true, false, Result, Ok, Err, Contains, IsPermutation}
+use Rattle.std.specs.Prelude.{get_or}
 use Rattle.definitions.specs.Value.{Value, Null}
-use Rattle.definitions.specs.Table.{Row}
 use Rattle.definitions.specs.Arithmetic.{Raise}
 use Rattle.definitions.specs.Queries.BoundBlock.{Item, Block}
 use Rattle.definitions.specs.Queries.Conjuncts.{late_conjuncts}
@@ -27,7 +27,9 @@ module _ (context : Context) (b : Block) where
   abbrev pub Tells : List Combination → Found → Type 0
   Tells done (Late raise) = Contains (late_raises context b done) raise
   Tells done (Column raise) = (late_raises context b done ≡ []) × Contains (column_raises context b done) raise
-  Tells done (Values values) = (late_raises context b done ≡ []) × (column_raises context b done ≡ []) × (values ≡ column_values (rows_of context b done))
+  Tells done (Values values) =
+      (late_raises context b done ≡ []) × (column_raises context b done ≡ [])
+      × (values ≡ column_values (rows_of context b done))
 
 -- what is made of a row: its first value, or an exception of any of its columns
 abbrev pub RowTells : Environment → List Item → Result Value Raise → Type 0
@@ -50,8 +52,11 @@ with_more (Ok false) row (Column other) = Column other
 with_more (Ok false) row (Values values) = Values values
 
 abbrev pub OneMoreIsTold : Type 0
-OneMoreIsTold = (context : Context) (b : Block) (done : List Combination) (c : Combination) (found : Found) (late : Result Bool Raise) (row : Result Value Raise)
-    → Tells context b done found → Says context b c late → RowTells (at context c) b.items row → Tells context b (done ++ c ∷ []) (with_more late row found)
+OneMoreIsTold =
+    (context : Context) (b : Block) (done : List Combination) (c : Combination) (found : Found)
+    (late : Result Bool Raise) (row : Result Value Raise)
+    → Tells context b done found → Says context b c late → RowTells (at context c) b.items row
+    → Tells context b (done ++ c ∷ []) (with_more late row found)
 
 -- at the end
 abbrev pub told_at_end : Found → Result (List Value) Raise
@@ -60,4 +65,7 @@ told_at_end (Column raise) = Err raise
 told_at_end (Values values) = Ok values
 
 abbrev pub AllAreTold : Type 0
-AllAreTold = (context : Context) (b : Block) (all : List Combination) (found : Found) → IsPlain b → IsPermutation (passing context b) all → Tells context b all found → TellsRows (block_answer context b) (told_at_end found)
+AllAreTold =
+    (context : Context) (b : Block) (all : List Combination) (found : Found) → IsPlain b
+    → IsPermutation (passing context b) all → Tells context b all found
+    → TellsRows (block_answer context b) (told_at_end found)

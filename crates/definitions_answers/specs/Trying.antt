@@ -14,15 +14,21 @@ use Rattle.definitions_answers.specs.Steps.{context_among, context_alone}
 use Rattle.definitions_answers.specs.Taking.{Says}
 use Rattle.definitions_answers.specs.Told.{TellsRows, told_environment}
 
-module _ (db : Database) (blocks : Blocks) (b : Block) (outer : List Combination) (c : Combination) (told : ℕ → Result (List Value) Raise) where
+module _ (db : Database) (blocks : Blocks) (b : Block) (outer : List Combination) (c : Combination) (told : ℕ
+    → Result (List Value) Raise) where
   abbrev pub tried_in : Environment
   tried_in = told_environment (at (context_alone db outer) c) told
 
   pub record SaysWhatIsTold : Type 0 where
-    pub quiet : (all : Bool) → flat_map (λ d. raises_of (truth tried_in d)) (late_conjuncts b) ≡ [] → all ≡ list_all (λ d. is_surely_true (truth tried_in d)) (late_conjuncts b)
+    pub quiet : (all : Bool) → flat_map (λ d. raises_of (truth tried_in d)) (late_conjuncts b) ≡ []
+        → all ≡ list_all (λ d. is_surely_true (truth tried_in d)) (late_conjuncts b)
         → Says (context_among db blocks outer) b c (Ok all)
-    pub raises : (e : Raise) → Contains (flat_map (λ d. raises_of (truth tried_in d)) (late_conjuncts b)) e → Says (context_among db blocks outer) b c (Err e)
+    pub raises : (e : Raise) → Contains (flat_map (λ d. raises_of (truth tried_in d)) (late_conjuncts b)) e
+        → Says (context_among db blocks outer) b c (Err e)
 
 abbrev pub LateConjunctsSayWhatIsTold : Type 0
-LateConjunctsSayWhatIsTold = (db : Database) (blocks : Blocks) (b : Block) (outer : List Combination) (c : Combination) (told : ℕ → Result (List Value) Raise)
-    → AllByRecursion (λ n. TellsRows (meanings db 0 blocks n (c ∷ outer)) (told n)) (subqueries b) → SaysWhatIsTold db blocks b outer c told
+LateConjunctsSayWhatIsTold =
+    (db : Database) (blocks : Blocks) (b : Block) (outer : List Combination) (c : Combination) (told : ℕ
+    → Result (List Value) Raise)
+    → AllByRecursion (λ n. TellsRows (meanings db 0 blocks n (c ∷ outer)) (told n)) (subqueries b)
+    → SaysWhatIsTold db blocks b outer c told

@@ -4,7 +4,7 @@ use Rattle.std.specs.List.{range_with_len}
 use Rattle.std.proofs.lemmas.List.Sorted.{IsPermutation-map}
 use Rattle.std.specs.Cmp.{IsTotalOrder, then_total, nat_cmp_is}
 use Rattle.std.specs.List.{AllByRecursion}
-use Rattle.std.specs.Ordering.{nat_cmp, ordering_then, ordering_reverse, is_le, is_lt, is_gt, MatchOrdering}
+use Rattle.std.specs.Ordering.{nat_cmp, ordering_then, ordering_reverse, is_le, is_lt, MatchOrdering}
 use Rattle.std.specs.declared.cmp.Ordering.{Ordering}
 use Rattle.std.specs.declared.cmp.Ordering.TheVariants.{Less, Equal, Greater}
 use Rattle.std.specs.Prelude.{IsTrue, IsPermutation}
@@ -13,7 +13,7 @@ use Rattle.std.proofs.lemmas.Cmp.{nat_cmp_total}
 use Rattle.definitions.specs.Value.{Value, rank}
 use Rattle.definitions.specs.Table.{Row}
 use Rattle.definitions.specs.Key.{Key, value_at, key_of, key_rank}
-use Rattle.definitions.specs.IndexRun.{Entry, entries_from, comes_before, AreRising, IsRun, rows_of}
+use Rattle.definitions.specs.IndexRun.{Entry, entries_from, comes_before, AreRising, IsRun, entry_rows}
 use Rattle.definitions.specs.Plans.Order.{BlockColumn}
 use Rattle.definitions_execution.specs.Lists.{In, Rises, Differ, put_in, sorted_by}
 use Rattle.definitions_execution.specs.RowOrder.{ranked_by, NotAfter}
@@ -83,7 +83,7 @@ sorted_mapped : {X Y : Type 0} → (f : X → Y) (le : Y → Y → Bool) (xs : L
 sorted_mapped f le [] = refl
 sorted_mapped f le (x ∷ xs) = ap (put_in le (f x)) (sorted_mapped f le xs) ∙ put_mapped f le x (sorted_by (λ a b. le (f a) (f b)) xs)
 
-rows_of_entries : (columns : List ℕ) (rows : List Row) (numbers : List ℕ) → rows_of (map (entry_at columns rows) numbers) ≡ numbers
+rows_of_entries : (columns : List ℕ) (rows : List Row) (numbers : List ℕ) → entry_rows (map (entry_at columns rows) numbers) ≡ numbers
 rows_of_entries columns rows [] = refl
 rows_of_entries columns rows (n ∷ ns) = ap (λ zs. n ∷ zs) (rows_of_entries columns rows ns)
 
@@ -91,8 +91,8 @@ module _ (columns : List ℕ) (rows : List Row) where
   pub run_is : run_of (keys_in columns rows) ≡ map (entry_at columns rows) (rows_by_key columns rows)
   run_is = ap (sorted_by comes_before) (entries_are columns rows rows 0 (λ k. ap (λ j. get_or rows j []) (omega arith))) ∙ sorted_mapped (entry_at columns rows) comes_before (range_with_len 0 (length rows))
 
-  pub run_rows : rows_of (run_of (keys_in columns rows)) ≡ rows_by_key columns rows
-  run_rows = ap rows_of run_is ∙ rows_of_entries columns rows (rows_by_key columns rows)
+  pub run_rows : entry_rows (run_of (keys_in columns rows)) ≡ rows_by_key columns rows
+  run_rows = ap entry_rows run_is ∙ rows_of_entries columns rows (rows_by_key columns rows)
 
 -- values of a row in columns, given in any way
 module _ (t : ℕ) (columns : List ℕ) (rows : List Row) (value_of : BlockColumn → ℕ → Value) (is : (column row : ℕ) → value_of (record { table = t; number = column }) row ≡ value_at (get_or rows row []) column) where

@@ -9,7 +9,7 @@ use Rattle.definitions.specs.Value.{Value, Null, Number, Text, compare, is_null}
 use Rattle.definitions.specs.Statement.{ComparisonOperator, Equals, NotEquals, LessThan, GreaterThan, LessOrEquals, GreaterOrEquals}
 use Rattle.definitions.specs.Table.{Row}
 use Rattle.definitions.specs.Key.{Key}
-use Rattle.definitions.specs.IndexRun.{Entry, Limit, is_true_of, begins_with, lies_in, rows_of}
+use Rattle.definitions.specs.IndexRun.{Entry, Limit, is_true_of, begins_with, lies_in, entry_rows}
 use Rattle.definitions.specs.Plans.Path.{MatchingScan}
 use Rattle.definitions.specs.Arithmetic.{Is}
 use Rattle.definitions.specs.Truth.{Truth, and, agrees, known, known_or_unknown, is_true, compared}
@@ -158,22 +158,22 @@ filter_read p false xs = refl
 
 -- entries whose keys pass, and the rows whose keys do
 entries_pass : (columns : List ℕ) (rows : List Row) (test : Key → Bool) (numbers : List ℕ)
-    → rows_of (filter (λ (e : Entry). test e.key) (map (entry_at columns rows) numbers)) ≡ filter (λ row. test (key_at columns rows row)) numbers
+    → entry_rows (filter (λ (e : Entry). test e.key) (map (entry_at columns rows) numbers)) ≡ filter (λ row. test (key_at columns rows row)) numbers
 entries_pass columns rows test [] = refl
 entries_pass columns rows test (n ∷ ns) = by_test (test (key_at columns rows n)) (entries_pass columns rows test ns)
   where
-    by_test : (b : Bool) → rows_of (filter (λ (e : Entry). test e.key) (map (entry_at columns rows) ns)) ≡ filter (λ row. test (key_at columns rows row)) ns
-        → rows_of (cond b (entry_at columns rows n ∷ filter (λ (e : Entry). test e.key) (map (entry_at columns rows) ns)) (filter (λ (e : Entry). test e.key) (map (entry_at columns rows) ns)))
+    by_test : (b : Bool) → entry_rows (filter (λ (e : Entry). test e.key) (map (entry_at columns rows) ns)) ≡ filter (λ row. test (key_at columns rows row)) ns
+        → entry_rows (cond b (entry_at columns rows n ∷ filter (λ (e : Entry). test e.key) (map (entry_at columns rows) ns)) (filter (λ (e : Entry). test e.key) (map (entry_at columns rows) ns)))
         ≡ cond b (n ∷ filter (λ row. test (key_at columns rows row)) ns) (filter (λ row. test (key_at columns rows row)) ns)
     by_test true e = ap (λ zs. n ∷ zs) e
     by_test false e = e
 
 run_passes : (columns : List ℕ) (rows : List Row) (test : Key → Bool)
-    → filter (λ row. test (key_at columns rows row)) (rows_of (run_of (keys_in columns rows))) ≡ rows_of (filter (λ (e : Entry). test e.key) (run_of (keys_in columns rows)))
+    → filter (λ row. test (key_at columns rows row)) (entry_rows (run_of (keys_in columns rows))) ≡ entry_rows (filter (λ (e : Entry). test e.key) (run_of (keys_in columns rows)))
 run_passes columns rows test =
     ap (filter (λ row. test (key_at columns rows row))) (run_rows columns rows)
     ∙ sym (entries_pass columns rows test (rows_by_key columns rows))
-    ∙ sym (ap (λ es. rows_of (filter (λ (e : Entry). test e.key) es)) (run_is columns rows))
+    ∙ sym (ap (λ es. entry_rows (filter (λ (e : Entry). test e.key) es)) (run_is columns rows))
 
 module _ (context : Context) (block : Block) (composite : Composite) (table : ℕ) where
   asked_of_key : (columns numbers : List ℕ) (asked : List ScanKey) → AskInTurn (stored_of context block) composite table columns numbers asked → (row : ℕ) → list_all (λ number. (stored_of context block).holds number (set composite table row)) numbers ≡ keys_meet asked (key_at columns (rows_in context.database block table) row)
@@ -187,7 +187,7 @@ module _ (context : Context) (block : Block) (composite : Composite) (table : �
   asked_of_key (c ∷ cs) (g ∷ gs) (a ∷ as') h row = ap₂ (λ x y. x && y) (h.0 row) (asked_of_key cs gs as' h.1 row)
 
   part : (index : ℕ) (numbers : List ℕ) (backward : Bool) (asked : List ScanKey) (test : Key → Bool) → AskInTurn (stored_of context block) composite table (index_columns context.database block table index) numbers asked → ((key : Key) → keys_meet asked key ≡ test key)
-      → run (stored_of context block) (MatchingScan table index numbers backward) composite ≡ in_direction backward (rows_of (filter (λ (e : Entry). test e.key) (index_run context.database block table index)))
+      → run (stored_of context block) (MatchingScan table index numbers backward) composite ≡ in_direction backward (entry_rows (filter (λ (e : Entry). test e.key) (index_run context.database block table index)))
   part index numbers backward asked test h is =
       let columns : List ℕ = index_columns context.database block table index in
       let rows : List Row = rows_in context.database block table in

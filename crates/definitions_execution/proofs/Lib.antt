@@ -24,6 +24,8 @@ pub mod EarlyValues
 pub mod PathsAsk
 pub mod Giving
 pub mod ScriptSteps
+pub mod Answered
+pub mod ScriptReadings
 mod Loads
 mod LoadsExist
 pub mod StepsExist

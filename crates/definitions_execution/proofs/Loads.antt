@@ -1,5 +1,6 @@
 -- LOAD makes one thing of a file.
 use Rattle.std.proofs.Common.{◌≡◌, ◌∙◌, sym, ap, ap₂, ℕ, List, length}
+use Rattle.definitions.specs.Ended.{Ended}
 use Rattle.definitions.specs.Statement.{Name}
 use Rattle.definitions.specs.Table.{Table, Database}
 use Rattle.definitions.specs.Loading.{Record}
@@ -7,7 +8,7 @@ use Rattle.definitions.specs.Change.{with_rows, changed}
 use Rattle.definitions.specs.Printing.{loaded_text, record_refusal_text}
 use Rattle.definitions.proofs.FileLoads.{file_reads_once, all_once, all_or_refused, all_or_full, refused_or_full, refused_once}
 use Rattle.definitions_execution.specs.Step as step
-use Rattle.definitions_execution.specs.Step.{Ended, Loaded}
+use Rattle.definitions_execution.specs.Step.{Loaded}
 use Rattle.definitions_execution.specs.RunLaws.{LoadHasOneOutcome}
 
 module _ (db : Database) (name : Name) (t : Table) (records : List Record) where

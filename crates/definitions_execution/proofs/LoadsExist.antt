@@ -1,6 +1,7 @@
 -- No LOAD of a file is without an outcome.
 use Rattle.std.proofs.Common.{◌≡◌, ◌∙◌, refl, sym, subst, ℕ, ◌+◌, ◌<◌, ◌≤◌, ◌⊎◌, inl, inr, List, [], ◌∷◌, ◌++◌, Result, Ok, Err, length, arith}
 use Rattle.std.proofs.lemmas.List.{append-nil, append_assoc, length-append}
+use Rattle.definitions.specs.Ended.{Ended, Well, Faulted}
 use Rattle.definitions.specs.Limits.{most_rows}
 use Rattle.definitions.specs.Refusal.{Refusal, OverLimit}
 use Rattle.definitions.specs.Statement.{Name}
@@ -8,9 +9,9 @@ use Rattle.definitions.specs.Table.{Row, Table, Database}
 use Rattle.definitions.specs.Change.{with_rows, changed}
 use Rattle.definitions.specs.Printing.{loaded_text, refusal_text, record_refusal_text}
 use Rattle.definitions.specs.Loading as f
-use Rattle.definitions.specs.Loading.{Record, AreFileRecords, null_field, Writes, StoresAs, not_stored, FieldLoads, ColumnLoads, FieldsLoad, RecordReads, RecordLoads, AllLoad, LoadsUpTo, repeats_key}
+use Rattle.definitions.specs.Loading.{Record, RecordLoads, AllLoad, LoadsUpTo}
 use Rattle.definitions_execution.specs.Step as step'
-use Rattle.definitions_execution.specs.Step.{Ended, Well, Faulted, Loaded}
+use Rattle.definitions_execution.specs.Step.{Loaded}
 use Rattle.std.proofs.lemmas.Bool.{cases_lt}
 use Rattle.definitions.proofs.RecordsExist.{some_record}
 

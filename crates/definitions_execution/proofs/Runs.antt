@@ -3,26 +3,29 @@ use Rattle.std.proofs.Common.{◌≡◌, refl, sym, subst, ℕ, List, [], ◌∷
 use Rattle.std.specs.Prelude.{codes, pos, cond, IsPermutation, IsSorted}
 use Rattle.std.specs.Fmt.{digits}
 use Rattle.std.specs.declared.cmp.Ordering.{Ordering}
+use Rattle.definitions.specs.Ended.{Well, Faulted}
 use Rattle.definitions.specs.Value.{Number}
 use Rattle.definitions.specs.Refusal.{OpenString, Unexpected}
 use Rattle.definitions.specs.Statement.{Select, Query}
 use Rattle.definitions.specs.Grammar as g
 use Rattle.definitions.specs.Table.{Row, Table, Database}
 use Rattle.definitions.specs.Arithmetic.{Meaning, Is, Raises}
-use Rattle.definitions.specs.Queries.BoundBlock.{Key}
+use Rattle.definitions.specs.Binding.Faults.{Binds}
+use Rattle.definitions.specs.Queries.BoundBlock.{OrderKey, Blocks}
 use Rattle.definitions.specs.Queries.Answer.{answer}
-use Rattle.definitions.specs.Queries.Outcomes.{Rows, Exception, Allowed, order_of, row_order}
+use Rattle.definitions.specs.Queries.Outcomes.{Told, Rows, Exception, Allowed, AllowedOf, order_keys, names_of, row_order, shown}
 use Rattle.definitions.specs.Binding.BoundForm.{bound_form}
 use Rattle.definitions.specs.Faults as faults
 use Rattle.definitions.specs.Faults.{IsAccepted}
 use Rattle.definitions.specs.Change as made
 use Rattle.definitions_execution.specs.Step as step
-use Rattle.definitions_execution.specs.Step.{Answering, Faulted, Loaded}
+use Rattle.definitions_execution.specs.Step.{Answering, Loaded, told_ended}
 use Rattle.std.proofs.lemmas.List.Sorted.{sum_by-IsPermutation}
 use Rattle.definitions_execution.specs.RunLaws.{FaultsChangeNothing, SelectPrintsAnswer, PrintsAnswer}
 use Rattle.definitions_execution.specs.CheckingRun as checking
 use Rattle.definitions_execution.specs.ScriptExamples.{ScriptsRun, EmptyScriptIsNothing}
 use Rattle.definitions.specs.Examples.Binding.{t_and_u, faultless}
+use Rattle.definitions_execution.proofs.Answered.{answered}
 use Rattle.definitions.proofs.TextExamples.{texts_read, tokens_derive}
 use Rattle.definitions.proofs.BindingTheory.WorkedBindings.{faultless_is_accepted}
 
@@ -45,7 +48,9 @@ module _ {L : Type 0} (answers : Answering L) where
       refl,
     )
         tokens_derive.load_from_fails_at_5 refl) refl refl;
-    one_row_printed = λ lib before work total. step.query faultless (bound_form t_and_u faultless) (Rows ((Number (pos 1) 0 ∷ []) ∷ [])) work refl accepted (faultless_is_accepted, refl) (record { moves = []; below = tt; is = refl }, one_sorted (row_order []) (Number (pos 1) 0 ∷ [])) total refl refl refl;
+    one_row_printed = λ lib before work (plans, certified, is). step.query faultless work refl accepted
+        (answered t_and_u faultless (bound_form t_and_u faultless) (faultless_is_accepted, refl) plans certified (Rows ((Number (pos 1) 0 ∷ []) ∷ []))
+        (record { moves = []; below = tt; is = refl }, one_sorted (row_order []) (Number (pos 1) 0 ∷ [])) before work is) refl;
   }
 
 -- an error line leaves the database as it was
@@ -60,15 +65,31 @@ faults_change_nothing answers old new s text (step.repeated a b n t e) = rw n re
 faults_change_nothing answers old new s text (step.made db a b n t e) = absurd cc
 faults_change_nothing answers old new s text (step.no_file a b l c d e n t f) = rw n refl
 faults_change_nothing answers old new s text (step.load a b c l t r db e f g h lo n) = rw n (loaded_fault _ _ _ _ _ _ lo)
-faults_change_nothing answers old new s text (step.query q blocks told work a b c d total n t e) = rw n refl
+faults_change_nothing answers old new s text (step.query q work a b own n) = rw n refl
 faults_change_nothing answers old new s text (step.explain q blocks a b c d n e) = rw n refl
 
 same_query : (q q' : Select) → Query q ≡ Query q' → q ≡ q'
 same_query q q' e = cc
 
-rows_meant : (m : Meaning (List Row)) (keys : List Key) (rows : List Row) → Allowed m keys (Rows rows) → (bag : List Row) × (m ≡ Is bag) × IsPermutation bag rows × IsSorted (row_order keys) rows
+rows_meant : (m : Meaning (List Row)) (keys : List OrderKey) (rows : List Row) → Allowed m keys (Rows rows) → (bag : List Row) × (m ≡ Is bag) × IsPermutation bag rows × IsSorted (row_order keys) rows
 rows_meant (Is bag) keys rows h = (bag, refl, h.0, h.1)
 rows_meant (Raises r rs) keys rows h = absurd h
+
+printed : (db : Database) (q : Select) (text : List ℕ) (blocks : Blocks) → Binds db q blocks → (told : Told) → AllowedOf db blocks told → text ≡ shown (names_of blocks) told
+    → Well ≡ told_ended told → PrintsAnswer db q text
+printed db q text blocks bound (Exception raise) allowed is well = absurd cc
+printed db q text blocks bound (Rows rows) allowed is well =
+    let (bag, meant, permuted, sorted) = rows_meant (answer db blocks) (order_keys blocks) rows allowed in
+    record {
+      blocks = blocks;
+      bound = bound;
+      bag = bag;
+      meant = meant;
+      rows = rows;
+      is = is;
+      as_often = λ test. sum_by-IsPermutation (λ row. cond (test row) 1 0) bag rows permuted;
+      sorted = sorted;
+    }
 
 -- what is printed for a query that is not refused, and raises no exception, is its answer
 pub select_prints_answer : {L : Type 0} (answers : Answering L) → SelectPrintsAnswer answers
@@ -81,20 +102,8 @@ select_prints_answer answers old new q text (step.made db a (made.index_set n c 
 select_prints_answer answers old new q text (step.no_file a b l c d e n t f) = absurd cc
 select_prints_answer answers old new q text (step.load a b c l t r db e f g h lo n) = absurd cc
 select_prints_answer answers old new q text (step.explain q' blocks s a bound are n e) = absurd cc
-select_prints_answer answers old new q text (step.query q' blocks (Exception raise) work s a bound allowed total n t e) = absurd cc
-select_prints_answer answers old new q text (step.query q' blocks (Rows rows) work s a bound allowed total n t e) =
-    let (bag, meant, permuted, sorted) = rows_meant (answer old.database blocks) (order_of blocks) rows allowed in
-    let printed : PrintsAnswer old.database q' text = record {
-      blocks = blocks;
-      bound = bound;
-      bag = bag;
-      meant = meant;
-      rows = rows;
-      is = t;
-      as_often = λ test. sum_by-IsPermutation (λ row. cond (test row) 1 0) bag rows permuted;
-      sorted = sorted;
-    } in
-    subst (λ x. PrintsAnswer old.database x text) (sym (same_query q q' s)) printed
+select_prints_answer answers old new q text (step.query q' work s a own n) =
+    subst (λ x. PrintsAnswer old.database x text) (sym (same_query q q' s)) (printed old.database q' text own.blocks own.bound own.told own.allowed own.printed own.ends)
 
 -- there is no statement to check
 pub empty_script : EmptyScriptIsNothing

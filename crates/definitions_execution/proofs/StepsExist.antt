@@ -3,15 +3,16 @@
 use Rattle.std.proofs.Common.{◌≡◌, ◌≢◌, refl, ℕ, ◌+◌, ◌*◌, ◌≤◌, ◌⊎◌, inl, inr, ℤ, List, [], ◌∷◌, ◌++◌, Option, Some, None, Bool, true, false, cond, length, map, arith}
 use Rattle.std.specs.Prelude.{bytes_eq, option_map}
 use Rattle.std.specs.List.{AllByRecursion}
+use Rattle.definitions.specs.Ended.{Ended, Well, Faulted, both_ended}
 use Rattle.definitions.specs.Limits.{most_blocks}
 use Rattle.definitions.specs.Value.{SqlType, Kind, Numbers, Texts, kind_of}
 use Rattle.definitions.specs.Refusal.{Refusal, NotFound, NoFile, NullOrRepeated, OverLimit, MixedKinds}
 use Rattle.definitions.specs.Statement.{Name, Select, Range, Statement, CreateTable, CreateIndex, Load, SetTableStatistics, SetIndexStatistics, Query, Explain}
-use Rattle.definitions.specs.Statement.{IndexStatistics as Given}
+use Rattle.definitions.specs.Statement.{GivenStatistics as Given}
 use Rattle.definitions.specs.Table.{Column, IndexStatistics, Table, Database, table_named, type_named, column_number, column_numbers}
 use Rattle.definitions.specs.Key.{key_of, AreUnique}
 use Rattle.definitions.specs.Change as change
-use Rattle.definitions.specs.Change.{KeptAs, RangeKept, StatisticsKept, first_type, changed, new_table, with_index, with_table_statistics, with_index_statistics}
+use Rattle.definitions.specs.Change.{KeptAs, RangeKept, first_type, changed, new_table, with_index, with_table_statistics, with_index_statistics}
 use Rattle.definitions.specs.IndexFaults as index
 use Rattle.definitions.specs.IndexFaults.{ListFaulty}
 use Rattle.definitions.specs.Faults as fault
@@ -24,11 +25,11 @@ use Rattle.definitions.specs.Plans.Plan.{Plan}
 use Rattle.definitions.specs.Plans.Search.{IsComplete}
 use Rattle.definitions.specs.Queries.BoundBlock.{Block, Blocks}
 use Rattle.definitions.specs.Queries.Answer.{answer}
-use Rattle.definitions.specs.Queries.Outcomes.{Told, Rows, Exception, AllowedOf, names_of, order_of, shown}
+use Rattle.definitions.specs.Queries.Outcomes.{Told, Rows, Exception, AllowedOf, names_of, order_keys, shown}
 use Rattle.definitions.specs.Estimates.Version.{current_version}
 use Rattle.definitions.specs.Estimates.BlockSpace.{space_of}
 use Rattle.definitions.specs.Certificates.Explaining.{certified, certified_from, AreExplained}
-use Rattle.definitions.specs.Certificates.Spelling.{spelling}
+use Rattle.definitions.specs.Certificates.Writing.{text_written}
 use Rattle.definitions.specs.Printing.{done_text, refusal_text}
 use Rattle.definitions.proofs.Changes.{valid_named}
 use Rattle.definitions.proofs.PlanTheory.LeastPlans.{undecided, none_without_short_least}
@@ -39,9 +40,11 @@ use Rattle.definitions.proofs.EstimateTheory.FormedSpaces.{formed_has_plans}
 use Rattle.definitions.proofs.CertificateTheory.PlansSpelled.{plans_are_spelled}
 use Rattle.definitions_execution.specs.Total.{AreCertified, total_of}
 use Rattle.definitions_execution.specs.Step as step
-use Rattle.definitions_execution.specs.Step.{Answering, State, Step, Steps, Ended, Well, Faulted, both_ended, AreStatements, Run}
+use Rattle.definitions_execution.specs.Step.{Answering, State, Step, Steps}
 use Rattle.definitions_execution.specs.RunLaws.{AnswersAll, QueriesAreWritten, NoneWithoutStep, NoneWithoutRun}
 use Rattle.definitions.proofs.RecordsExist.{file_records}
+use Rattle.definitions_execution.proofs.Answered.{answered}
+use Rattle.definitions_execution.proofs.ScriptReadings.{none_without_reading, scripts_are_written}
 use Rattle.definitions_execution.proofs.LoadsExist.{no_load_without_outcome}
 use Rattle.definitions_execution.proofs.ScriptSteps.{step_keeps_database}
 
@@ -64,10 +67,10 @@ module _ (db : Database) (valid : IsDatabase db) where
   some_text [] number few formed none = none [] refl
   some_text (b ∷ bs) number few formed none =
       none_without_short_least (space_of current_version db b) (complete b formed.0) (λ p c (is_valid, exact, least) words.
-      let own = spelling (certified db number b current_version) p c in
-      let spelled = plans_are_spelled db number b p c valid (omega (arith, few)) formed.0 least.0 (few_words b _ formed.0 words) exact.0 in
+      let own = text_written (certified db number b current_version) p c in
+      let spelled = plans_are_spelled db number b p c own valid (omega (arith, few)) formed.0 least.0 (few_words b _ formed.0 words) exact.0 refl in
       some_text bs (number + 1) (omega (arith, few)) formed.1 (λ rest are.
-      none (own ++ rest) (own, rest, (p, c, (spelled, refl), (is_valid, exact, least)), are, refl)))
+      none (own ++ rest) (own, rest, (p, c, spelled, (is_valid, exact, least)), are, refl)))
 
 -- ---- lists of columns
 
@@ -185,22 +188,22 @@ module _ {L : Type 0} (answers : Answering L) (all : AnswersAll answers) (old : 
           none (record old { library = library }) (refusal_text NoFile) Faulted (step.no_file table file library refl (accepted (Load table file) none) answered refl refl refl)
 
   some_answer : (q : Select) → QueriesAreWritten old.database (Query q) → HasNone (Query q) → ⊥
-  some_answer q written none = some_plans old.database valid blocks (each_block_is_formed old.database q valid written bindable) (λ plans are. of_told plans are (some_outcome_is_allowed (answer old.database blocks) (order_of blocks)))
+  some_answer q written none = some_plans old.database valid blocks (each_block_is_formed old.database q valid written bindable) (λ plans are. of_told plans are (some_outcome_is_allowed (answer old.database blocks) (order_keys blocks)))
     where
       blocks : Blocks
       blocks = bound_form old.database q
 
-      bindable : binding.IsAccepted old.database q
+      bindable : binding.IsAcceptedQuery old.database q
       bindable r f = accepted (Query q) none r (fault.query q r f)
 
       of_told : (plans : List Plan) → AreCertified current_version old.database blocks plans → (told : Told) × AllowedOf old.database blocks told → ⊥
       of_told plans are (Rows rows, allowed) =
           let work = total_of current_version old.database blocks plans in
           none (record old { work = work }) (shown (names_of blocks) (Rows rows)) Well
-          (step.query q blocks (Rows rows) work refl (accepted (Query q) none) (bindable, refl) allowed (plans, are, refl) refl refl refl)
+          (step.query q work refl (accepted (Query q) none) (answered old.database q blocks (bindable, refl) plans are (Rows rows) allowed old.work work refl) refl)
       of_told plans are (Exception raise, allowed) =
           none (record old { work = old.work }) (shown (names_of blocks) (Exception raise)) Faulted
-          (step.query q blocks (Exception raise) old.work refl (accepted (Query q) none) (bindable, refl) allowed (plans, are, refl) refl refl refl)
+          (step.query q old.work refl (accepted (Query q) none) (answered old.database q blocks (bindable, refl) plans are (Exception raise) allowed old.work old.work refl) refl)
 
   some_explanation : (q : Select) → QueriesAreWritten old.database (Explain q) → HasNone (Explain q) → ⊥
   some_explanation q written none = some_text old.database valid blocks 0 (let few = few_blocks old.database q bindable in omega (arith, few)) (each_block_is_formed old.database q valid written bindable) (λ text are.
@@ -209,7 +212,7 @@ module _ {L : Type 0} (answers : Answering L) (all : AnswersAll answers) (old : 
       blocks : Blocks
       blocks = bound_form old.database q
 
-      bindable : binding.IsAccepted old.database q
+      bindable : binding.IsAcceptedQuery old.database q
       bindable r f = accepted (Explain q) none r (fault.explained q r f)
 
   some_step : (s : Statement) → QueriesAreWritten old.database s → HasNone s → ⊥
@@ -239,5 +242,6 @@ some_steps answers all (s ∷ ss) old valid written none =
     none new (own ++ rest) (both_ended e f) (mid, own, rest, e, f, this, more, refl, refl)))
 
 pub none_without_run : {L : Type 0} (answers : Answering L) → NoneWithoutRun answers
-none_without_run answers all old script statements valid are written none =
-    some_steps answers all statements old valid written (λ new text ended steps. none new text ended (step.run statements are steps))
+none_without_run answers all old script valid none =
+    none_without_reading script (λ text line. none old text Faulted (step.fault line refl refl))
+    (λ statements are. some_steps answers all statements old valid (scripts_are_written script statements are) (λ new text ended steps. none new text ended (step.run statements are steps)))

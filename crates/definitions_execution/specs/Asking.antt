@@ -1,9 +1,10 @@
--- What a conjunct asks of a column: its value, where it is equal to another, or a range of values (Selinger et al. 1979, section 4: what
--- a boolean factor that matches an index asks of its keys).
+-- What a conjunct asks of a column: its value, where it is equal to another, or a range of values (Selinger et al.
+-- 1979, section 4: what a boolean factor that matches an index asks of its keys).
 use Rattle.std.specs.Prelude.{ℕ, ◌<◌, length, slice_get, ◌≡◌, set, Bool, false, not, ◌&&◌, Option, Some, None}
 use Rattle.std.specs.Ordering.{is_eq}
 use Rattle.definitions.specs.Value.{Value, SqlType, compare, is_null}
-use Rattle.definitions.specs.Statement.{ComparisonOperator, Equals, NotEquals, LessThan, GreaterThan, LessOrEquals, GreaterOrEquals}
+use Rattle.definitions.specs.Statement.{ComparisonOperator, Equals, NotEquals, LessThan, GreaterThan, LessOrEquals}
+use Rattle.definitions.specs.Statement.{GreaterOrEquals}
 use Rattle.definitions.specs.IndexRun.{Limit, Unlimited, Inclusive, Exclusive, is_true_of, is_from, is_up_to}
 use Rattle.definitions.specs.Arithmetic.{Is}
 use Rattle.definitions.specs.Plans.TableSet.{Lacks}
@@ -45,39 +46,57 @@ from_other_side GreaterOrEquals = LessOrEquals
 
 -- a condition is true exactly where a column has what is asked of it
 abbrev pub AsksOf : Context → Combination → BlockColumn → Condition → ScanKey → Type 0
-AsksOf context combination column condition asked = is_surely_true (truth (at context combination) condition) ≡ meets asked (cell combination column)
+AsksOf context combination column condition asked =
+    is_surely_true (truth (at context combination) condition) ≡ meets asked (cell combination column)
 
 abbrev pub ComparisonAsks : Type 0
-ComparisonAsks = (context : Context) (combination : Combination) (column : BlockColumn) (type : SqlType) (op : ComparisonOperator) (e : ValueExpr) (v : Value) (asked : ScanKey)
-    → value (at context combination) e ≡ Is v → asked_by op v ≡ Some asked → AsksOf context combination column (Compare op (Column column type) e) asked
+ComparisonAsks =
+    (context : Context) (combination : Combination) (column : BlockColumn) (type : SqlType) (op : ComparisonOperator)
+    (e : ValueExpr) (v : Value) (asked : ScanKey)
+    → value (at context combination) e ≡ Is v → asked_by op v ≡ Some asked
+    → AsksOf context combination column (Compare op (Column column type) e) asked
 
 abbrev pub TurnedComparisonAsks : Type 0
-TurnedComparisonAsks = (context : Context) (combination : Combination) (column : BlockColumn) (type : SqlType) (op : ComparisonOperator) (e : ValueExpr) (v : Value) (asked : ScanKey)
-    → value (at context combination) e ≡ Is v → asked_by (from_other_side op) v ≡ Some asked → AsksOf context combination column (Compare op e (Column column type)) asked
+TurnedComparisonAsks =
+    (context : Context) (combination : Combination) (column : BlockColumn) (type : SqlType) (op : ComparisonOperator)
+    (e : ValueExpr) (v : Value) (asked : ScanKey)
+    → value (at context combination) e ≡ Is v → asked_by (from_other_side op) v ≡ Some asked
+    → AsksOf context combination column (Compare op e (Column column type)) asked
 
 abbrev pub BetweenAsks : Type 0
-BetweenAsks = (context : Context) (combination : Combination) (column : BlockColumn) (type : SqlType) (e f : ValueExpr) (v w : Value)
+BetweenAsks =
+    (context : Context) (combination : Combination) (column : BlockColumn) (type : SqlType) (e f : ValueExpr)
+    (v w : Value)
     → value (at context combination) e ≡ Is v → value (at context combination) f ≡ Is w
     → AsksOf context combination column (Between false (Column column type) e f) (InRange (Inclusive v) (Inclusive w))
 
--- the same, whatever row of the table is taken, of a conjunct `column op value`, `value op column` or `column BETWEEN value AND value`
+-- the same, whatever row of the table is taken, of a conjunct `column op value`, `value op column` or `column BETWEEN
+-- value AND value`
 module _ (context : Context) (block : Block) (composite : Composite) (table column : ℕ) where
   abbrev pub key_column : BlockColumn
   key_column = record { table = table; number = column }
 
   -- a value that is known before a row of the table is taken
   abbrev pub IsKnownValue : ValueExpr → Value → Type 0
-  IsKnownValue e v = (can_raise e ≡ false) × Lacks (tables_named e) table × (value (at context (combination_of context.database block composite)) e ≡ Is v)
+  IsKnownValue e v =
+      (can_raise e ≡ false) × Lacks (tables_named e) table
+      × (value (at context (combination_of context.database block composite)) e ≡ Is v)
 
   abbrev pub Asks : Condition → ScanKey → Type 0
   Asks condition asked = (number : ℕ) → slice_get (conjuncts block) number ≡ Some condition
-      → (row : ℕ) → (stored_of context block).holds number (set composite table row) ≡ meets asked ((stored_of context block).value_in key_column row)
+      → (row : ℕ) → (stored_of context block).holds number (set composite table row)
+      ≡ meets asked ((stored_of context block).value_in key_column row)
 
   abbrev pub KnownValuesAsk : Type 0
   KnownValuesAsk = table < length composite
-      → ((type : SqlType) (op : ComparisonOperator) (e : ValueExpr) (v : Value) (asked : ScanKey) → IsKnownValue e v → asked_by op v ≡ Some asked → Asks (Compare op (Column key_column type) e) asked)
-      × ((type : SqlType) (op : ComparisonOperator) (e : ValueExpr) (v : Value) (asked : ScanKey) → IsKnownValue e v → asked_by (from_other_side op) v ≡ Some asked → Asks (Compare op e (Column key_column type)) asked)
-      × ((type : SqlType) (e f : ValueExpr) (v w : Value) → IsKnownValue e v → IsKnownValue f w → Asks (Between false (Column key_column type) e f) (InRange (Inclusive v) (Inclusive w)))
+      → ((type : SqlType) (op : ComparisonOperator) (e : ValueExpr) (v : Value) (asked : ScanKey) → IsKnownValue e v
+      → asked_by op v ≡ Some asked → Asks (Compare op (Column key_column type) e) asked)
+      × ((type : SqlType) (op : ComparisonOperator) (e : ValueExpr) (v : Value) (asked : ScanKey) → IsKnownValue e v
+      → asked_by (from_other_side op) v ≡ Some asked → Asks (Compare op e (Column key_column type)) asked)
+      × ((type : SqlType) (e f : ValueExpr) (v w : Value) → IsKnownValue e v → IsKnownValue f w
+      → Asks (Between false (Column key_column type) e f) (InRange (Inclusive v) (Inclusive w)))
 
 abbrev pub ConjunctsAsk : Type 0
-ConjunctsAsk = (context : Context) (block : Block) (composite : Composite) (table column : ℕ) → KnownValuesAsk context block composite table column
+ConjunctsAsk =
+    (context : Context) (block : Block) (composite : Composite) (table column : ℕ)
+    → KnownValuesAsk context block composite table column

@@ -11,7 +11,9 @@ use Rattle.definitions_execution.specs.OfBlock.{combination_of, stored_of}
 
 module _ (version : Version) (context : Context) (block : Block) where
   abbrev pub delivered_combinations : Plan → List Combination
-  delivered_combinations plan = map (combination_of context.database block) (delivered (space_of version context.database block) (stored_of context block) plan)
+  delivered_combinations plan =
+      map (combination_of context.database block)
+      (delivered (space_of version context.database block) (stored_of context block) plan)
 
   abbrev pub rows_opened : Plan → ℕ
   rows_opened plan = opened (space_of version context.database block) (stored_of context block) plan

@@ -1,4 +1,5 @@
--- What holds of every plan of a space that fits what is stored, each proved as the contract of a function that has no code.
+-- What holds of every plan of a space that fits what is stored, each proved as the contract of a function that has no
+-- code.
 use Rattle.std.specs.Prelude.{ℕ, ◌+◌, ◌≡◌, IsPermutation}
 use Rattle.definitions.specs.Plans.Plan.{Inner, Plan, Merge}
 use Rattle.definitions.specs.Plans.Space.{Space, order_at}
@@ -24,17 +25,24 @@ PlansArrange = (space : Space) (stored : Stored) → Fits space stored → (plan
 
 -- an order that satisfies the required one gives it
 abbrev pub OrderedGiveRequired : Type 0
-OrderedGiveRequired = (space : Space) (stored : Stored) → Fits space stored → (plan : Plan) → InSpace space plan → GivesRequired space plan
+OrderedGiveRequired =
+    (space : Space) (stored : Stored) → Fits space stored → (plan : Plan) → InSpace space plan
+    → GivesRequired space plan
     → Rises (NotAfter (value_at stored) space.required) (delivered space stored plan)
 
 -- the rows that are opened are the plan's work
 abbrev pub OpenedIsWork : Type 0
-OpenedIsWork = (space : Space) (stored : Stored) → Fits space stored → (plan : Plan) → IsPlan space plan → opened space stored plan ≡ work space stored plan
+OpenedIsWork =
+    (space : Space) (stored : Stored) → Fits space stored → (plan : Plan) → IsPlan space plan
+    → opened space stored plan ≡ work space stored plan
 
 -- a merge may go along both sides once, if the inner rows are first cleaned
 abbrev pub MergeGoesInStep : Type 0
-MergeGoesInStep = (space : Space) (stored : Stored) → Fits space stored → (outer : Plan) (number : ℕ) (inner : Inner) → IsPlan space (Merge outer number inner)
-    → merged space stored (tables_of space outer) number inner (delivered space stored outer) ≡ delivered space stored (Merge outer number inner)
+MergeGoesInStep =
+    (space : Space) (stored : Stored) → Fits space stored → (outer : Plan) (number : ℕ) (inner : Inner)
+    → IsPlan space (Merge outer number inner)
+    → merged space stored (tables_of space outer) number inner (delivered space stored outer)
+    ≡ delivered space stored (Merge outer number inner)
 
 -- a count may stop at the limit at each step
 abbrev pub CountMayStop : Type 0

@@ -1,5 +1,5 @@
--- What running a plan delivers, and how many rows it opens for that (own; Selinger et al. 1979, section 5, has the operators).
--- To be read in this order.
+-- What running a plan delivers, and how many rows it opens for that (own; Selinger et al. 1979, section 5, has the
+-- operators). To be read in this order.
 pub mod Lists
 pub mod RowOrder
 pub mod Stored

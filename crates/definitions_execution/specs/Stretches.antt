@@ -14,5 +14,6 @@ EqualPartsAreStretches = (db : Database) (block : Block) (table index : ℕ) (va
     → IsStretch (equal_part values (index_run db block table index)) (index_run db block table index)
 
 abbrev pub RangePartsAreStretches : Type 0
-RangePartsAreStretches = (db : Database) (block : Block) (table index : ℕ) (values : List Value) (low high : Limit) → IsDatabase db
+RangePartsAreStretches =
+    (db : Database) (block : Block) (table index : ℕ) (values : List Value) (low high : Limit) → IsDatabase db
     → IsStretch (range_part values low high (index_run db block table index)) (index_run db block table index)

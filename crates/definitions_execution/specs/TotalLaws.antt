@@ -14,15 +14,23 @@ use Rattle.definitions_execution.specs.Total.{BlockWork, block_total, totals, co
 
 -- what is counted over what a plan delivers is the block's total
 abbrev pub CountedIsTotal : Type 0
-CountedIsTotal = (version : Version) (context : Context) (block : Block) (plan : Plan) (total : ℕ → BlockWork) → NamesOwnTables block
-    → InSpace (space_of version context.database block) plan → counted_total version context block plan total ≡ block_total version context block plan total
+CountedIsTotal =
+    (version : Version) (context : Context) (block : Block) (plan : Plan) (total : ℕ → BlockWork) → NamesOwnTables block
+    → InSpace (space_of version context.database block) plan
+    → counted_total version context block plan total ≡ block_total version context block plan total
 
 -- a block's total goes by the blocks behind it
 abbrev pub TotalsGoByThoseBehind : Type 0
 TotalsGoByThoseBehind =
-    (version : Version) (db : Database) (blocks : Blocks) (plans : List Plan) (k : ℕ) (b : Block) (p : Plan) (outer : List Combination) → slice_get blocks k ≡ Some b → slice_get plans k ≡ Some p
+    (version : Version) (db : Database) (blocks : Blocks) (plans : List Plan) (k : ℕ) (b : Block) (p : Plan)
+    (outer : List Combination) → slice_get blocks k ≡ Some b → slice_get plans k ≡ Some p
     → totals version db 0 blocks plans k outer
-    ≡ block_total version (record { database = db; outer = outer; inner = meanings db (k + 1) (drop (k + 1) blocks) }) b p (totals version db (k + 1) (drop (k + 1) blocks) (drop (k + 1) plans))
+    ≡ block_total version (record {
+      database = db;
+      outer = outer;
+      inner = meanings db (k + 1) (drop (k + 1) blocks);
+    }) b p
+    (totals version db (k + 1) (drop (k + 1) blocks) (drop (k + 1) plans))
 
 -- and these have there the totals that they have among all
 abbrev pub TotalsBehindAreTheSame : Type 0

@@ -18,7 +18,7 @@ ghost use Rattle.definitions_execution.specs.Examples.MatchedKeys.{RunByKey, Mat
 ghost use Rattle.definitions_execution.specs.Examples.WrongSteps.{NullsWouldMerge, RawRowsMislead, BackwardIsNotAscending, LateWaitsForEarly};
 ghost use Rattle.definitions_execution.specs.GivingLaws.{AccessGives, LoopGives, MergeGives, SortGives, ArrangedWhole, LoopWorks};
 ghost use Rattle.definitions_execution.specs.ScriptExamples.{EmptyScriptIsNothing};
-ghost use Rattle.definitions_execution.specs.RunLaws.{LoadHasOneOutcome};
+ghost use Rattle.definitions_execution.specs.RunLaws.{LoadHasOneOutcome, NoneWithoutReading, ScriptsAreWritten};
 
 /// A plan delivers the passing composites of its tables, each once, in its order; and in the required order, if its own serves for it.
 pub fn plans_deliver()
@@ -159,4 +159,14 @@ pub fn load_has_one_outcome()
 /// A checking run of an empty script has nothing to check.
 pub fn worked_scripts()
     ensures { EmptyScriptIsNothing }
+{}
+
+/// What the statements of a script hold is as it can be written: numbers of few digits, and texts of printable characters.
+pub fn scripts_are_written()
+    ensures { ScriptsAreWritten }
+{}
+
+/// No text is without a reading: it has statements, or the line of a fault.
+pub fn each_text_has_a_reading()
+    ensures { NoneWithoutReading }
 {}

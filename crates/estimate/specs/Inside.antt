@@ -8,7 +8,7 @@ use Rattle.query_tree.specs.Bound.{block_of}
 use Rattle.conjuncts.specs.Naming.{NamesFew}
 use Rattle.estimate.specs.Tables.{tables_of, AreTablesOf}
 use Rattle.estimate.specs.Estimated.{Estimated}
-use Rattle.estimate.specs.PlanConjuncts.{condition_told, conjunct_of}
+use Rattle.estimate.specs.PlanConjuncts.{condition_of_conjunct, conjunct_of}
 use Rattle.estimate.specs.Sizes.{size_in, sizes_of}
 use Rattle.estimate.specs.declared.estimate.Estimate.TheInside.{Inside}
 
@@ -23,5 +23,5 @@ pub record IsEstimate (e : Inside) : Type 0 where
   pub sizes : map size_in e.sizes.items ≡ sizes_of e.tables.items
   pub measured : length e.sizes.items ≡ length (block_of e.block.now).tables
   pub planned : map conjunct_of e.conjuncts.items ≡ plan_conjuncts e.database.now (block_of e.block.now)
-  pub conditions : map condition_told e.conjuncts.items ≡ queries.conjuncts (block_of e.block.now)
+  pub conditions : map condition_of_conjunct e.conjuncts.items ≡ queries.conjuncts (block_of e.block.now)
   pub named : AllByRecursion NamesFew (queries.conjuncts (block_of e.block.now))

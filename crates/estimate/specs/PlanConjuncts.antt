@@ -12,8 +12,8 @@ use Rattle.estimate.specs.declared.plan_conjunct.PlanConjunct.{PlanConjunct}
 abbrev pub conjunct_of : PlanConjunct → spec.Conjunct
 conjunct_of c = record { early = c.early; tables = set_of c.tables; equated = option_map pair_of c.equated; selectivity = c.selectivity }
 
-abbrev pub condition_told : PlanConjunct → Condition
-condition_told c = condition_of c.condition.now
+abbrev pub condition_of_conjunct : PlanConjunct → Condition
+condition_of_conjunct c = condition_of c.condition.now
 
 -- it names a table, and beside it only tables whose rows are known
 abbrev pub names_known : TableSet → ℕ → spec.Conjunct → Bool

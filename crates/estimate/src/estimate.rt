@@ -13,7 +13,7 @@ ghost use Rattle.conjuncts.specs.Naming.{NamesFew};
 ghost use Rattle.plan_tree.specs.Sets.{set_of};
 ghost use Rattle.estimate.specs.Tables.{tables_of, AreTablesOf};
 ghost use Rattle.estimate.specs.Estimated.{IsFormed};
-ghost use Rattle.estimate.specs.PlanConjuncts.{condition_told, conjunct_of};
+ghost use Rattle.estimate.specs.PlanConjuncts.{condition_of_conjunct, conjunct_of};
 
 use crate::plan_conjunct::PlanConjunct;
 use crate::planning::plan_conjuncts;
@@ -77,7 +77,7 @@ impl<'a> Estimate<'a> {
         })
     }
 
-    /// The block.
+    /// The bound block whose rows and pages are estimated.
     pub fn block(&self) -> &Block
         ensures { result.now ≡ self.now.block }
     {
@@ -110,7 +110,7 @@ impl<'a> Estimate<'a> {
     /// The conjuncts, in text order.
     pub fn conjuncts(&self) -> &[PlanConjunct<'_>]
         ensures exact { map conjunct_of result.now ≡ plans.plan_conjuncts self.now.database (block_of self.now.block) }
-        ensures conditions { map condition_told result.now ≡ queries.conjuncts (block_of self.now.block) }
+        ensures conditions { map condition_of_conjunct result.now ≡ queries.conjuncts (block_of self.now.block) }
         ensures few { AllByRecursion NamesFew (queries.conjuncts (block_of self.now.block)) }
     {
         self.conjuncts.as_slice()

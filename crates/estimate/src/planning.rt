@@ -9,7 +9,7 @@ ghost use Rattle.query_tree.specs.Bound.{condition_of};
 ghost use Rattle.conjuncts.specs.Naming.{NamesFew};
 ghost use Rattle.conjuncts.specs.Parts.{condition_in, HasItsTables, IsJudged};
 ghost use Rattle.estimate.specs.Tables.{tables_of, AreTablesOf};
-ghost use Rattle.estimate.specs.PlanConjuncts.{condition_told, conjunct_of};
+ghost use Rattle.estimate.specs.PlanConjuncts.{condition_of_conjunct, conjunct_of};
 
 use crate::conditions::selectivity;
 use crate::plan_conjunct::PlanConjunct;
@@ -25,7 +25,7 @@ pub(crate) fn plan_conjuncts<'a>(
     condition: &'a Option<Condition>,
 ) -> Result<Vec<PlanConjunct<'a>>, AllocError>
     requires few { IfSome (option_map condition_of condition.now) NamesFew }
-    ensures conditions { IfOk result (λ cs. map condition_told cs.items
+    ensures conditions { IfOk result (λ cs. map condition_of_conjunct cs.items
         ≡ conjuncts_of_option (option_map condition_of condition.now)) }
     ensures exact { IfOk result (λ cs. (db : Database) (block : Block) → AreTablesOf db block (tables_of tables.now) →
         map conjunct_of cs.items ≡ map (spec.plan_conjunct db block)
@@ -42,7 +42,7 @@ pub(crate) fn plan_conjuncts<'a>(
 fn plan_conjunct<'a>(tables: &[&Table], conjunct: Conjunct<'a>) -> PlanConjunct<'a>
     requires late { IsJudged conjunct }
     requires tables { HasItsTables conjunct }
-    ensures condition { condition_told result ≡ condition_in conjunct.entry }
+    ensures condition { condition_of_conjunct result ≡ condition_in conjunct.entry }
     ensures exact { (db : Database) (block : Block) → AreTablesOf db block (tables_of tables.now) →
         conjunct_of result ≡ spec.plan_conjunct db block (condition_in conjunct.entry) }
 {

@@ -47,7 +47,7 @@ pub(crate) fn side_of(expr: &ValueExpr) -> Side
 
 /// A value under a sign.
 fn apply_sign(minus: bool, side: Side) -> Side
-    ensures { side_in result ≡ spec.signed minus (side_in side) }
+    ensures { side_in result ≡ spec.signed_side minus (side_in side) }
 {
     match side {
         Side::KnownNumber(number) if minus => Side::KnownNumber(number.negate()),

@@ -16,7 +16,7 @@ use Rattle.definitions.specs.Plans.Exact.{IsCertified}
 use Rattle.definitions.specs.Plans.Certificate.{Certificate}
 use Rattle.definitions.specs.Estimates.Version.{current_version}
 use Rattle.definitions.specs.Certificates.Form.{word_count}
-use Rattle.definitions.specs.Certificates.Spelling.{spelling}
+use Rattle.definitions.specs.Certificates.Writing.{text_written}
 use Rattle.definitions.specs.Certificates.Explaining.{certified, certified_from, IsExplained, AreExplained}
 use Rattle.join_dp.specs.Words.{words_in}
 use Rattle.definitions.proofs.CertificateTheory.PlansSpelled.{plans_are_spelled}
@@ -30,11 +30,11 @@ same_words (Sort input order) = ap (λ n. n + 1) (same_words input)
 -- a least plan of no more words than a text may have, with its exact certificate, spelled
 pub explained : (db : Database) (number : ℕ) (block : Block) (space : Space) (plan : Plan) (certificate : Certificate) (bytes : List ℕ) → IsDatabase db → number < most_blocks → IsFormedSomewhere db block
     → (certified db number block current_version).space ≡ space → IsCertified space plan certificate → words_in plan ≤ 64
-    → bytes ≡ spelling (certified db number block current_version) plan certificate → IsExplained (certified db number block current_version) bytes
+    → bytes ≡ text_written (certified db number block current_version) plan certificate → IsExplained (certified db number block current_version) bytes
 explained db number block space plan certificate bytes valid few formed same whole words is =
     let here : IsCertified (certified db number block current_version).space plan certificate = subst (λ s. IsCertified s plan certificate) (sym same) whole in
     let (holds, exact, least) = here in
-    (plan, certificate, (plans_are_spelled db number block plan certificate valid few formed least.0 (omega (arith, words, same_words plan)) exact.0, is), here)
+    (plan, certificate, plans_are_spelled db number block plan certificate bytes valid few formed least.0 (omega (arith, words, same_words plan)) exact.0 is, here)
 
 pub next : (n : ℕ) → n + 1 ≡ suc n
 next n = omega arith
@@ -81,7 +81,7 @@ explains_none db blocks rest are = are
 
 pub text_explained : {E : Type 0} (db : Database) (number : ℕ) (block : Block) (space : Space) (plan : Plan) (certificate : Certificate) (result : Result (Vec ℕ) E) → IsDatabase db → number < most_blocks
     → IsFormedSomewhere db block → (certified db number block current_version).space ≡ space → IsCertified space plan certificate → words_in plan ≤ 64
-    → IfOk result (λ (text : Vec ℕ). text.items ≡ spelling (certified db number block current_version) plan certificate)
+    → IfOk result (λ (text : Vec ℕ). text.items ≡ text_written (certified db number block current_version) plan certificate)
     → IfOk result (λ (text : Vec ℕ). IsExplained (certified db number block current_version) text.items)
 text_explained db number block space plan certificate (Ok text) valid few formed same whole words is = explained db number block space plan certificate text.items valid few formed same whole words is
 text_explained db number block space plan certificate (Err e) valid few formed same whole words is = tt

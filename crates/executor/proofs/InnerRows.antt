@@ -36,7 +36,6 @@ use Rattle.subqueries.specs.Found.{said_in}
 use Rattle.subqueries.specs.Framed.{combination_in}
 use Rattle.block_answers.specs.Groups.{seen, AreTyped}
 use Rattle.block_answers.specs.KeptRows.{TellsKept}
-use Rattle.block_answers.specs.Ready as before
 use Rattle.block_answers.specs.Ready.{CanAnswer}
 use Rattle.executor.specs.ReadyBlocks.{blocks_in, database_in, meanings_in, plans_in, total_at, totals_in, AreReady, IsReady}
 use Rattle.block_answers.specs.Telling.{context_with, ArrangePassing}

@@ -151,8 +151,8 @@ module _ (query : List ReadyBlock) (all : AreReady query) where
       typed_blocks (n ∷ ns) h =
           ((λ type column. told_typed type (meanings db 0 blocks n (c ∷ outer)) (told_by results n) (stands_typed n (c ∷ outer) type h.0.1.there h.0.1.stands column) h.0.0), typed_blocks ns h.1)
 
-      pub late_can_told : AllByRecursion (CanEvaluate (record { combination = c; outer = outer; functions = []; inner = inner })) (late_conjuncts b)
-      late_can_told =
+      pub late_can_evaluate : AllByRecursion (CanEvaluate (record { combination = c; outer = outer; functions = []; inner = inner })) (late_conjuncts b)
+      late_can_evaluate =
           let (around, formed, typed) = standing_are_formed db blocks number b outer (block_at number r here) stands in
           told_can db b outer valid blocks around number typed c own inner (late_conjuncts b)
           (all_filtered (OfValues (IsTypedValue db blocks around number b)) is_late (conjuncts b) (typed_conjuncts db blocks around number b formed))

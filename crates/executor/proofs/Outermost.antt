@@ -5,10 +5,10 @@ use Rattle.std.specs.List.{AllByRecursion}
 use Rattle.std.proofs.lemmas.List.{map-append}
 use Rattle.definitions.specs.Table.{Database, Row}
 use Rattle.definitions.specs.Printing.{table_text}
-use Rattle.definitions.specs.Queries.BoundBlock.{Block, Blocks, Item, Key}
+use Rattle.definitions.specs.Queries.BoundBlock.{Block, Blocks, Item, OrderKey}
 use Rattle.definitions.specs.Queries.Evaluation.{Combination}
 use Rattle.definitions.specs.Queries.Answer.{answer, block_answer}
-use Rattle.definitions.specs.Queries.Outcomes.{names_of, order_of, shown, Allowed, AllowedOf, Exception, Rows, Told}
+use Rattle.definitions.specs.Queries.Outcomes.{names_of, order_keys, shown, Allowed, AllowedOf, Exception, Rows, Told}
 use Rattle.definitions_answers.specs.Ordered.{AreRequired}
 use Rattle.definitions_answers.specs.Plain.{late_raises}
 use Rattle.definitions_answers.specs.Shapes.{HasShapes, Shape}
@@ -24,26 +24,27 @@ use Rattle.scans.specs.declared.composite.Composite as code
 use Rattle.scans.specs.Sources.{block_in}
 use Rattle.sqlvalue.specs.Raises.{raise_of}
 use Rattle.sqlvalue.specs.declared.raise.Raise.{Raise}
-use Rattle.grouping.specs.Faults.{IfRaised}
-use Rattle.grouping.specs.declared.fault.AnswerFault.{AnswerFault}
-use Rattle.grouping.proofs.Faults.{raised_weaker}
+use Rattle.result_rows.specs.Faults.{IfRaised}
+use Rattle.result_rows.specs.declared.fault.AnswerFault.{AnswerFault}
+use Rattle.result_rows.proofs.Faults.{raised_weaker}
 use Rattle.subqueries.specs.Found.{said_in}
 use Rattle.subqueries.specs.Framed.{combination_in}
 use Rattle.block_answers.specs.BlockRows.{comes_in_order, HasRowsOf, HaveTaken, MayRaiseOn, TellsOf}
 use Rattle.block_answers.specs.Groups.{AreTyped}
 use Rattle.block_answers.specs.Ready as before
 use Rattle.executor.specs.ReadyBlocks.{blocks_in, database_in, meanings_in, AreReady, IsReady}
-use Rattle.block_answers.specs.Telling.{context_with, leaves_repeats_out, puts_in_order, AreToldAs, ArrangePassing, Holds, MayTell}
+use Rattle.result_rows.specs.Stores.{kind_of, printing, AreToldAs, Holds}
+use Rattle.block_answers.specs.Telling.{context_with, ArrangePassing, MayTell}
 use Rattle.block_answers.specs.declared.block_rows.BlockRows.{BlockRows}
 use Rattle.executor.specs.declared.ready_block.ReadyBlock.{ReadyBlock}
-use Rattle.block_answers.specs.declared.result_rows.RowStore.{RowStore}
+use Rattle.result_rows.specs.declared.row_store.RowStore.{RowStore}
 use Rattle.block_answers.proofs.Ending.{late_told, raise_told, raised_among, text_told}
 use Rattle.executor.proofs.InnerBlocks.{some_is}
 use Rattle.executor.proofs.InnerRows.{surrounded}
 use Rattle.executor.proofs.InnerTelling.{block_at}
 use Rattle.block_answers.proofs.Taking.{all_typed, one_passed_over, one_taken}
 
-first_order : (blocks : Blocks) (b : Block) → slice_get blocks 0 ≡ Some b → order_of blocks ≡ b.order
+first_order : (blocks : Blocks) (b : Block) → slice_get blocks 0 ≡ Some b → order_keys blocks ≡ b.order
 first_order [] b e = absurd cc
 first_order (c ∷ bs) b e = ap (λ (x : Block). x.order) (some_is c b e)
 
@@ -132,11 +133,11 @@ module _ (query : List ReadyBlock) (every : AreReady query) (r : ReadyBlock) (he
           (raise_told r.source [] (meanings_in query) all given rows have fault
           (subst (λ o. IfRaised fault (λ raise. (ks : List Combination) → AreTyped r.source o ks → TellsOf r.source o ks rows → MayRaiseOn r.source o ks raise)) outermost h))
 
-      pub text_allowed : (store : RowStore) (keys : List Key) (text : List ℕ) → ((ks : List Combination) → AreTyped r.source outer ks → TellsOf r.source outer ks rows → HasRowsOf r.source outer ks store)
-          → puts_in_order store ≡ not (comes_in_order b) → leaves_repeats_out store ≡ b.distinct → keys ≡ b.order
-          → ((names : List (List ℕ)) (rs : List Row) (shapes : List Shape) → Holds store names rs → AllByRecursion (HasShapes shapes) rs → (printed : List Row) × AreToldAs (puts_in_order store) (leaves_repeats_out store) keys rs printed × (text ≡ table_text names printed))
+      pub text_allowed : (store : RowStore) (keys : List OrderKey) (text : List ℕ) → ((ks : List Combination) → AreTyped r.source outer ks → TellsOf r.source outer ks rows → HasRowsOf r.source outer ks store)
+          → kind_of store ≡ printing (not (comes_in_order b)) b.distinct → keys ≡ b.order
+          → ((names : List (List ℕ)) (rs : List Row) (shapes : List Shape) → Holds store names rs → AllByRecursion (HasShapes shapes) rs → (printed : List Row) × AreToldAs (kind_of store).in_order (kind_of store).distinct keys rs printed × (text ≡ table_text names printed))
           → (printed : List Row) × AllowedOf db blocks (Rows printed) × (text ≡ shown (names_of blocks) (Rows printed))
-      text_allowed store keys text has order distinct by prints =
+      text_allowed store keys text has kind by prints =
           let (printed, may, is) = text_told r.source [] (meanings_in query) all given rows have store keys text
-          (subst (λ o. (ks : List Combination) → AreTyped r.source o ks → TellsOf r.source o ks rows → HasRowsOf r.source o ks store) outermost has) order distinct by prints in
+          (subst (λ o. (ks : List Combination) → AreTyped r.source o ks → TellsOf r.source o ks rows → HasRowsOf r.source o ks store) outermost has) kind by prints in
           (printed, allowed (Rows printed) may, is ∙ ap (λ names. table_text names printed) (sym (first_names blocks b at_first)))

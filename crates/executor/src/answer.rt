@@ -10,7 +10,7 @@ ghost use Rattle.definitions.specs.Queries.Outcomes.{names_of, shown, AllowedOf,
 ghost use Rattle.definitions.specs.Table.{Row};
 ghost use Rattle.definitions_answers.specs.Standing.{Stands};
 ghost use Rattle.definitions_execution.specs.Total.{AreCertified, IsTotal};
-ghost use Rattle.grouping.specs.Faults.{IfRaised};
+ghost use Rattle.result_rows.specs.Faults.{IfRaised};
 ghost use Rattle.query_tree.specs.Bound.{block_of};
 ghost use Rattle.executor.specs.ReadyBlocks.{blocks_in, database_in, total_at, AreReady, AreRight};
 
@@ -20,9 +20,9 @@ use crate::running::run_plan;
 use crate::watch::{QueryWatch, WorkCount};
 use block_answers::BlockRows;
 use catalog::Database;
-use grouping::AnswerFault;
 use plan_space::PlanNote;
 use query_tree::Block;
+use result_rows::AnswerFault;
 use scans::TupleSource;
 use std::alloc::{AllocError, Global};
 use subqueries::{Frames, KeptResults};
@@ -75,7 +75,7 @@ pub fn run_select<'s, W: QueryWatch>(
     let mut frames = Frames::new(alloc, WorkCount::new(watch));
     let mut kept = no_results(alloc, query)?;
     let results = kept.as_mut_slice();
-    let mut line = run_plan(
+    let mut pipeline = run_plan(
         alloc,
         &first.source,
         first.space.orders(),
@@ -84,7 +84,7 @@ pub fn run_select<'s, W: QueryWatch>(
     )?;
     let mut rows = BlockRows::to_print(alloc, first.block)?;
     let mut inner = 0;
-    'composites: while let Some(composite) = line.next(&frames) {
+    'composites: while let Some(composite) = pipeline.next(&frames) {
         let (late, work) = try_late(alloc, query, 0, &composite, &mut frames, results)?;
         inner = sum_of(inner, work);
         frames.watch().deliver();
@@ -94,7 +94,7 @@ pub fn run_select<'s, W: QueryWatch>(
     }
     let store = rows.finish(alloc, &first.source, first.block, &frames)?;
     let text = store.end(&first.block.order)?;
-    Ok((text, sum_of(line.opened_rows(), inner)))
+    Ok((text, sum_of(pipeline.opened_rows(), inner)))
 }
 
 /// What there is to know of the figures that the plans of blocks rest on.

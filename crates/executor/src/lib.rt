@@ -11,7 +11,7 @@ mod watch;
 
 pub use answer::{answer_text, run_select};
 pub use explaining::explain_text;
-pub use grouping::AnswerFault;
 pub use ready_block::{ReadyBlock, ready_blocks};
+pub use result_rows::AnswerFault;
 pub use running::run_plan;
 pub use watch::QueryWatch;

@@ -85,7 +85,7 @@ fn evaluate_block<'s, W: WorkWatch>(
     ensures frames { OnOk result (combinations_in frames.new ≡ combinations_in frames.old) }
 {
     let ready = &query[number];
-    let mut line = run_plan(
+    let mut pipeline = run_plan(
         alloc,
         &ready.source,
         ready.space.orders(),
@@ -94,7 +94,7 @@ fn evaluate_block<'s, W: WorkWatch>(
     )?;
     let mut rows = KeptRows::new(alloc, ready.block)?;
     let mut inner = 0;
-    'composites: while let Some(composite) = line.next(&*frames) {
+    'composites: while let Some(composite) = pipeline.next(&*frames) {
         let (late, work) = try_late(alloc, query, number, &composite, frames, results)?;
         inner = sum_of(inner, work);
         rows.take(
@@ -107,7 +107,7 @@ fn evaluate_block<'s, W: WorkWatch>(
         )?;
     }
     let told = rows.end(alloc, &ready.source, ready.block, &*frames)?;
-    Ok((told, sum_of(line.opened_rows(), inner)))
+    Ok((told, sum_of(pipeline.opened_rows(), inner)))
 }
 
 /// What the late conjuncts of a block say of a composite, and the sum of the totals of their subqueries there.
@@ -142,7 +142,7 @@ pub(crate) fn try_late<'s, W: WorkWatch>(
     frames.enter(&ready.source, *composite)?;
     let work = ask_subqueries(alloc, query, number, frames, results)?;
     frames.leave();
-    let late = try_told(&ready.late, &ready.source, composite, &*frames, &*results);
+    let late = try_conjuncts(&ready.late, &ready.source, composite, &*frames, &*results);
     Ok((late, work))
 }
 
@@ -178,7 +178,7 @@ fn ask_subqueries<'s, W: WorkWatch>(
 }
 
 /// Tries late conjuncts on a composite, by what was told last of their subqueries.
-fn try_told<A: OuterRows>(
+fn try_conjuncts<A: OuterRows>(
     late: &[&Condition],
     source: &BlockSource<'_>,
     composite: &Composite,

@@ -7,7 +7,6 @@ use Rattle.std.proofs.lemmas.List.{map-append}
 use Rattle.definitions.specs.Value.{Value, Null, Number, Text, is_null}
 use Rattle.definitions.specs.Table.{Row}
 use Rattle.definitions.specs.Printing.{row_line}
-use Rattle.definitions.specs.Statement as s
 use Rattle.definitions.specs.Lists.{without_repeats}
 use Rattle.definitions.specs.Queries.Grouping.{same_value, same_values, taken}
 use Rattle.definitions_answers.specs.Lines.{IsInBounds, IsRowOf, with_line}
@@ -18,9 +17,9 @@ use Rattle.definitions_answers.proofs.LinesBack.{any_line, lines_one_by_one}
 use Rattle.definitions_answers.proofs.Taken.{all_left}
 use Rattle.grouping.specs.Accumulating.{Accumulates}
 use Rattle.grouping.specs.Aggregating.{chosen, own_line, Aggregates, AreSeen, IsNoted}
-use Rattle.grouping.specs.Lines.{lines_of}
+use Rattle.result_rows.specs.Lines.{lines_of}
 use Rattle.grouping.specs.declared.aggregation.Aggregation.{Aggregation}
-use Rattle.grouping.specs.declared.lines.DistinctLines.{DistinctLines}
+use Rattle.result_rows.specs.declared.lines.DistinctLines.{DistinctLines}
 
 abbrev single : Value → Row
 single v = v ∷ []

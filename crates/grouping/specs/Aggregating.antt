@@ -1,18 +1,16 @@
 -- What a set function of the values so far stands for, where repeats may be left out.
-use Rattle.std.specs.Prelude.{ℕ, ◌≡◌, Bool, true, false, not, nat_eq, is_some, Option, Some, None, List, [], ◌∷◌, map, IfSome}
-use Rattle.std.specs.Cmp.Lexicographic.{pointwise}
-use Rattle.std.specs.List.{AllByRecursion, list_any}
+use Rattle.std.specs.Prelude.{ℕ, ◌≡◌, Bool, true, false, is_some, Option, List, [], ◌∷◌, map, IfSome}
+use Rattle.std.specs.List.{AllByRecursion}
 use Rattle.definitions.specs.Value.{Value}
-use Rattle.definitions.specs.Table.{Row}
 use Rattle.definitions.specs.Printing.{row_line}
 use Rattle.definitions.specs.Lists.{without_repeats}
 use Rattle.definitions.specs.Queries.Grouping.{same_value}
-use Rattle.definitions_answers.specs.Lines.{IsInBounds, with_line}
+use Rattle.definitions_answers.specs.Lines.{IsInBounds}
 use Rattle.definitions_answers.specs.Shapes.{Shape}
 use Rattle.grouping.specs.Accumulating.{Accumulates}
-use Rattle.grouping.specs.Lines.{lines_of}
+use Rattle.result_rows.specs.Lines.{lines_of, IsNotedLine}
 use Rattle.grouping.specs.declared.aggregation.Aggregation.{Aggregation}
-use Rattle.grouping.specs.declared.lines.DistinctLines.{DistinctLines}
+use Rattle.result_rows.specs.declared.lines.DistinctLines.{DistinctLines}
 
 -- of values that are not null those that count: under DISTINCT each once
 abbrev pub chosen : Bool → List Value → List Value
@@ -33,11 +31,6 @@ pub record Aggregates (shape : Shape) (vs : List Value) (a : Aggregation) : Type
   pub seen : AreSeen a.seen vs
   pub bounded : AllByRecursion IsInBounds vs
 
--- one row more is noted, and whether it came before
-abbrev pub IsNotedLine : Option DistinctLines → Option DistinctLines → Bool → Row → Type 0
-IsNotedLine None seen new row = new ≡ true
-IsNotedLine (Some lines) seen new row =
-    IfSome seen (λ after. lines_of after ≡ with_line (lines_of lines) (row_line row)) × (new ≡ not (list_any (pointwise nat_eq (row_line row)) (lines_of lines)))
-
+-- a value is noted, and whether it did not come before
 abbrev pub IsNoted : Option DistinctLines → Option DistinctLines → Bool → Value → Type 0
 IsNoted before after new v = IsNotedLine before after new (v ∷ [])

@@ -11,8 +11,8 @@ ghost use Rattle.grouping.specs.Accumulating.{MayEnd};
 ghost use Rattle.grouping.specs.Aggregating.{chosen, Aggregates, IsNoted};
 
 use crate::accumulator::{Accumulator, is_null};
-use crate::lines::DistinctLines;
 use parse_tree::SetFunction;
+use result_rows::DistinctLines;
 use sqlvalue::{Raise, Value, write_value};
 use std::alloc::{AllocError, Global};
 
@@ -26,20 +26,15 @@ pub struct Aggregation {
 }
 
 impl Aggregation {
-    /// Of no values.
+    /// A set function that has taken no value yet.
     pub fn new(alloc: Global, function: SetFunction, distinct: bool) -> Aggregation
         ensures function { result.running.function ≡ function }
         ensures distinct { is_some result.seen ≡ distinct }
         ensures nothing { (shape : Shape) → Aggregates shape [] result }
     {
-        let seen = if distinct {
-            Some(DistinctLines::new(alloc))
-        } else {
-            None
-        };
         Aggregation {
             running: Accumulator::new(function),
-            seen,
+            seen: DistinctLines::if_distinct(alloc, distinct),
             line: Vec::new(alloc),
         }
     }

@@ -1,12 +1,13 @@
 //! What HAVING and the result columns of a group are evaluated in, and which rows are in one group.
 
-ghost use Rattle.std.specs.Prelude.{◌≡◌, map};
+ghost use Rattle.std.specs.Prelude.{◌≡◌, get_or, map};
+ghost use Rattle.definitions.specs.Value.{Null};
 ghost use Rattle.definitions_answers.specs.Groups.{in_one_group};
 ghost use Rattle.query_tree.specs.Bound.{column_of};
 ghost use Rattle.grouping.specs.Functions.{with_functions};
+ghost use Rattle.sqlvalue.specs.Meaning.{value_of};
 ghost use Rattle.sqlvalue.specs.Owned.{owned_value};
 
-use crate::result_row::value_at;
 use expr::Environment;
 use query_tree::BlockColumn;
 use sqlvalue::{OwnedValue, Raise, Tri, Value, rank};
@@ -53,4 +54,14 @@ pub fn are_in_one_group<S: Environment>(columns: &[BlockColumn], a: &S, b: &S) -
         }
     }
     true
+}
+
+/// The value of a set function by its number; null where there is none (own).
+fn value_at(values: &[OwnedValue], number: usize) -> Value<'_>
+    ensures { value_of result ≡ get_or (map owned_value values.now) number Null }
+{
+    match values.get(number) {
+        Some(kept) => kept.value(),
+        None => Value::Null,
+    }
 }

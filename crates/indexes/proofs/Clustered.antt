@@ -11,7 +11,7 @@ use Rattle.std.proofs.lemmas.List.{length-map}
 use Rattle.std.specs.Cmp.{nat_cmp_is}
 use Rattle.std.proofs.lemmas.Slice.Eq.{bytes_eq-Decides}
 use Rattle.definitions.specs.Key.{Key, key_of, value_at, key_rank, full_keys, distinct_keys}
-use Rattle.definitions.specs.IndexRun.{Entry, entries_from, keys_of, rows_of, comes_before, AreRising, IsRun}
+use Rattle.definitions.specs.IndexRun.{Entry, entries_from, keys_of, entry_rows, comes_before, AreRising, IsRun}
 use Rattle.definitions.specs.Statistics.{never_falls, rises_from}
 use Rattle.definitions.specs.Table.{Row}
 use Rattle.indexes.proofs.DistinctKeys.{AreOfLength, rank_to, to_total, ranks_to, as_many_keys}
@@ -21,7 +21,7 @@ keys_from : (row : ℕ) (keys : List Key) → keys_of (entries_from row keys) �
 keys_from row [] = refl
 keys_from row (key ∷ keys) = ap (λ ks. key ∷ ks) (keys_from (row + 1) keys)
 
-rows_from : (row : ℕ) (keys : List Key) → rows_of (entries_from row keys) ≡ range_with_len row (length keys)
+rows_from : (row : ℕ) (keys : List Key) → entry_rows (entries_from row keys) ≡ range_with_len row (length keys)
 rows_from row [] = refl
 rows_from row (key ∷ keys) = ap (λ rs. row ∷ rs) (rows_from (row + 1) keys)
 
@@ -49,13 +49,13 @@ each_of all row (key ∷ keys) h =
       each_of all (row + 1) keys (λ i l. let there : row + 1 + i ≡ row + suc i = omega arith in ap (λ k. get_or all k []) there ∙ h (suc i) (omega (arith, l))),
     )
 
-same_row : (e f : Entry) (es fs : List Entry) → rows_of (e ∷ es) ≡ rows_of (f ∷ fs) → e.row ≡ f.row
+same_row : (e f : Entry) (es fs : List Entry) → entry_rows (e ∷ es) ≡ entry_rows (f ∷ fs) → e.row ≡ f.row
 same_row e f es fs h = cc
 
-other_rows : (e f : Entry) (es fs : List Entry) → rows_of (e ∷ es) ≡ rows_of (f ∷ fs) → rows_of es ≡ rows_of fs
+other_rows : (e f : Entry) (es fs : List Entry) → entry_rows (e ∷ es) ≡ entry_rows (f ∷ fs) → entry_rows es ≡ entry_rows fs
 other_rows e f es fs h = cc
 
-same_entries : (all : List Key) (es fs : List Entry) → AllByRecursion (IsOf all) es → AllByRecursion (IsOf all) fs → rows_of es ≡ rows_of fs → es ≡ fs
+same_entries : (all : List Key) (es fs : List Entry) → AllByRecursion (IsOf all) es → AllByRecursion (IsOf all) fs → entry_rows es ≡ entry_rows fs → es ≡ fs
 same_entries all [] [] h l e = refl
 same_entries all [] (f ∷ fs) h l e = absurd cc
 same_entries all (e ∷ es) [] h l k = absurd cc
@@ -65,11 +65,11 @@ same_entries all (e ∷ es) (f ∷ fs) h l k =
     let first : e ≡ f = ap₂ (λ r v. record { row = r; key = v }) row key in
     ap₂ (λ x xs. x ∷ xs) first (same_entries all es fs h.1 l.1 (other_rows e f es fs k))
 
-in_place : (keys : List Key) (run : List Entry) → IsRun keys run → rows_of run ≡ range_with_len 0 (length (rows_of run)) → run ≡ entries_from 0 keys
+in_place : (keys : List Key) (run : List Entry) → IsRun keys run → entry_rows run ≡ range_with_len 0 (length (entry_rows run)) → run ≡ entries_from 0 keys
 in_place keys run (permuted, rising) h =
     let own : AllByRecursion (IsOf keys) (entries_from 0 keys) = each_of keys 0 keys (λ i l. let e : 0 + i ≡ i = omega arith in ap (λ k. get_or keys k []) e) in
     let all : AllByRecursion (IsOf keys) run = recursion_from_All (IsOf keys) run (All-permutation (IsOf keys) (entries_from 0 keys) run permuted (All-from_recursion (IsOf keys) (entries_from 0 keys) own)) in
-    let long : length (rows_of run) ≡ length keys = length-map run (λ (e : Entry). e.row) ∙ length_permutation (entries_from 0 keys) run permuted ∙ length_from 0 keys in
+    let long : length (entry_rows run) ≡ length keys = length-map run (λ (e : Entry). e.row) ∙ length_permutation (entries_from 0 keys) run permuted ∙ length_from 0 keys in
     same_entries keys run (entries_from 0 keys) all own (h ∙ ap (range_with_len 0) long ∙ sym (rows_from 0 keys))
 
 -- ---- rising entries, and keys that do not fall
@@ -134,14 +134,14 @@ same_tests false true h l = l refl
 same_tests false false h l = refl
 
 -- a run stands in place where no key falls, and there alone
-pub in_place_is_clustered : (n : ℕ) (keys : List Key) (run : List Entry) → AreOfLength n keys → IsRun keys run → bytes_eq (rows_of run) (range_with_len 0 (length (rows_of run))) ≡ never_falls keys
+pub in_place_is_clustered : (n : ℕ) (keys : List Key) (run : List Entry) → AreOfLength n keys → IsRun keys run → bytes_eq (entry_rows run) (range_with_len 0 (length (entry_rows run))) ≡ never_falls keys
 in_place_is_clustered n keys run long is = same_tests _ _
-    (λ h. none_falls keys (subst AreRising (in_place keys run is ((bytes_eq-Decides (rows_of run) (range_with_len 0 (length (rows_of run)))).0 h)) is.1))
+    (λ h. none_falls keys (subst AreRising (in_place keys run is ((bytes_eq-Decides (entry_rows run) (range_with_len 0 (length (entry_rows run)))).0 h)) is.1))
     (λ h.
     let own : run ≡ entries_from 0 keys = run_once keys run (entries_from 0 keys) is (IsPermutation-refl (entries_from 0 keys), rising n 0 keys long h) in
-    let numbered : rows_of run ≡ range_with_len 0 (length keys) = ap rows_of own ∙ rows_from 0 keys in
-    let many : length keys ≡ length (rows_of run) = sym (length-map run (λ (e : Entry). e.row) ∙ ap length own ∙ length_from 0 keys) in
-    (bytes_eq-Decides (rows_of run) (range_with_len 0 (length (rows_of run)))).1 (numbered ∙ ap (range_with_len 0) many))
+    let numbered : entry_rows run ≡ range_with_len 0 (length keys) = ap entry_rows own ∙ rows_from 0 keys in
+    let many : length keys ≡ length (entry_rows run) = sym (length-map run (λ (e : Entry). e.row) ∙ ap length own ∙ length_from 0 keys) in
+    (bytes_eq-Decides (entry_rows run) (range_with_len 0 (length (entry_rows run)))).1 (numbered ∙ ap (range_with_len 0) many))
 
 pub keys_long : (numbers : List ℕ) (rows : List Row) → AreOfLength (length numbers) (map (key_of numbers) rows)
 keys_long numbers [] = tt

@@ -1,6 +1,6 @@
 -- Entries whose keys stand in columns.
 use Rattle.std.proofs.Common.{◌≡◌, ◌∙◌, refl, sym, ap, ℕ, zero, suc, ◌+◌, ◌<◌, List, [], ◌∷◌, length, get_or, arith}
-use Rattle.definitions.specs.IndexRun.{Entry, rows_of, keys_of}
+use Rattle.definitions.specs.IndexRun.{Entry, entry_rows, keys_of}
 use Rattle.columns.specs.Cells.{CellList}
 use Rattle.indexes.specs.Keys.{key_in}
 use Rattle.indexes.specs.Runs.{entries_at}
@@ -10,7 +10,7 @@ pub length-entries_at : (columns : List CellList) (place : ℕ) (rows : List ℕ
 length-entries_at columns place [] = refl
 length-entries_at columns place (row ∷ rows) = ap suc (length-entries_at columns (suc place) rows)
 
-pub rows_of_entries : (columns : List CellList) (place : ℕ) (rows : List ℕ) → rows_of (entries_at columns place rows) ≡ rows
+pub rows_of_entries : (columns : List CellList) (place : ℕ) (rows : List ℕ) → entry_rows (entries_at columns place rows) ≡ rows
 rows_of_entries columns place [] = refl
 rows_of_entries columns place (row ∷ rows) = ap (λ rs. row ∷ rs) (rows_of_entries columns (suc place) rows)
 

@@ -6,7 +6,7 @@ use Rattle.std.proofs.lemmas.List.{length-map, length-take}
 use Rattle.std.proofs.lemmas.List.Sorted.{IsPermutation-map, length_permutation}
 use Rattle.std.proofs.lemmas.List.FromFn.{length-map-range_with_len}
 use Rattle.definitions.specs.Key.{Key}
-use Rattle.definitions.specs.IndexRun.{Entry, entries_from, rows_of, AreRising, IsRun}
+use Rattle.definitions.specs.IndexRun.{Entry, entries_from, entry_rows, AreRising, IsRun}
 use Rattle.columns.specs.Cells.{CellList}
 use Rattle.indexes.specs.Keys.{key_in, keys_in, entry_in, height}
 
@@ -24,7 +24,7 @@ length-entries_from : (start : ℕ) (keys : List Key) → length (entries_from s
 length-entries_from start [] = refl
 length-entries_from start (k ∷ ks) = ap suc (length-entries_from (start + 1) ks)
 
-rows_from : (start : ℕ) (keys : List Key) → rows_of (entries_from start keys) ≡ range_with_len start (length keys)
+rows_from : (start : ℕ) (keys : List Key) → entry_rows (entries_from start keys) ≡ range_with_len start (length keys)
 rows_from start [] = refl
 rows_from start (k ∷ ks) = ap (λ rs. start ∷ rs) (rows_from (start + 1) ks)
 
@@ -32,14 +32,14 @@ module _ (columns : List CellList) (entries : List Entry) (run : IsRun (take (le
   keys_taken : length (take (length entries) (keys_in columns)) ≡ length entries
   keys_taken = sym (length-entries_from 0 (take (length entries) (keys_in columns))) ∙ sym (length_permutation (entries_from 0 (take (length entries) (keys_in columns))) entries run.0)
 
-  pub rows_within : (rows : List ℕ) → rows ≡ rows_of entries → length rows ≤ height columns
+  pub rows_within : (rows : List ℕ) → rows ≡ entry_rows entries → length rows ≤ height columns
   rows_within rows e =
       let a = length-take (length entries) (keys_in columns) in
       let b = length-map-range_with_len (key_in columns) 0 (height columns) in
       let n : length rows ≡ length entries = ap length e ∙ length-map entries (λ (x : Entry). x.row) in
       omega (arith, keys_taken, a, b, n)
 
-  pub rows_same : (rows : List ℕ) → rows ≡ rows_of entries → IsPermutation (range_with_len 0 (length rows)) rows
+  pub rows_same : (rows : List ℕ) → rows ≡ entry_rows entries → IsPermutation (range_with_len 0 (length rows)) rows
   rows_same rows e =
       let n : length rows ≡ length entries = ap length e ∙ length-map entries (λ (x : Entry). x.row) in
       rw (n, ← keys_taken, ← rows_from 0 (take (length entries) (keys_in columns)), e) (IsPermutation-map (λ (x : Entry). x.row) (entries_from 0 (take (length entries) (keys_in columns))) entries run.0)

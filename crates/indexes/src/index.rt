@@ -134,7 +134,7 @@ impl Index {
         self.statistics
     }
 
-    /// Replaces the statistics.
+    /// Puts given statistics in place of those that stand.
     pub fn set_statistics(&mut self, statistics: IndexStatistics)
         ensures index { self.new.index ≡ record self.old.index { statistics = index_statistics_of statistics } }
         ensures entries { self.new.entries ≡ self.old.entries }

@@ -2,7 +2,7 @@
 
 ghost use Rattle.std.specs.Prelude.{◌≡◌, ◌≤◌, ◌<◌, ◌^◌, IfOk, IfErr, length, map, take};
 ghost use Rattle.definitions.specs.Key.{distinct_keys, full_keys};
-ghost use Rattle.definitions.specs.IndexRun.{IsRun, equal_part, keys_of, range_part, rows_of};
+ghost use Rattle.definitions.specs.IndexRun.{IsRun, equal_part, keys_of, range_part, entry_rows};
 ghost use Rattle.sqlvalue.specs.Meaning.{value_of};
 ghost use Rattle.columns.specs.Starts.{limit_of};
 ghost use Rattle.indexes.specs.Keys.{AreOfHeight, columns_of, height, keys_in};
@@ -92,7 +92,7 @@ impl IndexKind {
     }
 
     pub(crate) fn all(&self) -> &[u32]
-        ensures { result.now ≡ rows_of (run_of self.now).entries }
+        ensures { result.now ≡ entry_rows (run_of self.now).entries }
     {
         match self {
             IndexKind::Sorted(index) => index.all(),
@@ -102,7 +102,7 @@ impl IndexKind {
 
     pub(crate) fn equal(&self, values: &[Value]) -> &[u32]
         requires { length values.now ≤ length (run_of self.now).types }
-        ensures { result.now ≡ rows_of (equal_part (map value_of values.now) (run_of self.now).entries) }
+        ensures { result.now ≡ entry_rows (equal_part (map value_of values.now) (run_of self.now).entries) }
     {
         match self {
             IndexKind::Sorted(index) => index.equal(values),
@@ -112,7 +112,7 @@ impl IndexKind {
 
     pub(crate) fn range(&self, values: &[Value], low: Bound<Value>, high: Bound<Value>) -> &[u32]
         requires { length values.now < length (run_of self.now).types }
-        ensures { result.now ≡ rows_of (range_part (map value_of values.now) (limit_of low.entry)
+        ensures { result.now ≡ entry_rows (range_part (map value_of values.now) (limit_of low.entry)
             (limit_of high.entry) (run_of self.now).entries) }
     {
         match self {

@@ -3,7 +3,7 @@
 ghost use Rattle.std.specs.Prelude.{not, ◌≡◌, ◌≤◌, ◌<◌, ◌-◌, IfOk, drop, map, length, take};
 ghost use Rattle.std.specs.Ordering.{is_eq};
 ghost use Rattle.definitions.specs.Key.{distinct_keys, full_keys, has_null, key_rank};
-ghost use Rattle.definitions.specs.IndexRun.{AreRising, equal_part, keys_of, range_part, rows_of};
+ghost use Rattle.definitions.specs.IndexRun.{AreRising, equal_part, keys_of, range_part, entry_rows};
 ghost use Rattle.sqlvalue.specs.Meaning.{value_of};
 ghost use Rattle.columns.specs.Starts.{limit_of};
 ghost use Rattle.indexes.specs.Stretches.{IsStretchOf, begins_anew};
@@ -61,9 +61,9 @@ impl KeyRun {
         self.rows.len()
     }
 
-    /// All rows.
+    /// The numbers of all rows, in the order of their keys.
     pub(crate) fn rows(&self) -> &[u32]
-        ensures { result.now ≡ rows_of self.now.entries }
+        ensures { result.now ≡ entry_rows self.now.entries }
     {
         self.rows.as_slice()
     }
@@ -71,7 +71,7 @@ impl KeyRun {
     /// The rows whose keys begin with these values (ISO/IEC 9075:1992, 8.2).
     pub(crate) fn equal(&self, values: &[Value]) -> &[u32]
         requires { length values.now ≤ length self.now.types }
-        ensures { result.now ≡ rows_of (equal_part (map value_of values.now) self.now.entries) }
+        ensures { result.now ≡ entry_rows (equal_part (map value_of values.now) self.now.entries) }
     {
         self.part(self.stretch(values))
     }
@@ -80,7 +80,7 @@ impl KeyRun {
     /// (ISO/IEC 9075:1992, 8.2).
     pub(crate) fn range(&self, values: &[Value], low: Bound<Value>, high: Bound<Value>) -> &[u32]
         requires { length values.now < length self.now.types }
-        ensures { result.now ≡ rows_of (range_part (map value_of values.now) (limit_of low.entry)
+        ensures { result.now ≡ entry_rows (range_part (map value_of values.now) (limit_of low.entry)
             (limit_of high.entry) self.now.entries) }
     {
         let beginning = self.stretch(values);
@@ -91,7 +91,7 @@ impl KeyRun {
     fn part(&self, stretch: Stretch) -> &[u32]
         requires forward { stretch.from ≤ stretch.to }
         requires inside { stretch.to ≤ length self.now.entries }
-        ensures { result.now ≡ take (stretch.to - stretch.from) (drop stretch.from (rows_of self.now.entries)) }
+        ensures { result.now ≡ take (stretch.to - stretch.from) (drop stretch.from (entry_rows self.now.entries)) }
     {
         &self.rows()[stretch.from..stretch.to]
     }

@@ -14,7 +14,7 @@ use Rattle.definitions.specs.Plans.Space.{Space, order_at, IsOver}
 use Rattle.definitions.specs.Plans.PlanSpace.{CanSort}
 use Rattle.definitions.proofs.PlanTheory.Elements.{first_is, later}
 use Rattle.interesting_orders.specs.Reach.{key_tables, is_reached}
-use Rattle.interesting_orders.specs.Sorts.{open_orders, tables_told, AreSorts}
+use Rattle.interesting_orders.specs.Sorts.{open_orders, tables_of_use, AreSorts}
 use Rattle.interesting_orders.specs.Uses.{AreUses}
 use Rattle.interesting_orders.specs.declared.order_use.OrderUse.{OrderUse}
 use Rattle.interesting_orders.specs.declared.interesting_orders.InterestingOrders.{InterestingOrders}
@@ -113,16 +113,16 @@ module _ (space : Space) (set : TableSet) (few : set < 2 ^ most_from_tables) whe
 
 -- those behind the first order, which is the empty one
 pub sorts_of : (space : Space) (u : InterestingOrders) → AreUses space u → (set : TableSet) → set < 2 ^ most_from_tables → (first : OrderUse) (rest : List OrderUse) → u.orders.items ≡ first ∷ rest
-    → (number : ℕ) → number ≡ 1 → AreSorts space set (open_orders set number (map tables_told rest))
-sorts_of space u are set few first rest is number one = rw one (are_sorts space set few (map tables_told rest) told (omega (arith, count, length-map rest tables_told)))
+    → (number : ℕ) → number ≡ 1 → AreSorts space set (open_orders set number (map tables_of_use rest))
+sorts_of space u are set few first rest is number one = rw one (are_sorts space set few (map tables_of_use rest) told (omega (arith, count, length-map rest tables_of_use)))
   where
     count : 1 + length rest ≡ length space.orders
     count = omega (arith, are.orders.len, ap (λ (all : List OrderUse). length all) is)
 
-    told : AreTold space set few 1 (map tables_told rest)
+    told : AreTold space set few 1 (map tables_of_use rest)
     told place lt =
-        let within : place < length rest = omega (arith, lt, length-map rest tables_told) in
+        let within : place < length rest = omega (arith, lt, length-map rest tables_of_use) in
         let here : 1 + place < length u.orders.items = omega (arith, within, ap (λ (all : List OrderUse). length all) is) in
         let next : 1 + place ≡ suc place = omega arith in
         let same : get_or u.orders.items (1 + place) first ≡ get_or rest place first = ap (λ (all : List OrderUse). get_or all (1 + place) first) is ∙ ap (λ n. get_or (first ∷ rest) n first) next in
-        get_or-map tables_told rest place first None within ∙ ap tables_told (sym same) ∙ (numbered space u (1 + place) first are here).tables
+        get_or-map tables_of_use rest place first None within ∙ ap tables_of_use (sym same) ∙ (numbered space u (1 + place) first are here).tables

@@ -3,13 +3,13 @@ use Rattle.std.specs.Prelude.{ℕ, Bool, List, [], ◌∷◌, Option, Some, None
 use Rattle.std.specs.List.{list_all}
 use Rattle.definitions.specs.Table.{Table, is_on}
 use Rattle.definitions.specs.Plans.Order as o
-use Rattle.definitions.specs.Queries.BoundBlock.{Item, Key}
+use Rattle.definitions.specs.Queries.BoundBlock.{Item, OrderKey}
 use Rattle.definitions.specs.Estimates.Orders.{sort_key}
 use Rattle.query_tree.specs.Bound.{column_of}
 use Rattle.query_tree.specs.declared.leaf.BlockColumn.{BlockColumn}
 
 -- that of ORDER BY, if its keys are all columns
-abbrev pub order_by : List Item → List Key → o.Order
+abbrev pub order_by : List Item → List OrderKey → o.Order
 order_by items keys = if list_all (λ key. is_some (sort_key items key)) keys then filter_map (sort_key items) keys else []
 
 -- the two of a merge, each ascending

@@ -9,8 +9,8 @@ use Rattle.plan_tree.specs.Sets.{set_of}
 use Rattle.interesting_orders.specs.Reach.{is_reached}
 use Rattle.interesting_orders.specs.declared.order_use.OrderUse.{OrderUse}
 
-abbrev pub tables_told : OrderUse → Option TableSet
-tables_told u = option_map set_of u.tables
+abbrev pub tables_of_use : OrderUse → Option TableSet
+tables_of_use u = option_map set_of u.tables
 
 -- of orders that count on from a number, those whose tables are all in a set
 abbrev pub open_orders : TableSet → ℕ → List (Option TableSet) → List ℕ

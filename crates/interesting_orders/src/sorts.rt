@@ -2,7 +2,7 @@
 
 ghost use Rattle.std.specs.Prelude.{◌≡◌, ◌≤◌, ◌-◌, length, map};
 ghost use Rattle.plan_tree.specs.Sets.{set_of};
-ghost use Rattle.interesting_orders.specs.Sorts.{open_orders, tables_told};
+ghost use Rattle.interesting_orders.specs.Sorts.{open_orders, tables_of_use};
 
 use crate::order_use::OrderUse;
 use crate::reach::are_within;
@@ -26,9 +26,9 @@ impl<'a> Model for Sorts<'a> {
 
     ghost use Rattle.std.specs.Prelude.{◌-◌, ◌≤◌, length, map};
     ghost use Rattle.plan_tree.specs.Sets.{set_of};
-    ghost use Rattle.interesting_orders.specs.Sorts.{open_orders, tables_told};
+    ghost use Rattle.interesting_orders.specs.Sorts.{open_orders, tables_of_use};
 
-    ghost view = { λ s. open_orders (set_of s.tables) (s.count - length s.rest.now) (map tables_told s.rest.now) };
+    ghost view = { λ s. open_orders (set_of s.tables) (s.count - length s.rest.now) (map tables_of_use s.rest.now) };
 
     ghost invariant = { λ s. length s.rest.now ≤ s.count };
 }
@@ -37,7 +37,7 @@ impl<'a> Sorts<'a> {
     /// Those of the last orders of so many, of which each serves for what stands here.
     pub(crate) fn new(rest: &'a [OrderUse], count: usize, tables: TableSet) -> Sorts<'a>
         requires { length rest.now ≤ count }
-        ensures { result ≡ open_orders (set_of tables) (count - length rest.now) (map tables_told rest.now) }
+        ensures { result ≡ open_orders (set_of tables) (count - length rest.now) (map tables_of_use rest.now) }
     {
         Sorts {
             rest,

@@ -20,8 +20,8 @@ use Rattle.join_dp.proofs.LessSets.{with_more}
 use Rattle.join_dp.proofs.Shorter.{no_longer}
 
 -- one item less is to come, and the steps for it are taken
-pub one_less : (old row row' each items rest all : ℕ) → items ≡ rest + 1 → row' ≤ row + each → row + each * items ≤ old + each * all → row' + each * rest ≤ old + each * all
-one_less old row row' each items rest all e le h =
+pub one_less : (old candidates row' each items rest all : ℕ) → items ≡ rest + 1 → row' ≤ candidates + each → candidates + each * items ≤ old + each * all → row' + each * rest ≤ old + each * all
+one_less old candidates row' each items rest all e le h =
     let n : each * items ≡ each * rest + each = ap (λ x. each * x) e ∙ omega arith in
     omega (arith, n, le, h)
 

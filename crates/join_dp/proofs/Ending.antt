@@ -31,10 +31,10 @@ use Rattle.join_dp.proofs.Planning.{planned}
 use Rattle.join_dp.proofs.RowSteps.{listed_at, none_solved, row_step_told}
 
 -- as many steps as states
-pub still_counted : (states states' : List Solved) (n : ℕ) (row : List (Option Candidate)) (steps more steps' : ℕ) → states' ≡ states ++ entries_from n 0 row → filled row ≤ more → steps' ≡ min (steps + more) 18446744073709551615
+pub still_counted : (states states' : List Solved) (n : ℕ) (candidates : List (Option Candidate)) (steps more steps' : ℕ) → states' ≡ states ++ entries_from n 0 candidates → filled candidates ≤ more → steps' ≡ min (steps + more) 18446744073709551615
     → length states' ≤ 18446744073709551615 → length states ≤ steps → length states' ≤ steps'
-still_counted states states' n row steps more steps' e counted is few before =
-    omega (arith, ap length e, length-append states (entries_from n 0 row), entries_count n 0 row, counted, is, few, before)
+still_counted states states' n candidates steps more steps' e counted is few before =
+    omega (arith, ap length e, length-append states (entries_from n 0 candidates), entries_count n 0 candidates, counted, is, few, before)
 
 module _ (space : Space) where
   -- ---- set after set
@@ -58,37 +58,37 @@ module _ (space : Space) where
       few_are zero lt = omega arith
       few_are (suc s) lt = absurd (omega arith)
 
-  pub goes_on : (states states' : List Solved) (starts starts' : List ℕ) (n : ℕ) (row : List (Option Candidate)) → 0 < n → n ≤ whole space → AreSolvedBelow space n states starts → IsRowSolved space states n row
-      → states' ≡ states ++ entries_from n 0 row → starts' ≡ starts ++ length states' ∷ [] → AreSolvedBelow space (n + 1) states' starts'
-  goes_on states states' starts starts' n row some inside s r e f = subst (λ xs. AreSolvedBelow space (n + 1) states' xs) (sym f) (subst (λ xs. AreSolvedBelow space (n + 1) xs (starts ++ length xs ∷ [])) (sym e) next)
+  pub goes_on : (states states' : List Solved) (starts starts' : List ℕ) (n : ℕ) (candidates : List (Option Candidate)) → 0 < n → n ≤ whole space → AreSolvedBelow space n states starts → IsRowSolved space states n candidates
+      → states' ≡ states ++ entries_from n 0 candidates → starts' ≡ starts ++ length states' ∷ [] → AreSolvedBelow space (n + 1) states' starts'
+  goes_on states states' starts starts' n candidates some inside s r e f = subst (λ xs. AreSolvedBelow space (n + 1) states' xs) (sym f) (subst (λ xs. AreSolvedBelow space (n + 1) xs (starts ++ length xs ∷ [])) (sym e) next)
     where
       more : List ℕ
-      more = length (states ++ entries_from n 0 row) ∷ []
+      more = length (states ++ entries_from n 0 candidates) ∷ []
 
-      last_is : get_or (starts ++ length (states ++ entries_from n 0 row) ∷ []) (n + 1) 0 ≡ length (states ++ entries_from n 0 row)
-      last_is = subst (λ k. get_or (starts ++ length (states ++ entries_from n 0 row) ∷ []) k 0 ≡ length (states ++ entries_from n 0 row)) s.known (get_or-append_seam starts (length (states ++ entries_from n 0 row)) [] 0)
+      last_is : get_or (starts ++ length (states ++ entries_from n 0 candidates) ∷ []) (n + 1) 0 ≡ length (states ++ entries_from n 0 candidates)
+      last_is = subst (λ k. get_or (starts ++ length (states ++ entries_from n 0 candidates) ∷ []) k 0 ≡ length (states ++ entries_from n 0 candidates)) s.known (get_or-append_seam starts (length (states ++ entries_from n 0 candidates)) [] 0)
 
-      front : (k : ℕ) → k < length starts → get_or (starts ++ length (states ++ entries_from n 0 row) ∷ []) k 0 ≡ get_or starts k 0
-      front k lt = get_or_append_left starts (length (states ++ entries_from n 0 row) ∷ []) 0 k lt
+      front : (k : ℕ) → k < length starts → get_or (starts ++ length (states ++ entries_from n 0 candidates) ∷ []) k 0 ≡ get_or starts k 0
+      front k lt = get_or_append_left starts (length (states ++ entries_from n 0 candidates) ∷ []) 0 k lt
 
-      few_are : AreFew (length space.orders) (starts ++ length (states ++ entries_from n 0 row) ∷ [])
+      few_are : AreFew (length space.orders) (starts ++ length (states ++ entries_from n 0 candidates) ∷ [])
       few_are k lt = of_cases (cases_lt (k + 1) (length starts))
         where
-          of_cases : (k + 1 < length starts) ⊎ (length starts ≤ k + 1) → get_or (starts ++ length (states ++ entries_from n 0 row) ∷ []) (k + 1) 0 ≤ get_or (starts ++ length (states ++ entries_from n 0 row) ∷ []) k 0 + length space.orders
+          of_cases : (k + 1 < length starts) ⊎ (length starts ≤ k + 1) → get_or (starts ++ length (states ++ entries_from n 0 candidates) ∷ []) (k + 1) 0 ≤ get_or (starts ++ length (states ++ entries_from n 0 candidates) ∷ []) k 0 + length space.orders
           of_cases (inl less) = rw (front (k + 1) less, front k (omega (arith, less))) (s.few k less)
           of_cases (inr ge) =
               let known = s.known in
               let e : n ≡ k = omega (arith, ge, lt, known, length-append starts more) in
               let last = s.last in
               let size = r.made.size in
-              subst (λ m. get_or (starts ++ length (states ++ entries_from n 0 row) ∷ []) (m + 1) 0 ≤ get_or (starts ++ length (states ++ entries_from n 0 row) ∷ []) m 0 + length space.orders) e
-              (omega (arith, last_is, front n (omega (arith, known)), last, length-append states (entries_from n 0 row), entries_count n 0 row, filled_within row, size))
+              subst (λ m. get_or (starts ++ length (states ++ entries_from n 0 candidates) ∷ []) (m + 1) 0 ≤ get_or (starts ++ length (states ++ entries_from n 0 candidates) ∷ []) m 0 + length space.orders) e
+              (omega (arith, last_is, front n (omega (arith, known)), last, length-append states (entries_from n 0 candidates), entries_count n 0 candidates, filled_within candidates, size))
 
-      next : AreSolvedBelow space (n + 1) (states ++ entries_from n 0 row) (starts ++ length (states ++ entries_from n 0 row) ∷ [])
+      next : AreSolvedBelow space (n + 1) (states ++ entries_from n 0 candidates) (starts ++ length (states ++ entries_from n 0 candidates) ∷ [])
       next = record {
-        solved = row_step_told space states n row s.solved r some inside;
-        made = all_made space states n row s.made r.made;
-        starting = starts_grow space states n row starts s.known s.starting (told_each (λ (x : StateCost). x.tables < n) states s.solved.below);
+        solved = row_step_told space states n candidates s.solved r some inside;
+        made = all_made space states n candidates s.made r.made;
+        starting = starts_grow space states n candidates starts s.known s.starting (told_each (λ (x : StateCost). x.tables < n) states s.solved.below);
         known = length-append starts _ ∙ omega (arith, s.known);
         last = last_is;
         few = few_are;

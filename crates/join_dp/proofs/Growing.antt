@@ -70,62 +70,62 @@ module _ (space : Space) (states more : List Solved) where
       let made : MadeAs place (record { tables = n; order = k; found = c }) = (m.small, lt, sort_grows (length states) place n k c.cost c.step c.sorted (omega arith) ge m.made) in
       made_as place (subst (MadeAs place) (sym (at_back states more place ge ∙ e)) made)
 
-module _ (space : Space) (states : List Solved) (n : ℕ) (row : List (Option Candidate)) where
-  pub all_made : AllMade space states → AreMade space states n row → AllMade space (states ++ entries_from n 0 row)
+module _ (space : Space) (states : List Solved) (n : ℕ) (candidates : List (Option Candidate)) where
+  pub all_made : AllMade space states → AreMade space states n candidates → AllMade space (states ++ entries_from n 0 candidates)
   all_made made are place within = of_cases (cases_lt place (length states))
     where
-      of_entry : length states ≤ place → (k : ℕ) × (order : ℕ) × (c : Candidate) × (order ≡ 0 + k) × (k < length row) × (found_at row k ≡ Some c) × (at (entries_from n 0 row) (place - length states) ≡ record { tables = n; order = order; found = c }) → IsMadeAt space (states ++ entries_from n 0 row) place
+      of_entry : length states ≤ place → (k : ℕ) × (order : ℕ) × (c : Candidate) × (order ≡ 0 + k) × (k < length candidates) × (found_at candidates k ≡ Some c) × (at (entries_from n 0 candidates) (place - length states) ≡ record { tables = n; order = order; found = c }) → IsMadeAt space (states ++ entries_from n 0 candidates) place
       of_entry ge (k, order, c, is, lt, there, e) =
           let same : order ≡ k = omega (arith, is) in
-          back_made space states (entries_from n 0 row) place n order c ge (omega (arith, same, lt, are.size)) (subst (λ m. IsMade space states n m c) (sym same) (are.each k c there)) e
+          back_made space states (entries_from n 0 candidates) place n order c ge (omega (arith, same, lt, are.size)) (subst (λ m. IsMade space states n m c) (sym same) (are.each k c there)) e
 
-      of_cases : (place < length states) ⊎ (length states ≤ place) → IsMadeAt space (states ++ entries_from n 0 row) place
-      of_cases (inl lt) = front_made space states (entries_from n 0 row) place lt (made place lt)
-      of_cases (inr ge) = of_entry ge (entry_at n 0 row (place - length states) _ (omega (arith, within, ge, length-append states (entries_from n 0 row))))
+      of_cases : (place < length states) ⊎ (length states ≤ place) → IsMadeAt space (states ++ entries_from n 0 candidates) place
+      of_cases (inl lt) = front_made space states (entries_from n 0 candidates) place lt (made place lt)
+      of_cases (inr ge) = of_entry ge (entry_at n 0 candidates (place - length states) _ (omega (arith, within, ge, length-append states (entries_from n 0 candidates))))
 
   -- ---- where the sets begin
 
-  back_tables : (place : ℕ) → length states ≤ place → place < length (states ++ entries_from n 0 row) → (at (states ++ entries_from n 0 row) place).tables ≡ n
-  back_tables place ge within = of_entry (entry_at n 0 row (place - length states) _ (omega (arith, within, ge, length-append states (entries_from n 0 row))))
+  back_tables : (place : ℕ) → length states ≤ place → place < length (states ++ entries_from n 0 candidates) → (at (states ++ entries_from n 0 candidates) place).tables ≡ n
+  back_tables place ge within = of_entry (entry_at n 0 candidates (place - length states) _ (omega (arith, within, ge, length-append states (entries_from n 0 candidates))))
     where
-      of_entry : (k : ℕ) × (order : ℕ) × (c : Candidate) × (order ≡ 0 + k) × (k < length row) × (found_at row k ≡ Some c) × (at (entries_from n 0 row) (place - length states) ≡ record { tables = n; order = order; found = c }) → (at (states ++ entries_from n 0 row) place).tables ≡ n
-      of_entry (k, order, c, is, lt, there, e) = ap (λ (x : Solved). x.tables) (at_back states (entries_from n 0 row) place ge ∙ e)
+      of_entry : (k : ℕ) × (order : ℕ) × (c : Candidate) × (order ≡ 0 + k) × (k < length candidates) × (found_at candidates k ≡ Some c) × (at (entries_from n 0 candidates) (place - length states) ≡ record { tables = n; order = order; found = c }) → (at (states ++ entries_from n 0 candidates) place).tables ≡ n
+      of_entry (k, order, c, is, lt, there, e) = ap (λ (x : Solved). x.tables) (at_back states (entries_from n 0 candidates) place ge ∙ e)
 
-  front_tables : (place : ℕ) → place < length states → (at (states ++ entries_from n 0 row) place).tables ≡ (at states place).tables
-  front_tables place lt = ap (λ (x : Solved). x.tables) (at_front states (entries_from n 0 row) place lt)
+  front_tables : (place : ℕ) → place < length states → (at (states ++ entries_from n 0 candidates) place).tables ≡ (at states place).tables
+  front_tables place lt = ap (λ (x : Solved). x.tables) (at_front states (entries_from n 0 candidates) place lt)
 
-  known_start : (s start : ℕ) → s ≤ n → IsStart states s start → IsStart (states ++ entries_from n 0 row) s start
+  known_start : (s start : ℕ) → s ≤ n → IsStart states s start → IsStart (states ++ entries_from n 0 candidates) s start
   known_start s start le is = record {
-    within = omega (arith, is.within, length-append states (entries_from n 0 row));
+    within = omega (arith, is.within, length-append states (entries_from n 0 candidates));
     before = λ place lt. let b = is.before place lt in let w = is.within in let e = front_tables place (omega (arith, lt, w)) in omega (arith, b, e);
     behind = λ place ge within. of_cases place ge within (cases_lt place (length states));
   }
     where
-      of_cases : (place : ℕ) → start ≤ place → place < length (states ++ entries_from n 0 row) → (place < length states) ⊎ (length states ≤ place) → s ≤ (at (states ++ entries_from n 0 row) place).tables
+      of_cases : (place : ℕ) → start ≤ place → place < length (states ++ entries_from n 0 candidates) → (place < length states) ⊎ (length states ≤ place) → s ≤ (at (states ++ entries_from n 0 candidates) place).tables
       of_cases place ge within (inl lt) = let b = is.behind place ge lt in let e = front_tables place lt in omega (arith, b, e)
       of_cases place ge within (inr more) = let e = back_tables place more within in omega (arith, e, le)
 
-  next_start : ((place : ℕ) → place < length states → (at states place).tables < n) → IsStart (states ++ entries_from n 0 row) (n + 1) (length (states ++ entries_from n 0 row))
+  next_start : ((place : ℕ) → place < length states → (at states place).tables < n) → IsStart (states ++ entries_from n 0 candidates) (n + 1) (length (states ++ entries_from n 0 candidates))
   next_start below = record {
     within = omega arith;
     before = λ place lt. of_cases place lt (cases_lt place (length states));
     behind = λ place ge within. absurd (omega (arith, ge, within));
   }
     where
-      of_cases : (place : ℕ) → place < length (states ++ entries_from n 0 row) → (place < length states) ⊎ (length states ≤ place) → (at (states ++ entries_from n 0 row) place).tables < n + 1
+      of_cases : (place : ℕ) → place < length (states ++ entries_from n 0 candidates) → (place < length states) ⊎ (length states ≤ place) → (at (states ++ entries_from n 0 candidates) place).tables < n + 1
       of_cases place within (inl lt) = let b = below place lt in let e = front_tables place lt in omega (arith, b, e)
       of_cases place within (inr ge) = let e = back_tables place ge within in omega (arith, e)
 
   pub starts_grow : (starts : List ℕ) → length starts ≡ n + 1 → AreStarts states starts → ((place : ℕ) → place < length states → (at states place).tables < n)
-      → AreStarts (states ++ entries_from n 0 row) (starts ++ length (states ++ entries_from n 0 row) ∷ [])
+      → AreStarts (states ++ entries_from n 0 candidates) (starts ++ length (states ++ entries_from n 0 candidates) ∷ [])
   starts_grow starts len known below s lt = of_cases (cases_lt s (length starts))
     where
-      of_cases : (s < length starts) ⊎ (length starts ≤ s) → IsStart (states ++ entries_from n 0 row) s (get_or (starts ++ length (states ++ entries_from n 0 row) ∷ []) s 0)
+      of_cases : (s < length starts) ⊎ (length starts ≤ s) → IsStart (states ++ entries_from n 0 candidates) s (get_or (starts ++ length (states ++ entries_from n 0 candidates) ∷ []) s 0)
       of_cases (inl less) =
-          subst (IsStart (states ++ entries_from n 0 row) s) (sym (get_or_append_left starts (length (states ++ entries_from n 0 row) ∷ []) 0 s less)) (known_start s (get_or starts s 0) (omega (arith, less, len)) (known s less))
+          subst (IsStart (states ++ entries_from n 0 candidates) s) (sym (get_or_append_left starts (length (states ++ entries_from n 0 candidates) ∷ []) 0 s less)) (known_start s (get_or starts s 0) (omega (arith, less, len)) (known s less))
       of_cases (inr ge) =
-          let e : length starts ≡ s = omega (arith, ge, lt, length-append starts (length (states ++ entries_from n 0 row) ∷ [])) in
+          let e : length starts ≡ s = omega (arith, ge, lt, length-append starts (length (states ++ entries_from n 0 candidates) ∷ [])) in
           let is : n + 1 ≡ s = omega (arith, e, len) in
-          subst (λ k. IsStart (states ++ entries_from n 0 row) k (get_or (starts ++ length (states ++ entries_from n 0 row) ∷ []) k 0)) e
-          (subst (IsStart (states ++ entries_from n 0 row) (length starts)) (sym (get_or-append_seam starts (length (states ++ entries_from n 0 row)) [] 0))
-          (subst (λ k. IsStart (states ++ entries_from n 0 row) k (length (states ++ entries_from n 0 row))) (sym len) (next_start below)))
+          subst (λ k. IsStart (states ++ entries_from n 0 candidates) k (get_or (starts ++ length (states ++ entries_from n 0 candidates) ∷ []) k 0)) e
+          (subst (IsStart (states ++ entries_from n 0 candidates) (length starts)) (sym (get_or-append_seam starts (length (states ++ entries_from n 0 candidates)) [] 0))
+          (subst (λ k. IsStart (states ++ entries_from n 0 candidates) k (length (states ++ entries_from n 0 candidates))) (sym len) (next_start below)))

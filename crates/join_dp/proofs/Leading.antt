@@ -24,19 +24,19 @@ module _ (space : Space) (table : ℕ) where
   -- ---- accesses
 
   abbrev pub AccessSeen : List (Option Candidate) → Item → Type 0
-  AccessSeen row item = (folded : ℕ) → Folds space (only table) item.order folded → cost_at row folded ≤ item.cost
+  AccessSeen candidates item = (folded : ℕ) → Folds space (only table) item.order folded → cost_at candidates folded ≤ item.cost
 
-  pub record Accessed (old row : List (Option Candidate)) (items : List Item) : Type 0 where
-    pub size : length row ≡ length space.orders
-    pub made : (states : List Solved) → AreUnsorted space states (only table) old → AreUnsorted space states (only table) row
-    pub below : Below row old
-    pub leads : LeadsLow (IsPathItem space 0 table) AccessSeen (LowByAccesses space table) row items
+  pub record Accessed (old candidates : List (Option Candidate)) (items : List Item) : Type 0 where
+    pub size : length candidates ≡ length space.orders
+    pub made : (states : List Solved) → AreUnsorted space states (only table) old → AreUnsorted space states (only table) candidates
+    pub below : Below candidates old
+    pub leads : LeadsLow (IsPathItem space 0 table) AccessSeen (LowByAccesses space table) candidates items
 
-  pub accesses_begin : (row : List (Option Candidate)) (items : List Item) → length row ≡ length space.orders → AreItems space 0 table items → Accessed row row items
-  accesses_begin row items size are = record {
+  pub accesses_begin : (candidates : List (Option Candidate)) (items : List Item) → length candidates ≡ length space.orders → AreItems space 0 table items → Accessed candidates candidates items
+  accesses_begin candidates items size are = record {
     size = size;
     made = λ states made. made;
-    below = below_same row;
+    below = below_same candidates;
     leads = (each, λ later below all path folded at there folds. of_item later path folded folds (found_item space 0 table items (λ (item : Item). IsPathItem space 0 table item × AccessSeen later item) are (both (IsPathItem space 0 table) (AccessSeen later) items each all) path at there));
   }
     where
@@ -49,19 +49,19 @@ module _ (space : Space) (table : ℕ) where
           let c : item.cost ≡ space.path_cost 0 path = rw is at right.0.cost in
           rw c at (seen folded (rw o folds))
 
-  pub access_within : (old row : List (Option Candidate)) (items rest : List Item) (item : Item) (f : ℕ) → items ≡ item ∷ rest → f ≤ item.order → Accessed old row items → f < length row
-  access_within old row items rest item f is le s =
+  pub access_within : (old candidates : List (Option Candidate)) (items rest : List Item) (item : Item) (f : ℕ) → items ≡ item ∷ rest → f ≤ item.order → Accessed old candidates items → f < length candidates
+  access_within old candidates items rest item f is le s =
       let right = head_has (IsPathItem space 0 table) items rest item is s.leads.0 in
       omega (arith, right.0.numbered, s.size, le)
 
-  pub accesses_go : (old : List (Option Candidate)) (row row' : SetCandidates) (items rest : List Item) (item : Item) (f : ℕ) → table < space.table_count → items ≡ item ∷ rest → f ≤ item.order → Folds space (only table) item.order f
-      → Accessed old row.found items → row' ≡ offered row f (record { step = AccessOf item.path; sorted = None; cost = item.cost }) → Accessed old row'.found rest
-  accesses_go old row row' items rest item f lt is le folds s e = record {
-    size = ap (λ (r : SetCandidates). length r.found) e ∙ improved_size row.found f candidate ∙ s.size;
-    made = λ states made. offered_unsorted space states (only table) row row' f candidate e within (s.made states made) (fits states);
+  pub accesses_go : (old : List (Option Candidate)) (candidates row' : SetCandidates) (items rest : List Item) (item : Item) (f : ℕ) → table < space.table_count → items ≡ item ∷ rest → f ≤ item.order → Folds space (only table) item.order f
+      → Accessed old candidates.found items → row' ≡ offered candidates f (record { step = AccessOf item.path; sorted = None; cost = item.cost }) → Accessed old row'.found rest
+  accesses_go old candidates row' items rest item f lt is le folds s e = record {
+    size = ap (λ (r : SetCandidates). length r.found) e ∙ improved_size candidates.found f candidate ∙ s.size;
+    made = λ states made. offered_unsorted space states (only table) candidates row' f candidate e within (s.made states made) (fits states);
     below = below_trans _ _ _ below s.below;
-    leads = goes_low (IsPathItem space 0 table) AccessSeen (LowByAccesses space table) row.found row'.found items rest item is s.leads below
-        (λ later b folded folds'. let once : f ≡ folded = folds_once space (only table) item.order f folded folds folds' in let l = b.lower f in let h = offered_low row row' f candidate e within in rw (← once) (omega (arith, l, h)));
+    leads = goes_low (IsPathItem space 0 table) AccessSeen (LowByAccesses space table) candidates.found row'.found items rest item is s.leads below
+        (λ later b folded folds'. let once : f ≡ folded = folds_once space (only table) item.order f folded folds folds' in let l = b.lower f in let h = offered_low candidates row' f candidate e within in rw (← once) (omega (arith, l, h)));
   }
     where
       candidate : Candidate
@@ -70,11 +70,11 @@ module _ (space : Space) (table : ℕ) where
       right : IsPathItem space 0 table item
       right = head_has (IsPathItem space 0 table) items rest item is s.leads.0
 
-      within : f < length row.found
-      within = access_within old row.found items rest item f is le s
+      within : f < length candidates.found
+      within = access_within old candidates.found items rest item f is le s
 
-      below : Below row'.found row.found
-      below = offered_below row row' f candidate e within right.0.small
+      below : Below row'.found candidates.found
+      below = offered_below candidates row' f candidate e within right.0.small
 
       fits : (states : List Solved) → IsUnsorted space states (only table) f candidate
       fits states = record {
@@ -86,8 +86,8 @@ module _ (space : Space) (table : ℕ) where
 module _ (space : Space) (states : List Solved) (s table : ℕ) where
   -- ---- loops
 
-  pub join_low_later : (join : Join) (later row : List (Option Candidate)) → Below later row → LowByJoin space states s table join row → LowByJoin space states s table join later
-  join_low_later join later row below low place within on folded goes folds = let l = below.lower folded in let h = low place within on folded goes folds in omega (arith, l, h)
+  pub join_low_later : (join : Join) (later candidates : List (Option Candidate)) → Below later candidates → LowByJoin space states s table join candidates → LowByJoin space states s table join later
+  join_low_later join later candidates below low place within on folded goes folds = let l = below.lower folded in let h = low place within on folded goes folds in omega (arith, l, h)
 
   pub loop_added : (item : Item) (cardinality n added : ℕ) → MayFollow space s table → IsPathItem space s table item → n ≡ cardinality → cardinality ≡ space.cardinality s → (cost : ℕ) → cost ≡ item.cost → added ≡ saturated (n * cost) → IsAdded space s table (Loop item.path) added
   loop_added item cardinality n added follows right a b cost d e = record {
@@ -99,29 +99,29 @@ module _ (space : Space) (states : List Solved) (s table : ℕ) where
   -- ---- merges
 
   abbrev pub MergeSeen : List (Option Candidate) → CostedMerge → Type 0
-  MergeSeen row item = LowByJoin space states s table (Merge item.conjunct item.inner) row
+  MergeSeen candidates item = LowByJoin space states s table (Merge item.conjunct item.inner) candidates
 
   abbrev pub LowByMerges : List (Option Candidate) → Type 0
-  LowByMerges row = (number : ℕ) (inner : Inner) → IsJoin space s table (Merge number inner) → LowByJoin space states s table (Merge number inner) row
+  LowByMerges candidates = (number : ℕ) (inner : Inner) → IsJoin space s table (Merge number inner) → LowByJoin space states s table (Merge number inner) candidates
 
-  pub record Merged (old row : List (Option Candidate)) (items : List CostedMerge) : Type 0 where
-    pub made : AreUnsorted space states (with_table s table) row
-    pub below : Below row old
-    pub leads : LeadsLow (IsMergeItem space s table) MergeSeen LowByMerges row items
+  pub record Merged (old candidates : List (Option Candidate)) (items : List CostedMerge) : Type 0 where
+    pub made : AreUnsorted space states (with_table s table) candidates
+    pub below : Below candidates old
+    pub leads : LeadsLow (IsMergeItem space s table) MergeSeen LowByMerges candidates items
 
-  pub merges_begin : (row : List (Option Candidate)) (items : List CostedMerge) → AreUnsorted space states (with_table s table) row → AreMerges space s table items → Merged row row items
-  merges_begin row items made are = record {
+  pub merges_begin : (candidates : List (Option Candidate)) (items : List CostedMerge) → AreUnsorted space states (with_table s table) candidates → AreMerges space s table items → Merged candidates candidates items
+  merges_begin candidates items made are = record {
     made = made;
-    below = below_same row;
+    below = below_same candidates;
     leads = (are.each, λ later below all number inner is. has_each (MergeSeen later) items (record { conjunct = number; inner = inner; cost = merge_cost space s number inner }) all (are.all number inner is));
   }
 
-  pub merges_go : (old row row' : List (Option Candidate)) (items rest : List CostedMerge) (item : CostedMerge) → items ≡ item ∷ rest → Merged old row items
-      → AreUnsorted space states (with_table s table) row' → Below row' row → MergeSeen row' item → Merged old row' rest
-  merges_go old row row' items rest item is so_far made below low = record {
+  pub merges_go : (old candidates row' : List (Option Candidate)) (items rest : List CostedMerge) (item : CostedMerge) → items ≡ item ∷ rest → Merged old candidates items
+      → AreUnsorted space states (with_table s table) row' → Below row' candidates → MergeSeen row' item → Merged old row' rest
+  merges_go old candidates row' items rest item is so_far made below low = record {
     made = made;
-    below = below_trans row' row old below so_far.below;
-    leads = goes_low (IsMergeItem space s table) MergeSeen LowByMerges row row' items rest item is so_far.leads below (λ later b. join_low_later (Merge item.conjunct item.inner) later row' b low);
+    below = below_trans row' candidates old below so_far.below;
+    leads = goes_low (IsMergeItem space s table) MergeSeen LowByMerges candidates row' items rest item is so_far.leads below (λ later b. join_low_later (Merge item.conjunct item.inner) later row' b low);
   }
 
   pub merge_added : (item : CostedMerge) → MayFollow space s table → IsMergeItem space s table item → IsAdded space s table (Merge item.conjunct item.inner) item.cost

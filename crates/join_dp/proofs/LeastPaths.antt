@@ -121,15 +121,15 @@ module _ (space : Space) (states : List Solved) (s table : ℕ) where
   join_small (Loop path) = saturated_small _
   join_small (Merge number inner) = saturated_small _
 
-  pub none_dearer : (n : ℕ) (row : List (Option Candidate)) → limit < n → LowByDearer space states s table n row
-  none_dearer n row large join le = absurd (omega (arith, large, le, join_small join))
+  pub none_dearer : (n : ℕ) (candidates : List (Option Candidate)) → limit < n → LowByDearer space states s table n candidates
+  none_dearer n candidates large join le = absurd (omega (arith, large, le, join_small join))
 
-  pub low_by_dearer : (path : Path) (n : ℕ) (row : List (Option Candidate)) → n ≡ join_cost space s (Loop path) → LowByJoin space states s table (Loop path) row → LowByDearer space states s table n row
-  low_by_dearer path n row is low join le place within on folded goes folds =
+  pub low_by_dearer : (path : Path) (n : ℕ) (candidates : List (Option Candidate)) → n ≡ join_cost space s (Loop path) → LowByJoin space states s table (Loop path) candidates → LowByDearer space states s table n candidates
+  low_by_dearer path n candidates is low join le place within on folded goes folds =
       sum_more (join_cost space s (Loop path)) (join_cost space s join) _ _ (low place within on folded tt folds) (subst (λ m. m ≤ join_cost space s join) is le)
 
-  pub dearer_later : (n : ℕ) (later row : List (Option Candidate)) → Below later row → LowByDearer space states s table n row → LowByDearer space states s table n later
-  dearer_later n later row below low join le = join_low_later space states s table join later row below (low join le)
+  pub dearer_later : (n : ℕ) (later candidates : List (Option Candidate)) → Below later candidates → LowByDearer space states s table n candidates → LowByDearer space states s table n later
+  dearer_later n later candidates below low join le = join_low_later space states s table join later candidates below (low join le)
 
   pub loop_least : (item : Item) (n : ℕ) → IsPathItem space s table item → n ≡ join_cost space s (Loop item.path) → ((path : Path) → table_of path ≡ table → IsPath space s path → item.cost ≤ space.path_cost s path)
       → (path : Path) → IsJoin space s table (Loop path) → n ≤ join_cost space s (Loop path)

@@ -15,23 +15,23 @@ use Rattle.join_dp.specs.Solving.{Solved, at, StepMakes, IsUnsorted, AreUnsorted
 use Rattle.join_dp.proofs.Found.{improved_size, improved_fits, improved_low, improved_below, below_same, below_trans}
 
 -- a row is lower after a plan
-pub offered_below : (row row' : SetCandidates) (k : ℕ) (c : Candidate) → row' ≡ offered row k c → k < length row.found → c.cost ≤ limit → Below row'.found row.found
-offered_below row row' k c is lt small = subst (λ (r : SetCandidates). Below r.found row.found) (sym is) (improved_below row.found k c lt small)
+pub offered_below : (candidates row' : SetCandidates) (k : ℕ) (c : Candidate) → row' ≡ offered candidates k c → k < length candidates.found → c.cost ≤ limit → Below row'.found candidates.found
+offered_below candidates row' k c is lt small = subst (λ (r : SetCandidates). Below r.found candidates.found) (sym is) (improved_below candidates.found k c lt small)
 
-pub offered_low : (row row' : SetCandidates) (k : ℕ) (c : Candidate) → row' ≡ offered row k c → k < length row.found → cost_at row'.found k ≤ c.cost
-offered_low row row' k c is lt = subst (λ (r : SetCandidates). cost_at r.found k ≤ c.cost) (sym is) (improved_low row.found k c lt)
+pub offered_low : (candidates row' : SetCandidates) (k : ℕ) (c : Candidate) → row' ≡ offered candidates k c → k < length candidates.found → cost_at row'.found k ≤ c.cost
+offered_low candidates row' k c is lt = subst (λ (r : SetCandidates). cost_at r.found k ≤ c.cost) (sym is) (improved_low candidates.found k c lt)
 
-pub offered_steps : (row row' : SetCandidates) (k : ℕ) (c : Candidate) → row' ≡ offered row k c → row'.steps ≤ row.steps + 1
-offered_steps row row' k c is = let e = ap (λ (r : SetCandidates). r.steps) is in omega (arith, e)
+pub offered_steps : (candidates row' : SetCandidates) (k : ℕ) (c : Candidate) → row' ≡ offered candidates k c → row'.steps ≤ candidates.steps + 1
+offered_steps candidates row' k c is = let e = ap (λ (r : SetCandidates). r.steps) is in omega (arith, e)
 
 pub sum_is : (n x y a b : ℕ) → n ≡ saturated (x + y) → x ≡ a → y ≡ b → n ≡ saturated (a + b)
 sum_is n x y a b is e f = rw (← e, ← f) is
 
 module _ (space : Space) (states : List Solved) where
-  pub offered_unsorted : (next : ℕ) (row row' : SetCandidates) (k : ℕ) (c : Candidate) → row' ≡ offered row k c → k < length row.found → AreUnsorted space states next row.found → IsUnsorted space states next k c → AreUnsorted space states next row'.found
-  offered_unsorted next row row' k c is lt made fits = subst (λ (r : SetCandidates). AreUnsorted space states next r.found) (sym is) (record {
-    size = improved_size row.found k c ∙ made.size;
-    each = improved_fits (IsUnsorted space states next) row.found k c lt made.each fits;
+  pub offered_unsorted : (next : ℕ) (candidates row' : SetCandidates) (k : ℕ) (c : Candidate) → row' ≡ offered candidates k c → k < length candidates.found → AreUnsorted space states next candidates.found → IsUnsorted space states next k c → AreUnsorted space states next row'.found
+  offered_unsorted next candidates row' k c is lt made fits = subst (λ (r : SetCandidates). AreUnsorted space states next r.found) (sym is) (record {
+    size = improved_size candidates.found k c ∙ made.size;
+    each = improved_fits (IsUnsorted space states next) candidates.found k c lt made.each fits;
   })
 
   -- a join that may follow and that the order allows can be made
@@ -59,33 +59,33 @@ module _ (space : Space) (states : List Solved) where
     made = join_is_made s table join added from f cost add on lt (can_join s (at states from).order table join add.follows add.is_join goes) folds e;
   }
 
-  pub join_low : (s table : ℕ) (join : Join) (added from f cost : ℕ) (row : List (Option Candidate)) → IsAdded space s table join added → Folds space (with_table s table) (at states from).order f
-      → cost ≡ saturated ((at states from).found.cost + added) → cost_at row f ≤ cost → LowByJoinOn space states s table join from row
-  join_low s table join added from f cost row add folds e low folded goes folds' =
+  pub join_low : (s table : ℕ) (join : Join) (added from f cost : ℕ) (candidates : List (Option Candidate)) → IsAdded space s table join added → Folds space (with_table s table) (at states from).order f
+      → cost ≡ saturated ((at states from).found.cost + added) → cost_at candidates f ≤ cost → LowByJoinOn space states s table join from candidates
+  join_low s table join added from f cost candidates add folds e low folded goes folds' =
       let once : f ≡ folded = folds_once space (with_table s table) (at states from).order f folded folds folds' in
       rw (← once, ← add.cost, ← e) low
 
-  pub join_low_later : (s table : ℕ) (join : Join) (place : ℕ) (later row : List (Option Candidate)) → Below later row → LowByJoinOn space states s table join place row → LowByJoinOn space states s table join place later
-  join_low_later s table join place later row below low folded goes folds = let l = below.lower folded in let h = low folded goes folds in omega (arith, l, h)
+  pub join_low_later : (s table : ℕ) (join : Join) (place : ℕ) (later candidates : List (Option Candidate)) → Below later candidates → LowByJoinOn space states s table join place candidates → LowByJoinOn space states s table join place later
+  join_low_later s table join place later candidates below low folded goes folds = let l = below.lower folded in let h = low folded goes folds in omega (arith, l, h)
 
   -- ---- the states of a set, one after another
 
-  pub record Joined (s table : ℕ) (join : Join) (start : ℕ) (old row : List (Option Candidate)) (from : ℕ) : Type 0 where
-    pub made : AreUnsorted space states (with_table s table) row
-    pub below : Below row old
-    pub low : (place : ℕ) → start ≤ place → place < from → LowByJoinOn space states s table join place row
+  pub record Joined (s table : ℕ) (join : Join) (start : ℕ) (old candidates : List (Option Candidate)) (from : ℕ) : Type 0 where
+    pub made : AreUnsorted space states (with_table s table) candidates
+    pub below : Below candidates old
+    pub low : (place : ℕ) → start ≤ place → place < from → LowByJoinOn space states s table join place candidates
 
-  pub joins_begin : (s table : ℕ) (join : Join) (start : ℕ) (row : List (Option Candidate)) → AreUnsorted space states (with_table s table) row → Joined s table join start row row start
-  joins_begin s table join start row made = record { made = made; below = below_same row; low = λ place ge lt. absurd (omega (arith, ge, lt)) }
+  pub joins_begin : (s table : ℕ) (join : Join) (start : ℕ) (candidates : List (Option Candidate)) → AreUnsorted space states (with_table s table) candidates → Joined s table join start candidates candidates start
+  joins_begin s table join start candidates made = record { made = made; below = below_same candidates; low = λ place ge lt. absurd (omega (arith, ge, lt)) }
 
-  pub joins_go : (s table : ℕ) (join : Join) (start : ℕ) (old row row' : List (Option Candidate)) (from : ℕ) → Joined s table join start old row from → AreUnsorted space states (with_table s table) row' → Below row' row
+  pub joins_go : (s table : ℕ) (join : Join) (start : ℕ) (old candidates row' : List (Option Candidate)) (from : ℕ) → Joined s table join start old candidates from → AreUnsorted space states (with_table s table) row' → Below row' candidates
       → LowByJoinOn space states s table join from row' → Joined s table join start old row' (from + 1)
-  joins_go s table join start old row row' from so_far made below low = record {
+  joins_go s table join start old candidates row' from so_far made below low = record {
     made = made;
-    below = below_trans row' row old below so_far.below;
+    below = below_trans row' candidates old below so_far.below;
     low = λ place ge lt. of_cases place ge lt (cases_lt place from);
   }
     where
       of_cases : (place : ℕ) → start ≤ place → place < from + 1 → (place < from) ⊎ (from ≤ place) → LowByJoinOn space states s table join place row'
-      of_cases place ge lt (inl less) = join_low_later s table join place row' row below (so_far.low place ge less)
+      of_cases place ge lt (inl less) = join_low_later s table join place row' candidates below (so_far.low place ge less)
       of_cases place ge lt (inr more) = let e : from ≡ place = omega (arith, lt, more) in subst (λ p. LowByJoinOn space states s table join p row') e low

@@ -69,45 +69,45 @@ listed_at states s k c there = of_place (place_of told states _ there)
     of_place : (x : Solved) × (i : ℕ) × (i < length states) × (told (get_or states i x) ≡ record { tables = s; order = k; cost = c }) → (i : ℕ) × (i < length states) × (told (at states i) ≡ record { tables = s; order = k; cost = c })
     of_place (x, i, lt, is) = (i, lt, ap told (get_or_default states i _ x lt) ∙ is)
 
-module _ (space : Space) (states : List Solved) (n : ℕ) (row : List (Option Candidate)) (v : IsSolvedBelow space n (told_all states)) (r : IsRowSolved space states n row) (some : 0 < n) (inside : n ≤ whole space) where
-  below_bound : (s k : ℕ) → s < n → bound (as_bounds (told_all states ++ told_all (entries_from n 0 row))) s k ≡ bound (as_bounds (told_all states)) s k
-  below_bound s k lt = same_front (limit + 1) (told_all states) (told_all (entries_from n 0 row)) s k
-      (weaker (λ (x : StateCost). (x.tables ≡ n) × (0 ≤ x.order)) (λ (x : StateCost). x.tables ≢ s) (told_all (entries_from n 0 row)) (entries_on n 0 row) (λ x h e. let e' = h.0 in absurd (omega (arith, e, e', lt))))
+module _ (space : Space) (states : List Solved) (n : ℕ) (candidates : List (Option Candidate)) (v : IsSolvedBelow space n (told_all states)) (r : IsRowSolved space states n candidates) (some : 0 < n) (inside : n ≤ whole space) where
+  below_bound : (s k : ℕ) → s < n → bound (as_bounds (told_all states ++ told_all (entries_from n 0 candidates))) s k ≡ bound (as_bounds (told_all states)) s k
+  below_bound s k lt = same_front (limit + 1) (told_all states) (told_all (entries_from n 0 candidates)) s k
+      (weaker (λ (x : StateCost). (x.tables ≡ n) × (0 ≤ x.order)) (λ (x : StateCost). x.tables ≢ s) (told_all (entries_from n 0 candidates)) (entries_on n 0 candidates) (λ x h e. let e' = h.0 in absurd (omega (arith, e, e', lt))))
 
-  at_bound : (k : ℕ) → bound (as_bounds (told_all states ++ told_all (entries_from n 0 row))) n k ≡ cost_at row k
-  at_bound k = skipped (limit + 1) (told_all states) (told_all (entries_from n 0 row)) n k (all_rec (λ (x : StateCost). x.tables < n) (λ (x : StateCost). x.tables ≢ n) (told_all states) v.below (λ x lt e. absurd (omega (arith, e, lt))))
-      ∙ entry_bound n 0 k k row (omega arith)
+  at_bound : (k : ℕ) → bound (as_bounds (told_all states ++ told_all (entries_from n 0 candidates))) n k ≡ cost_at candidates k
+  at_bound k = skipped (limit + 1) (told_all states) (told_all (entries_from n 0 candidates)) n k (all_rec (λ (x : StateCost). x.tables < n) (λ (x : StateCost). x.tables ≢ n) (told_all states) v.below (λ x lt e. absurd (omega (arith, e, lt))))
+      ∙ entry_bound n 0 k k candidates (omega arith)
 
   -- a listed entry is within the limit
-  entry_small : (s k c : ℕ) → Lists (told_all (entries_from n 0 row)) s k c → (s ≡ n) × (cost_at row k ≤ limit)
-  entry_small s k c there = of_place (place_of told (entries_from n 0 row) _ there)
+  entry_small : (s k c : ℕ) → Lists (told_all (entries_from n 0 candidates)) s k c → (s ≡ n) × (cost_at candidates k ≤ limit)
+  entry_small s k c there = of_place (place_of told (entries_from n 0 candidates) _ there)
     where
-      of_entry : (x : Solved) (i : ℕ) → told (get_or (entries_from n 0 row) i x) ≡ record { tables = s; order = k; cost = c }
-          → (j : ℕ) × (order : ℕ) × (d : Candidate) × (order ≡ 0 + j) × (j < length row) × (get_or row j None ≡ Some d) × (get_or (entries_from n 0 row) i x ≡ record { tables = n; order = order; found = d }) → (s ≡ n) × (cost_at row k ≤ limit)
+      of_entry : (x : Solved) (i : ℕ) → told (get_or (entries_from n 0 candidates) i x) ≡ record { tables = s; order = k; cost = c }
+          → (j : ℕ) × (order : ℕ) × (d : Candidate) × (order ≡ 0 + j) × (j < length candidates) × (get_or candidates j None ≡ Some d) × (get_or (entries_from n 0 candidates) i x ≡ record { tables = n; order = order; found = d }) → (s ≡ n) × (cost_at candidates k ≤ limit)
       of_entry x i is (j, order, d, at_j, lt, there', e) =
           let whole_is : told (record { tables = n; order = order; found = d }) ≡ record { tables = s; order = k; cost = c } = ap told (sym e) ∙ is in
           let s_is : n ≡ s = ap (λ (y : StateCost). y.tables) whole_is in
           let k_is : order ≡ k = ap (λ (y : StateCost). y.order) whole_is in
           let same : k ≡ j = omega (arith, k_is, at_j) in
-          let cost : cost_at row j ≡ d.cost = ap cost_or there' in
+          let cost : cost_at candidates j ≡ d.cost = ap cost_or there' in
           let small = (r.made.each j d there').small in
-          (sym s_is, subst (λ m. cost_at row m ≤ limit) (sym same) (omega (arith, cost, small)))
+          (sym s_is, subst (λ m. cost_at candidates m ≤ limit) (sym same) (omega (arith, cost, small)))
 
-      of_place : (x : Solved) × (i : ℕ) × (i < length (entries_from n 0 row)) × (told (get_or (entries_from n 0 row) i x) ≡ record { tables = s; order = k; cost = c }) → (s ≡ n) × (cost_at row k ≤ limit)
-      of_place (x, i, lt, is) = of_entry x i is (entry_at n 0 row i x lt)
+      of_place : (x : Solved) × (i : ℕ) × (i < length (entries_from n 0 candidates)) × (told (get_or (entries_from n 0 candidates) i x) ≡ record { tables = s; order = k; cost = c }) → (s ≡ n) × (cost_at candidates k ≤ limit)
+      of_place (x, i, lt, is) = of_entry x i is (entry_at n 0 candidates i x lt)
 
-  listed_cases : (s k : ℕ) → IsListed (as_bounds (told_all states ++ told_all (entries_from n 0 row))) s k → ((s < n) × IsListed (as_bounds (told_all states)) s k) ⊎ ((s ≡ n) × (cost_at row k ≤ limit))
-  listed_cases s k (c, there) = of_cases (Contains-append_cases (told_all states) (told_all (entries_from n 0 row)) (record { tables = s; order = k; cost = c }) there)
+  listed_cases : (s k : ℕ) → IsListed (as_bounds (told_all states ++ told_all (entries_from n 0 candidates))) s k → ((s < n) × IsListed (as_bounds (told_all states)) s k) ⊎ ((s ≡ n) × (cost_at candidates k ≤ limit))
+  listed_cases s k (c, there) = of_cases (Contains-append_cases (told_all states) (told_all (entries_from n 0 candidates)) (record { tables = s; order = k; cost = c }) there)
     where
-      of_cases : Lists (told_all states) s k c ⊎ Lists (told_all (entries_from n 0 row)) s k c → ((s < n) × IsListed (as_bounds (told_all states)) s k) ⊎ ((s ≡ n) × (cost_at row k ≤ limit))
+      of_cases : Lists (told_all states) s k c ⊎ Lists (told_all (entries_from n 0 candidates)) s k c → ((s < n) × IsListed (as_bounds (told_all states)) s k) ⊎ ((s ≡ n) × (cost_at candidates k ≤ limit))
       of_cases (inl l) = inl (All-contains (λ (x : StateCost). x.tables < n) (told_all states) (record { tables = s; order = k; cost = c }) v.below l, (c, l))
       of_cases (inr l) = inr (entry_small s k c l)
 
   -- a join to the row's set, from a listed state
-  joined_low : (s k c : ℕ) (join : Join) (folded : ℕ) → Lists (told_all states) s k c → with_table s (table_in join) ≡ n → CanJoin space s k join → Folds space n k folded → cost_at row folded ≤ saturated (c + join_cost space s join)
+  joined_low : (s k c : ℕ) (join : Join) (folded : ℕ) → Lists (told_all states) s k c → with_table s (table_in join) ≡ n → CanJoin space s k join → Folds space n k folded → cost_at candidates folded ≤ saturated (c + join_cost space s join)
   joined_low s k c join folded there e can folds = of_place (listed_at states s k c there)
     where
-      of_place : (i : ℕ) × (i < length states) × (told (at states i) ≡ record { tables = s; order = k; cost = c }) → cost_at row folded ≤ saturated (c + join_cost space s join)
+      of_place : (i : ℕ) × (i < length states) × (told (at states i) ≡ record { tables = s; order = k; cost = c }) → cost_at candidates folded ≤ saturated (c + join_cost space s join)
       of_place (i, lt, is) =
           let s_is : (at states i).tables ≡ s = ap (λ (y : StateCost). y.tables) is in
           let k_is : (at states i).order ≡ k = ap (λ (y : StateCost). y.order) is in
@@ -116,35 +116,35 @@ module _ (space : Space) (states : List Solved) (n : ℕ) (row : List (Option Ca
           let low = (r.steps (table_in join) f.0).joins s e f join (is_join space s k join can) i lt s_is folded in
           let goes = subst (λ m. GoesWith space s m (table_in join) join) (sym k_is) (goes_with space s k join can) in
           let folds' = subst (λ m. Folds space (with_table s (table_in join)) m folded) (sym k_is) (subst (λ m. Folds space m k folded) (sym e) folds) in
-          subst (λ m. cost_at row folded ≤ saturated (m + join_cost space s join)) c_is (low goes folds')
+          subst (λ m. cost_at candidates folded ≤ saturated (m + join_cost space s join)) c_is (low goes folds')
 
-  join_low : (s k next folded d : ℕ) → s < next → next < n + 1 → IsListed (as_bounds (told_all states ++ told_all (entries_from n 0 row))) s k
+  join_low : (s k next folded d : ℕ) → s < next → next < n + 1 → IsListed (as_bounds (told_all states ++ told_all (entries_from n 0 candidates))) s k
       → (next < n → IsListed (as_bounds (told_all states)) s k → bound (as_bounds (told_all states)) next folded ≤ saturated (bound (as_bounds (told_all states)) s k + d))
-      → (next ≡ n → (c : ℕ) → Lists (told_all states) s k c → cost_at row folded ≤ saturated (c + d))
-      → bound (as_bounds (told_all states ++ told_all (entries_from n 0 row))) next folded ≤ saturated (bound (as_bounds (told_all states ++ told_all (entries_from n 0 row))) s k + d)
+      → (next ≡ n → (c : ℕ) → Lists (told_all states) s k c → cost_at candidates folded ≤ saturated (c + d))
+      → bound (as_bounds (told_all states ++ told_all (entries_from n 0 candidates))) next folded ≤ saturated (bound (as_bounds (told_all states ++ told_all (entries_from n 0 candidates))) s k + d)
   join_low s k next folded d lt le listed before at_n = of_listed (listed_cases s k listed)
     where
-      of_next : s < n → (c : ℕ) → Lists (told_all states) s k c → (next < n) ⊎ (n ≤ next) → bound (as_bounds (told_all states ++ told_all (entries_from n 0 row))) next folded ≤ saturated (bound (as_bounds (told_all states ++ told_all (entries_from n 0 row))) s k + d)
+      of_next : s < n → (c : ℕ) → Lists (told_all states) s k c → (next < n) ⊎ (n ≤ next) → bound (as_bounds (told_all states ++ told_all (entries_from n 0 candidates))) next folded ≤ saturated (bound (as_bounds (told_all states ++ told_all (entries_from n 0 candidates))) s k + d)
       of_next sn c l (inl nn) = rw (below_bound next folded nn, below_bound s k sn) (before nn (c, l))
       of_next sn c l (inr ge) =
           let e : next ≡ n = omega arith in
           let is : bound (as_bounds (told_all states)) s k ≡ c = listed_cost (limit + 1) (told_all states) s k c v.rising l in
           rw (e, at_bound folded, below_bound s k sn, is) (at_n e c l)
 
-      of_listed : ((s < n) × IsListed (as_bounds (told_all states)) s k) ⊎ ((s ≡ n) × (cost_at row k ≤ limit)) → bound (as_bounds (told_all states ++ told_all (entries_from n 0 row))) next folded ≤ saturated (bound (as_bounds (told_all states ++ told_all (entries_from n 0 row))) s k + d)
+      of_listed : ((s < n) × IsListed (as_bounds (told_all states)) s k) ⊎ ((s ≡ n) × (cost_at candidates k ≤ limit)) → bound (as_bounds (told_all states ++ told_all (entries_from n 0 candidates))) next folded ≤ saturated (bound (as_bounds (told_all states ++ told_all (entries_from n 0 candidates))) s k + d)
       of_listed (inl (sn, (c, l))) = of_next sn c l (cases_lt next n)
       of_listed (inr (e, h)) = absurd (omega arith)
 
   -- the states with the row are solved below the next set
-  row_step : IsSolvedBelow space (n + 1) (told_all states ++ told_all (entries_from n 0 row))
+  row_step : IsSolvedBelow space (n + 1) (told_all states ++ told_all (entries_from n 0 candidates))
   row_step = record {
-    tables = All-append (λ (x : StateCost). (0 < x.tables) × (x.tables ≤ whole space)) (told_all states) (told_all (entries_from n 0 row)) v.tables
-        (rec_all (λ (x : StateCost). (0 < x.tables) × (x.tables ≤ whole space)) (told_all (entries_from n 0 row)) (weaker (λ (x : StateCost). (x.tables ≡ n) × (0 ≤ x.order)) (λ (x : StateCost). (0 < x.tables) × (x.tables ≤ whole space)) (told_all (entries_from n 0 row)) (entries_on n 0 row) (λ x h. let e = h.0 in (omega (arith, e, some), omega (arith, e, inside)))));
-    rising = rising_append n (told_all states) (told_all (entries_from n 0 row)) v.rising (entries_rise n 0 row) v.below
-        (rec_all (λ (x : StateCost). x.tables ≡ n) (told_all (entries_from n 0 row)) (weaker (λ (x : StateCost). (x.tables ≡ n) × (0 ≤ x.order)) (λ (x : StateCost). x.tables ≡ n) (told_all (entries_from n 0 row)) (entries_on n 0 row) (λ x h. h.0)));
-    below = All-append (λ (x : StateCost). x.tables < n + 1) (told_all states) (told_all (entries_from n 0 row))
+    tables = All-append (λ (x : StateCost). (0 < x.tables) × (x.tables ≤ whole space)) (told_all states) (told_all (entries_from n 0 candidates)) v.tables
+        (rec_all (λ (x : StateCost). (0 < x.tables) × (x.tables ≤ whole space)) (told_all (entries_from n 0 candidates)) (weaker (λ (x : StateCost). (x.tables ≡ n) × (0 ≤ x.order)) (λ (x : StateCost). (0 < x.tables) × (x.tables ≤ whole space)) (told_all (entries_from n 0 candidates)) (entries_on n 0 candidates) (λ x h. let e = h.0 in (omega (arith, e, some), omega (arith, e, inside)))));
+    rising = rising_append n (told_all states) (told_all (entries_from n 0 candidates)) v.rising (entries_rise n 0 candidates) v.below
+        (rec_all (λ (x : StateCost). x.tables ≡ n) (told_all (entries_from n 0 candidates)) (weaker (λ (x : StateCost). (x.tables ≡ n) × (0 ≤ x.order)) (λ (x : StateCost). x.tables ≡ n) (told_all (entries_from n 0 candidates)) (entries_on n 0 candidates) (λ x h. h.0)));
+    below = All-append (λ (x : StateCost). x.tables < n + 1) (told_all states) (told_all (entries_from n 0 candidates))
         (rec_all (λ (x : StateCost). x.tables < n + 1) (told_all states) (all_rec (λ (x : StateCost). x.tables < n) (λ (x : StateCost). x.tables < n + 1) (told_all states) v.below (λ x lt. omega (arith, lt))))
-        (rec_all (λ (x : StateCost). x.tables < n + 1) (told_all (entries_from n 0 row)) (weaker (λ (x : StateCost). (x.tables ≡ n) × (0 ≤ x.order)) (λ (x : StateCost). x.tables < n + 1) (told_all (entries_from n 0 row)) (entries_on n 0 row) (λ x h. let e = h.0 in omega (arith, e))));
+        (rec_all (λ (x : StateCost). x.tables < n + 1) (told_all (entries_from n 0 candidates)) (weaker (λ (x : StateCost). (x.tables ≡ n) × (0 ≤ x.order)) (λ (x : StateCost). x.tables < n + 1) (told_all (entries_from n 0 candidates)) (entries_on n 0 candidates) (λ x h. let e = h.0 in omega (arith, e))));
     accesses = λ path folded lt below there folds. of_access path folded lt there folds (cases_lt (only (table_of path)) n) below;
     joins = λ s k join folded le listed can folds. join_low s k (with_table s (table_in join)) folded (join_cost space s join) (grows space s k join can) le listed
         (λ lt l. v.joins s k join folded lt l can folds) (λ e c l. joined_low s k c join folded l e can (subst (λ m. Folds space m k folded) e folds));
@@ -152,23 +152,23 @@ module _ (space : Space) (states : List Solved) (n : ℕ) (row : List (Option Ca
   }
     where
       of_access : (path : Path) (folded : ℕ) → table_of path < space.table_count → IsPath space 0 path → Folds space (only (table_of path)) (space.path_order path) folded → (only (table_of path) < n) ⊎ (n ≤ only (table_of path)) → only (table_of path) < n + 1
-          → bound (as_bounds (told_all states ++ told_all (entries_from n 0 row))) (only (table_of path)) folded ≤ space.path_cost 0 path
+          → bound (as_bounds (told_all states ++ told_all (entries_from n 0 candidates))) (only (table_of path)) folded ≤ space.path_cost 0 path
       of_access path folded lt there folds (inl b) below = rw (below_bound (only (table_of path)) folded b) (v.accesses path folded lt b there folds)
       of_access path folded lt there folds (inr ge) below =
           let e : only (table_of path) ≡ n = omega arith in
           let low = (r.steps (table_of path) lt).accesses e path folded refl there folds in
-          let is : bound (as_bounds (told_all states ++ told_all (entries_from n 0 row))) (only (table_of path)) folded ≡ cost_at row folded = ap (λ s. bound (as_bounds (told_all states ++ told_all (entries_from n 0 row))) s folded) e ∙ at_bound folded in
+          let is : bound (as_bounds (told_all states ++ told_all (entries_from n 0 candidates))) (only (table_of path)) folded ≡ cost_at candidates folded = ap (λ s. bound (as_bounds (told_all states ++ told_all (entries_from n 0 candidates))) s folded) e ∙ at_bound folded in
           omega (arith, low, is)
 
-      of_sort : (s k into folded : ℕ) → CanSort space s into → Folds space s into folded → ((s < n) × IsListed (as_bounds (told_all states)) s k) ⊎ ((s ≡ n) × (cost_at row k ≤ limit))
-          → bound (as_bounds (told_all states ++ told_all (entries_from n 0 row))) s folded ≤ saturated (bound (as_bounds (told_all states ++ told_all (entries_from n 0 row))) s k + space.sort_cost s)
+      of_sort : (s k into folded : ℕ) → CanSort space s into → Folds space s into folded → ((s < n) × IsListed (as_bounds (told_all states)) s k) ⊎ ((s ≡ n) × (cost_at candidates k ≤ limit))
+          → bound (as_bounds (told_all states ++ told_all (entries_from n 0 candidates))) s folded ≤ saturated (bound (as_bounds (told_all states ++ told_all (entries_from n 0 candidates))) s k + space.sort_cost s)
       of_sort s k into folded can folds (inl (lt, l)) = rw (below_bound s folded lt, below_bound s k lt) (v.sorts s k into folded l can folds)
       of_sort s k into folded can folds (inr (e, le)) =
-          subst (λ m. bound (as_bounds (told_all states ++ told_all (entries_from n 0 row))) m folded ≤ saturated (bound (as_bounds (told_all states ++ told_all (entries_from n 0 row))) m k + space.sort_cost m)) (sym e)
+          subst (λ m. bound (as_bounds (told_all states ++ told_all (entries_from n 0 candidates))) m folded ≤ saturated (bound (as_bounds (told_all states ++ told_all (entries_from n 0 candidates))) m k + space.sort_cost m)) (sym e)
           (rw (at_bound folded, at_bound k) (r.sorts k into folded le (rw e at can) (rw e at folds)))
 
-  pub row_step_told : IsSolvedBelow space (n + 1) (told_all (states ++ entries_from n 0 row))
-  row_step_told = subst (IsSolvedBelow space (n + 1)) (sym (map-append told states (entries_from n 0 row))) row_step
+  pub row_step_told : IsSolvedBelow space (n + 1) (told_all (states ++ entries_from n 0 candidates))
+  row_step_told = subst (IsSolvedBelow space (n + 1)) (sym (map-append told states (entries_from n 0 candidates))) row_step
 
 -- ---- the beginning
 

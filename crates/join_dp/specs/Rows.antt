@@ -41,7 +41,7 @@ abbrev pub one_step_more : ℕ → ℕ
 one_step_more steps = min (steps + 1) (2 ^ 64 - 1)
 
 abbrev pub offered : SetCandidates → OrderNumber → Candidate → SetCandidates
-offered row order candidate = record { found = improved row.found order candidate; steps = one_step_more row.steps }
+offered candidates order candidate = record { found = improved candidates.found order candidate; steps = one_step_more candidates.steps }
 
 -- each plan fits its order
 abbrev pub EachFits : (OrderNumber → Candidate → Type 0) → List (Option Candidate) → Type 0

@@ -30,15 +30,15 @@ use plan_space::Space;
 use plan_tree::{TableSet, saturate};
 
 /// Looks at the accesses of a table, as plans of the set of that table alone.
-fn add_accesses<'a>(space: &'a Space<'_>, table: usize, row: &mut SetCandidates<'a>)
+fn add_accesses<'a>(space: &'a Space<'_>, table: usize, candidates: &mut SetCandidates<'a>)
     requires few { (space_in space.now).table_count ≤ most_from_tables }
     requires table { table < (space_in space.now).table_count }
-    requires size { length row.old.found ≡ length (space_in space.now).orders }
-    ensures made { (states : List solving.Solved) → AreUnsorted (space_in space.now) states (only table) row.old.found
-        → AreUnsorted (space_in space.now) states (only table) row.new.found }
-    ensures below { Below row.new.found row.old.found }
-    ensures low { LowByAccesses (space_in space.now) table row.new.found }
-    ensures steps { row.new.steps ≤ row.old.steps + length ((space_in space.now).paths no_tables table) }
+    requires size { length candidates.old.found ≡ length (space_in space.now).orders }
+    ensures made { (states : List solving.Solved) → AreUnsorted (space_in space.now) states (only table) candidates.old.found
+        → AreUnsorted (space_in space.now) states (only table) candidates.new.found }
+    ensures below { Below candidates.new.found candidates.old.found }
+    ensures low { LowByAccesses (space_in space.now) table candidates.new.found }
+    ensures steps { candidates.new.steps ≤ candidates.old.steps + length ((space_in space.now).paths no_tables table) }
 {
     let tables = TableSet::only(table);
     'paths: for item in space.paths(TableSet::none(), table) {
@@ -47,7 +47,7 @@ fn add_accesses<'a>(space: &'a Space<'_>, table: usize, row: &mut SetCandidates<
             sorted: None,
             cost: item.cost,
         };
-        row.offer(space.fold(tables, item.order), candidate);
+        candidates.offer(space.fold(tables, item.order), candidate);
     }
 }
 
@@ -69,7 +69,7 @@ fn add_join_on<'a>(
     states: &States<'a>,
     from: usize,
     added: AddedJoin<'a>,
-    row: &mut SetCandidates<'a>,
+    candidates: &mut SetCandidates<'a>,
 )
     requires few { (space_in space.now).table_count ≤ most_from_tables }
     requires set { set_of added.tables < 2 ^ (space_in space.now).table_count }
@@ -78,13 +78,13 @@ fn add_join_on<'a>(
     requires on { (at (states_in states.now) from).tables ≡ set_of added.tables }
     requires added { IsAdded (space_in space.now) (set_of added.tables) added.table (join_of added.join) added.cost }
     requires made { AreUnsorted (space_in space.now) (states_in states.now)
-        (with_table (set_of added.tables) added.table) row.old.found }
+        (with_table (set_of added.tables) added.table) candidates.old.found }
     ensures made { AreUnsorted (space_in space.now) (states_in states.now)
-        (with_table (set_of added.entry.tables) added.entry.table) row.new.found }
-    ensures below { Below row.new.found row.old.found }
+        (with_table (set_of added.entry.tables) added.entry.table) candidates.new.found }
+    ensures below { Below candidates.new.found candidates.old.found }
     ensures low { LowByJoinOn (space_in space.now) (states_in states.now) (set_of added.entry.tables)
-        added.entry.table (join_of added.entry.join) from row.new.found }
-    ensures steps { row.new.steps ≤ row.old.steps + 1 }
+        added.entry.table (join_of added.entry.join) from candidates.new.found }
+    ensures steps { candidates.new.steps ≤ candidates.old.steps + 1 }
 {
     let state = states.at(from);
     if !goes_with(space, added, state.order) {
@@ -99,7 +99,7 @@ fn add_join_on<'a>(
         sorted: None,
         cost: saturate(u128::from(state.found.cost) + u128::from(added.cost)),
     };
-    row.offer(space.fold(next, state.order), candidate);
+    candidates.offer(space.fold(next, state.order), candidate);
 }
 
 /// Looks at a join on top of the plans of all states of its set.
@@ -107,7 +107,7 @@ fn add_join<'a>(
     space: &'a Space<'_>,
     states: &States<'a>,
     added: AddedJoin<'a>,
-    row: &mut SetCandidates<'a>,
+    candidates: &mut SetCandidates<'a>,
 )
     requires few { (space_in space.now).table_count ≤ most_from_tables }
     requires set { set_of added.tables < 2 ^ (space_in space.now).table_count }
@@ -117,17 +117,17 @@ fn add_join<'a>(
     requires known { set_of added.tables + 1 < length (starts_in states.now) }
     requires added { IsAdded (space_in space.now) (set_of added.tables) added.table (join_of added.join) added.cost }
     requires made { AreUnsorted (space_in space.now) (states_in states.now)
-        (with_table (set_of added.tables) added.table) row.old.found }
+        (with_table (set_of added.tables) added.table) candidates.old.found }
     ensures made { AreUnsorted (space_in space.now) (states_in states.now)
-        (with_table (set_of added.entry.tables) added.entry.table) row.new.found }
-    ensures below { Below row.new.found row.old.found }
+        (with_table (set_of added.entry.tables) added.entry.table) candidates.new.found }
+    ensures below { Below candidates.new.found candidates.old.found }
     ensures low { LowByJoin (space_in space.now) (states_in states.now) (set_of added.entry.tables) added.entry.table
-        (join_of added.entry.join) row.new.found }
-    ensures steps { row.new.steps ≤ row.old.steps + length (space_in space.now).orders }
+        (join_of added.entry.join) candidates.new.found }
+    ensures steps { candidates.new.steps ≤ candidates.old.steps + length (space_in space.now).orders }
 {
     let places = states.places(added.tables);
     'places: for from in places.start..places.end {
-        add_join_on(space, states, from, added, row);
+        add_join_on(space, states, from, added, candidates);
     }
 }
 
@@ -138,7 +138,7 @@ fn add_loop<'a>(
     states: &States<'a>,
     tables: TableSet,
     table: usize,
-    row: &mut SetCandidates<'a>,
+    candidates: &mut SetCandidates<'a>,
 ) -> u64
     requires few { (space_in space.now).table_count ≤ most_from_tables }
     requires set { set_of tables < 2 ^ (space_in space.now).table_count }
@@ -148,14 +148,14 @@ fn add_loop<'a>(
     requires known { set_of tables + 1 < length (starts_in states.now) }
     requires follows { MayFollow (space_in space.now) (set_of tables) table }
     requires made { AreUnsorted (space_in space.now) (states_in states.now) (with_table (set_of tables) table)
-        row.old.found }
+        candidates.old.found }
     ensures made { AreUnsorted (space_in space.now) (states_in states.now) (with_table (set_of tables) table)
-        row.new.found }
-    ensures below { Below row.new.found row.old.found }
+        candidates.new.found }
+    ensures below { Below candidates.new.found candidates.old.found }
     ensures least { (path : Path) → IsJoin (space_in space.now) (set_of tables) table (steps.Loop path) →
         result ≤ join_cost (space_in space.now) (set_of tables) (steps.Loop path) }
-    ensures low { LowByDearer (space_in space.now) (states_in states.now) (set_of tables) table result row.new.found }
-    ensures steps { row.new.steps ≤ row.old.steps + length (space_in space.now).orders * length
+    ensures low { LowByDearer (space_in space.now) (states_in states.now) (set_of tables) table result candidates.new.found }
+    ensures steps { candidates.new.steps ≤ candidates.old.steps + length (space_in space.now).orders * length
         ((space_in space.now).paths (set_of tables) table) }
 {
     let Some(item) = cheapest_path(space, tables, table) else {
@@ -169,7 +169,7 @@ fn add_loop<'a>(
         join: Join::Loop { path: item.path },
         cost,
     };
-    add_join(space, states, added, row);
+    add_join(space, states, added, candidates);
     cost
 }
 
@@ -179,7 +179,7 @@ fn add_cheaper_join<'a>(
     states: &States<'a>,
     added: AddedJoin<'a>,
     known: u64,
-    row: &mut SetCandidates<'a>,
+    candidates: &mut SetCandidates<'a>,
 )
     requires few { (space_in space.now).table_count ≤ most_from_tables }
     requires set { set_of added.tables < 2 ^ (space_in space.now).table_count }
@@ -189,20 +189,20 @@ fn add_cheaper_join<'a>(
     requires known { set_of added.tables + 1 < length (starts_in states.now) }
     requires added { IsAdded (space_in space.now) (set_of added.tables) added.table (join_of added.join) added.cost }
     requires made { AreUnsorted (space_in space.now) (states_in states.now)
-        (with_table (set_of added.tables) added.table) row.old.found }
+        (with_table (set_of added.tables) added.table) candidates.old.found }
     requires low { LowByDearer (space_in space.now) (states_in states.now) (set_of added.tables) added.table known
-        row.old.found }
+        candidates.old.found }
     ensures made { AreUnsorted (space_in space.now) (states_in states.now)
-        (with_table (set_of added.entry.tables) added.entry.table) row.new.found }
-    ensures below { Below row.new.found row.old.found }
+        (with_table (set_of added.entry.tables) added.entry.table) candidates.new.found }
+    ensures below { Below candidates.new.found candidates.old.found }
     ensures low { LowByJoin (space_in space.now) (states_in states.now) (set_of added.entry.tables) added.entry.table
-        (join_of added.entry.join) row.new.found }
-    ensures steps { row.new.steps ≤ row.old.steps + length (space_in space.now).orders }
+        (join_of added.entry.join) candidates.new.found }
+    ensures steps { candidates.new.steps ≤ candidates.old.steps + length (space_in space.now).orders }
 {
     if known <= added.cost {
         return;
     }
-    add_join(space, states, added, row);
+    add_join(space, states, added, candidates);
 }
 
 /// Looks at the merges with a table, on top of the plans of a set, that add less to their costs than a join that goes with all of them.
@@ -212,7 +212,7 @@ fn add_merges<'a>(
     tables: TableSet,
     table: usize,
     known: u64,
-    row: &mut SetCandidates<'a>,
+    candidates: &mut SetCandidates<'a>,
 )
     requires few { (space_in space.now).table_count ≤ most_from_tables }
     requires set { set_of tables < 2 ^ (space_in space.now).table_count }
@@ -222,16 +222,16 @@ fn add_merges<'a>(
     requires known { set_of tables + 1 < length (starts_in states.now) }
     requires follows { MayFollow (space_in space.now) (set_of tables) table }
     requires made { AreUnsorted (space_in space.now) (states_in states.now) (with_table (set_of tables) table)
-        row.old.found }
-    requires low { LowByDearer (space_in space.now) (states_in states.now) (set_of tables) table known row.old.found }
+        candidates.old.found }
+    requires low { LowByDearer (space_in space.now) (states_in states.now) (set_of tables) table known candidates.old.found }
     ensures made { AreUnsorted (space_in space.now) (states_in states.now) (with_table (set_of tables) table)
-        row.new.found }
-    ensures below { Below row.new.found row.old.found }
+        candidates.new.found }
+    ensures below { Below candidates.new.found candidates.old.found }
     ensures low { (number : ℕ) (inner : Inner) → IsJoin (space_in space.now) (set_of tables) table
         (steps.Merge number inner) → LowByJoin (space_in space.now) (states_in states.now) (set_of tables) table
-        (steps.Merge number inner) row.new.found }
+        (steps.Merge number inner) candidates.new.found }
     ensures steps { (merges : List CostedMerge) × AreMerges (space_in space.now) (set_of tables) table merges ×
-        (row.new.steps ≤ row.old.steps + length (space_in space.now).orders * length merges) }
+        (candidates.new.steps ≤ candidates.old.steps + length (space_in space.now).orders * length merges) }
 {
     'merges: for item in space.merges(tables, table) {
         let join = Join::Merge {
@@ -245,7 +245,7 @@ fn add_merges<'a>(
             join,
             cost: item.cost,
         };
-        add_cheaper_join(space, states, added, known, row);
+        add_cheaper_join(space, states, added, known, candidates);
     }
 }
 
@@ -265,7 +265,7 @@ fn add_last<'a>(
     states: &States<'a>,
     tables: TableSet,
     table: usize,
-    row: &mut SetCandidates<'a>,
+    candidates: &mut SetCandidates<'a>,
 )
     requires few { (space_in space.now).table_count ≤ most_from_tables }
     requires table { table < (space_in space.now).table_count }
@@ -274,26 +274,26 @@ fn add_last<'a>(
     requires starts { AreStarts (states_in states.now) (starts_in states.now) }
     requires few_states { AreFew (length (space_in space.now).orders) (starts_in states.now) }
     requires known { set_of tables < length (starts_in states.now) }
-    requires made { AreUnsorted (space_in space.now) (states_in states.now) (set_of tables) row.old.found }
-    ensures made { AreUnsorted (space_in space.now) (states_in states.now) (set_of tables) row.new.found }
-    ensures below { Below row.new.found row.old.found }
-    ensures low { LowByLast (space_in space.now) (states_in states.now) (set_of tables) table row.new.found }
+    requires made { AreUnsorted (space_in space.now) (states_in states.now) (set_of tables) candidates.old.found }
+    ensures made { AreUnsorted (space_in space.now) (states_in states.now) (set_of tables) candidates.new.found }
+    ensures below { Below candidates.new.found candidates.old.found }
+    ensures low { LowByLast (space_in space.now) (states_in states.now) (set_of tables) table candidates.new.found }
     ensures steps { (sorts : ℕ → ℕ) (joins : ℕ → ℕ → ℕ) → AreCounts (space_in space.now) sorts joins →
-        row.new.steps ≤ row.old.steps + most_last (space_in space.now) sorts joins (set_of tables) table }
+        candidates.new.steps ≤ candidates.old.steps + most_last (space_in space.now) sorts joins (set_of tables) table }
 {
     if !tables.has(table) {
         return;
     }
     let before = without(tables, table);
     if before.is_empty() {
-        add_accesses(space, table, row);
+        add_accesses(space, table, candidates);
         return;
     }
     if !space.can_join_next(before, table) {
         return;
     }
-    let known = add_loop(space, states, before, table, row);
-    add_merges(space, states, before, table, known, row);
+    let known = add_loop(space, states, before, table, candidates);
+    add_merges(space, states, before, table, known, candidates);
 }
 
 /// Looks at all sorts of one plan of a set.
@@ -301,20 +301,20 @@ fn add_sorts_of<'a>(
     space: &'a Space<'_>,
     tables: TableSet,
     cheapest: Candidate<'a>,
-    row: &mut SetCandidates<'a>,
+    candidates: &mut SetCandidates<'a>,
 )
     requires set { set_of tables < 2 ^ (space_in space.now).table_count }
-    requires size { length row.old.found ≡ length (space_in space.now).orders }
-    requires stands { StandsIn row.old.found (candidate_of cheapest) }
+    requires size { length candidates.old.found ≡ length (space_in space.now).orders }
+    requires stands { StandsIn candidates.old.found (candidate_of cheapest) }
     ensures made { (states : List solving.Solved) → AreUnsorted (space_in space.now) states (set_of tables)
-        row.old.found → AreMade (space_in space.now) states (set_of tables) row.new.found }
-    ensures below { Below row.new.found row.old.found }
+        candidates.old.found → AreMade (space_in space.now) states (set_of tables) candidates.new.found }
+    ensures below { Below candidates.new.found candidates.old.found }
     ensures low { SortsAreLow (space_in space.now) (set_of tables)
-        (saturated (cheapest.entry.cost + (space_in space.now).sort_cost (set_of tables))) row.new.found }
+        (saturated (cheapest.entry.cost + (space_in space.now).sort_cost (set_of tables))) candidates.new.found }
     ensures floor { (least : ℕ) → least ≤ saturated (cheapest.entry.cost + (space_in space.now).sort_cost
-        (set_of tables)) → IsFloor least row.old.found → IsFloor least row.new.found }
+        (set_of tables)) → IsFloor least candidates.old.found → IsFloor least candidates.new.found }
     ensures steps { (orders : List ℕ) × AreSorts (space_in space.now) (set_of tables) orders ×
-        (row.new.steps ≤ row.old.steps + length orders) }
+        (candidates.new.steps ≤ candidates.old.steps + length orders) }
 {
     let cost = saturate(u128::from(cheapest.cost) + u128::from(space.sort_cost(tables)));
     'orders: for order in space.sorts(tables) {
@@ -323,48 +323,48 @@ fn add_sorts_of<'a>(
             sorted: Some(order),
             cost,
         };
-        row.offer(space.fold(tables, order), candidate);
+        candidates.offer(space.fold(tables, order), candidate);
     }
 }
 
 /// Looks at the sorts of the cheapest plan of a set. No sort of another plan costs less.
-fn add_sorts<'a>(space: &'a Space<'_>, tables: TableSet, row: &mut SetCandidates<'a>)
+fn add_sorts<'a>(space: &'a Space<'_>, tables: TableSet, candidates: &mut SetCandidates<'a>)
     requires set { set_of tables < 2 ^ (space_in space.now).table_count }
-    requires size { length row.old.found ≡ length (space_in space.now).orders }
+    requires size { length candidates.old.found ≡ length (space_in space.now).orders }
     ensures made { (states : List solving.Solved) → AreUnsorted (space_in space.now) states (set_of tables)
-        row.old.found → AreMade (space_in space.now) states (set_of tables) row.new.found }
-    ensures below { Below row.new.found row.old.found }
+        candidates.old.found → AreMade (space_in space.now) states (set_of tables) candidates.new.found }
+    ensures below { Below candidates.new.found candidates.old.found }
     ensures low { (states : List solving.Solved) → AreUnsorted (space_in space.now) states (set_of tables)
-        row.old.found → LowBySorts (space_in space.now) (set_of tables) row.new.found }
+        candidates.old.found → LowBySorts (space_in space.now) (set_of tables) candidates.new.found }
     ensures steps { (most : ℕ) → ((orders : List ℕ) → AreSorts (space_in space.now) (set_of tables) orders →
-        length orders ≤ most) → row.new.steps ≤ row.old.steps + most }
+        length orders ≤ most) → candidates.new.steps ≤ candidates.old.steps + most }
 {
-    let Some(cheapest) = row.cheapest() else {
+    let Some(cheapest) = candidates.cheapest() else {
         return;
     };
-    add_sorts_of(space, tables, cheapest, row);
+    add_sorts_of(space, tables, cheapest, candidates);
 }
 
 /// Finds the least plans of a set, where those of smaller sets are found.
-pub(crate) fn fill_row<'a>(
+pub(crate) fn fill_candidates<'a>(
     space: &'a Space<'_>,
     states: &States<'a>,
     tables: TableSet,
-    row: &mut SetCandidates<'a>,
+    candidates: &mut SetCandidates<'a>,
 )
     requires set { set_of tables < 2 ^ (space_in space.now).table_count }
     requires states { AllMade (space_in space.now) (states_in states.now) }
     requires starts { AreStarts (states_in states.now) (starts_in states.now) }
     requires few_states { AreFew (length (space_in space.now).orders) (starts_in states.now) }
     requires known { set_of tables < length (starts_in states.now) }
-    requires size { length row.old.found ≡ length (space_in space.now).orders }
-    requires none { (order : ℕ) → found_at row.old.found order ≡ None }
-    ensures solved { IsRowSolved (space_in space.now) (states_in states.now) (set_of tables) row.new.found }
+    requires size { length candidates.old.found ≡ length (space_in space.now).orders }
+    requires none { (order : ℕ) → found_at candidates.old.found order ≡ None }
+    ensures solved { IsRowSolved (space_in space.now) (states_in states.now) (set_of tables) candidates.new.found }
     ensures steps { (sorts : ℕ → ℕ) (joins : ℕ → ℕ → ℕ) → AreCounts (space_in space.now) sorts joins →
-        row.new.steps ≤ row.old.steps + most_to (space_in space.now) sorts joins (set_of tables) }
+        candidates.new.steps ≤ candidates.old.steps + most_to (space_in space.now) sorts joins (set_of tables) }
 {
     'tables: for table in 0..space.table_count() {
-        add_last(space, states, tables, table, row);
+        add_last(space, states, tables, table, candidates);
     }
-    add_sorts(space, tables, row);
+    add_sorts(space, tables, candidates);
 }

@@ -33,9 +33,9 @@ impl<'a> Model for SetCandidates<'a> {
 impl<'a> SetCandidates<'a> {
     /// No plans, for so many orders.
     pub fn new(alloc: Global, orders: usize) -> Result<SetCandidates<'a>, AllocError>
-        ensures size { IfOk result (λ row. length row.found ≡ orders) }
-        ensures none { IfOk result (λ row. (order : ℕ) → found_at row.found order ≡ None) }
-        ensures steps { IfOk result (λ row. row.steps ≡ 0) }
+        ensures size { IfOk result (λ candidates. length candidates.found ≡ orders) }
+        ensures none { IfOk result (λ candidates. (order : ℕ) → found_at candidates.found order ≡ None) }
+        ensures steps { IfOk result (λ candidates. candidates.steps ≡ 0) }
     {
         let mut found: Vec<Option<Candidate<'a>>> = Vec::new(alloc);
         'orders: for _ in 0..orders {

@@ -6,7 +6,7 @@ ghost use Rattle.join_dp.specs.Solved.{AreSolvedBelow};
 ghost use Rattle.join_dp.specs.States.{states_in, starts_in};
 ghost use Rattle.plan_space.specs.Planned.{space_in};
 
-use crate::candidates::fill_row;
+use crate::candidates::fill_candidates;
 use crate::set_candidates::SetCandidates;
 use crate::states::States;
 use plan_space::Space;
@@ -22,13 +22,13 @@ pub(crate) fn solve<'a>(alloc: Global, space: &'a Space<'_>) -> Result<States<'a
         IfOk result (λ s. s.steps ≤ most_steps (space_in space.now) sorts joins) }
 {
     let mut states = States::new(alloc)?;
-    let mut row = SetCandidates::new(alloc, space.order_count())?;
+    let mut candidates = SetCandidates::new(alloc, space.order_count())?;
     let whole = TableSet::first(space.table_count());
     'sets: for place in 1..whole.place() + 1 {
         let tables = TableSet::at(place);
-        row.clear();
-        fill_row(space, &states, tables, &mut row);
-        states.push_row(tables, &row)?;
+        candidates.clear();
+        fill_candidates(space, &states, tables, &mut candidates);
+        states.push_candidates(tables, &candidates)?;
     }
     Ok(states)
 }

@@ -54,7 +54,7 @@ impl<'a> States<'a> {
         })
     }
 
-    /// How many there are.
+    /// How many states are kept.
     pub fn len(&self) -> usize
         ensures { result ≡ length (states_in self.now) }
     {
@@ -89,18 +89,22 @@ impl<'a> States<'a> {
     }
 
     /// Puts the states of the next set behind those before.
-    pub fn push_row(&mut self, tables: TableSet, row: &SetCandidates<'a>) -> Result<(), AllocError>
+    pub fn push_candidates(
+        &mut self,
+        tables: TableSet,
+        candidates: &SetCandidates<'a>,
+    ) -> Result<(), AllocError>
         ensures states { IfOk result (λ _. states_in self.new
-            ≡ states_in self.old ++ entries_from (set_of tables) 0 row.now.found) }
+            ≡ states_in self.old ++ entries_from (set_of tables) 0 candidates.now.found) }
         ensures starts { IfOk result (λ _. starts_in self.new
             ≡ starts_in self.old ++ length (states_in self.new) ∷ []) }
         ensures counted { IfOk result (λ _. length (states_in self.old) ≤ self.old.steps →
             length (states_in self.new) ≤ self.new.steps) }
-        ensures steps { IfOk result (λ _. self.new.steps ≡ min (self.old.steps + row.now.steps) 18446744073709551615) }
+        ensures steps { IfOk result (λ _. self.new.steps ≡ min (self.old.steps + candidates.now.steps) 18446744073709551615) }
     {
-        push_states(&mut self.solved, tables, row)?;
+        push_states(&mut self.solved, tables, candidates)?;
         self.starts.push(self.solved.len())?;
-        self.steps = self.steps.saturating_add(row.steps());
+        self.steps = self.steps.saturating_add(candidates.steps());
         Ok(())
     }
 }
@@ -109,13 +113,13 @@ impl<'a> States<'a> {
 fn push_states<'a>(
     solved: &mut Vec<Solved<'a>>,
     tables: TableSet,
-    row: &SetCandidates<'a>,
+    candidates: &SetCandidates<'a>,
 ) -> Result<(), AllocError>
     ensures { IfOk result (λ _. map solved_of solved.new.items
-        ≡ map solved_of solved.old.items ++ entries_from (set_of tables) 0 row.now.found) }
+        ≡ map solved_of solved.old.items ++ entries_from (set_of tables) 0 candidates.now.found) }
 {
-    'orders: for order in 0..row.len() {
-        if let Some(found) = row.at(order) {
+    'orders: for order in 0..candidates.len() {
+        if let Some(found) = candidates.at(order) {
             solved.push(Solved {
                 tables,
                 order,

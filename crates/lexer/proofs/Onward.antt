@@ -5,7 +5,7 @@ use Rattle.std.proofs.lemmas.List.{map_push, get_or-take, get_or-drop, take_rest
 use Rattle.std.specs.Str.{IsAscii, IsUtf8, IsCharBoundary}
 use Rattle.std.proofs.lemmas.Str.{IsCharBoundary-before_ascii, IsCharBoundary-after_ascii}
 use Rattle.definitions.specs.Lexing as lexing
-use Rattle.definitions.specs.Lexing.{IsCut, Reads, LexFails, tokens_from, token_of, first_then, LexFault}
+use Rattle.definitions.specs.Lexing.{IsCut, ReadsAs, LexFails, tokens_from, token_of, first_then, LexFault}
 use Rattle.definitions.specs.Token.{Token}
 use Rattle.definitions.proofs.Lexing.{cut_some}
 use Rattle.lexer.specs.Lexeme.{IsFirst, lexeme_of, outcome_of}
@@ -23,15 +23,15 @@ prepend ts (Err f) = Err f
 
 -- whatever is read from a place on, the whole text reads as the tokens before it and that
 pub record ReadsOn (text : List ℕ) (at : ℕ) (ts : List Token) : Type 0 where
-  pub onward : (cut : List (List ℕ)) → IsCut (drop at text) cut → Reads text (prepend ts (tokens_from at cut))
+  pub onward : (cut : List (List ℕ)) → IsCut (drop at text) cut → ReadsAs text (prepend ts (tokens_from at cut))
 
 prepend-push : (ts : List Token) (t : Token) (r : Result (List Token) LexFault) → prepend ts (first_then (Ok (Some t)) r) ≡ prepend (ts ++ t ∷ []) r
 prepend-push ts t (Ok us) = ap Ok (sym (append_assoc ts (t ∷ []) us))
 prepend-push ts t (Err f) = refl
 
-pub reads_to_end : (text : List ℕ) (at : ℕ) (ts : List Token) → ReadsOn text at ts → length text ≤ at → Reads text (Ok ts)
+pub reads_to_end : (text : List ℕ) (at : ℕ) (ts : List Token) → ReadsOn text at ts → length text ≤ at → ReadsAs text (Ok ts)
 reads_to_end text at ts r l =
-    let P : List Token → Type 0 = λ us. Reads text (Ok us) in
+    let P : List Token → Type 0 = λ us. ReadsAs text (Ok us) in
     subst P (append-nil ts) (r.onward [] (drop_all at text l))
 
 -- the cut from a place on begins with the lexeme there
@@ -45,21 +45,21 @@ tokens_with text at n l cut f = rw (f.same, length-take-le n (drop at text) f.wi
 pub reads_gap : (text : List ℕ) (at n : ℕ) (l : Lexeme) (ts : List Token) → ReadsOn text at ts → IsFirst (drop at text) l n → token_of at (take n (drop at text)) (lexeme_of (take n (drop at text)) l) ≡ Ok None → ReadsOn text (at + n) ts
 reads_gap text at n l ts r f e = record {
   onward = λ cut h.
-      let P : Result (List Token) LexFault → Type 0 = λ o. Reads text (prepend ts o) in
+      let P : Result (List Token) LexFault → Type 0 = λ o. ReadsAs text (prepend ts o) in
       subst P (tokens_with text at n l cut f ∙ ap (λ o. first_then o (tokens_from (at + n) cut)) e) (r.onward (take n (drop at text) ∷ cut) (cut_with text at n l cut f h));
 }
 
 pub reads_token : (text : List ℕ) (at n : ℕ) (l : Lexeme) (ts : List Token) (t : Token) → ReadsOn text at ts → IsFirst (drop at text) l n → token_of at (take n (drop at text)) (lexeme_of (take n (drop at text)) l) ≡ Ok (Some t) → ReadsOn text (at + n) (ts ++ t ∷ [])
 reads_token text at n l ts t r f e = record {
   onward = λ cut h.
-      let P : Result (List Token) LexFault → Type 0 = λ o. Reads text o in
+      let P : Result (List Token) LexFault → Type 0 = λ o. ReadsAs text o in
       subst P (ap (prepend ts) (tokens_with text at n l cut f ∙ ap (λ o. first_then o (tokens_from (at + n) cut)) e) ∙ prepend-push ts t (tokens_from (at + n) cut)) (r.onward (take n (drop at text) ∷ cut) (cut_with text at n l cut f h));
 }
 
-pub reads_fault : (text : List ℕ) (at n : ℕ) (l : Lexeme) (ts : List Token) (fault : LexFault) → ReadsOn text at ts → IsFirst (drop at text) l n → token_of at (take n (drop at text)) (lexeme_of (take n (drop at text)) l) ≡ Err fault → Reads text (Err fault)
+pub reads_fault : (text : List ℕ) (at n : ℕ) (l : Lexeme) (ts : List Token) (fault : LexFault) → ReadsOn text at ts → IsFirst (drop at text) l n → token_of at (take n (drop at text)) (lexeme_of (take n (drop at text)) l) ≡ Err fault → ReadsAs text (Err fault)
 reads_fault text at n l ts fault r f e =
     let rest = cut_some (drop (at + n) text) in
-    let P : Result (List Token) LexFault → Type 0 = λ o. Reads text (prepend ts o) in
+    let P : Result (List Token) LexFault → Type 0 = λ o. ReadsAs text (prepend ts o) in
     subst P (tokens_with text at n l rest.0 f ∙ ap (λ o. first_then o (tokens_from (at + n) rest.0)) e) (r.onward (take n (drop at text) ∷ rest.0) (cut_with text at n l rest.0 f rest.1))
 
 -- ---- where the tokens so far end
@@ -110,7 +110,7 @@ turn_token text start n l ts t o r f s x e some =
     let y : t.text.now ≡ take n (drop start text) = x ∙ own_is start n (drop start text) in
     reads_token text start n l ts (meaning.token_of t) r (first_is text start n l f) (rw (s, y) (cc))
 
-fault_told : (text : List ℕ) (fault : Option LexFault) (o : Result (Option Token) LexFault) → option_map Err fault ≡ Some o → ((x : LexFault) → o ≡ Err x → Reads text (Err x)) → MatchOption fault ⊤ (LexFails text)
+fault_told : (text : List ℕ) (fault : Option LexFault) (o : Result (Option Token) LexFault) → option_map Err fault ≡ Some o → ((x : LexFault) → o ≡ Err x → ReadsAs text (Err x)) → MatchOption fault ⊤ (LexFails text)
 fault_told text None o e h = tt
 fault_told text (Some x) o e h = h x (cc)
 

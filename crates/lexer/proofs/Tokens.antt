@@ -1,23 +1,23 @@
 -- The tokens of lexemes.
 use Rattle.std.proofs.Common.{◌≡◌, ◌∙◌, refl, sym, ap, ℕ, ◌+◌, ◌-◌, ◌*◌, ◌^◌, ◌≤◌, ◌<◌, List, [], ◌∷◌, Option, Some, None, Ok, Err, Bool, true, false, cond, ltb, length, drop, arith, inl, inr, lit≤}
-use Rattle.std.specs.Prelude.{IsTrue, not, ◌&&◌, ◌==◌, nat_le, option_map, if◌then◌else◌, slice_index, position}
-use Rattle.std.specs.List.{AllByRecursion, list_all, prefix_len, count_by}
+use Rattle.std.specs.Prelude.{not, ◌&&◌, ◌==◌, nat_le, option_map, if◌then◌else◌, slice_index, position}
+use Rattle.std.specs.List.{list_all, prefix_len}
 use Rattle.std.specs.Char.{digit_value}
 use Rattle.std.specs.Str.{IsAscii}
-use Rattle.std.specs.Str.Parse.{AllDigits, digits_value, digits_value_after}
+use Rattle.std.specs.Str.Parse.{digits_value, digits_value_after}
 use Rattle.std.proofs.Math.Nat.{pow-le-pow_right}
 use Rattle.std.proofs.lemmas.Bool.{cases_Bool, eqb-true, le-leb, ltb-false, not-true}
 use Rattle.std.proofs.lemmas.Bool.Decides.{nat_tests}
 use Rattle.std.proofs.lemmas.Int.Digits.{digits_value-lt}
 use Rattle.std.proofs.lemmas.List.{drop_more, take_all}
-use Rattle.std.proofs.lemmas.List.Sums.{sum_by-cons}
 use Rattle.std.proofs.lemmas.List.Folds.{list_all_at}
 use Rattle.std.proofs.lemmas.List.Quantifiers.{position-Some}
-use Rattle.definitions.specs.Characters.{is_digit, is_printable, begins_character, character_count}
+use Rattle.definitions.specs.Characters.{is_digit, is_printable, character_count}
 use Rattle.definitions.specs.Binding.Formed.{IsWrittenString}
 use Rattle.definitions.specs.Lexing.{Quoted, quoted, behind_quote, lexeme_of, token_of, digits_of, Lexeme, Gap, Word', Number, Quotation, Sign, RunOn, Stray, LexFault}
 use Rattle.definitions.specs.Refusal.{StrayCharacter}
 use Rattle.definitions.specs.Token.{Token, String}
+use Rattle.definitions.proofs.ReadTokens.{digits_all, all_begin, all_printable}
 use Rattle.lexer.specs.Quoted.{unquoted, behind_first, quoted_text}
 use Rattle.lexer.specs.Lexeme.{quotation_of}
 use Rattle.lexer.proofs.First.{prefix_passes}
@@ -29,19 +29,8 @@ use Rattle.lexer.proofs.Inverse.{text_of, opening_quote, all_ascii, weaker, word
 digit_value_small : (c : ℕ) → is_digit c ≡ true → (digit_value c < 10) × (digit_value c ≡ c - 48)
 digit_value_small c h = (grind (arith, nat_tests), grind (arith, nat_tests))
 
-digits_all : (own : List ℕ) → AllDigits 10 (digits_of own)
-digits_all [] = tt
-digits_all (c ∷ own) = elim (cases_Bool (is_digit c)) [
-  | inl e ↦ rw e ((digit_value_small c e).0, digits_all own)
-  | inr e ↦ rw e (digits_all own)
-]
-
 pub digits_small : (own : List ℕ) → length (digits_of own) ≤ 38 → digits_value 10 (digits_of own) < 10 ^ 38
 digits_small own h = omega (arith, digits_value-lt 10 (digits_of own) (digits_all own), pow-le-pow_right {n = 10} (lit≤ tt) h)
-
--- digits write less than ten to their number
-pub digits_within : (own : List ℕ) → digits_value 10 (digits_of own) < 10 ^ length (digits_of own)
-digits_within own = digits_value-lt 10 (digits_of own) (digits_all own)
 
 value_rises : (n : ℕ) (ds : List ℕ) → n ≤ digits_value_after 10 n ds
 value_rises n [] = omega arith
@@ -102,25 +91,6 @@ quoted_behind (c ∷ rest) h = rw h refl
 
 pub string_fine : (start : ℕ) (text : List ℕ) (closed : Bool) → slice_index text 0 ≡ 39 → closed ≡ true → character_count (unquoted false (behind_first text)) ≤ 254 → position (λ c. not (is_printable c)) text ≡ None → token_of start text (quotation_of text closed) ≡ Ok (Some (record { at = start; text = text; kind = String (quoted_text text) }))
 string_fine start text closed q c l h = rw (c, le-leb _ 254 l, printable_string text q, printable_from text h, quoted_behind text q) refl
-
-printable_begins : (c : ℕ) → is_printable c ≡ true → begins_character c ≡ true
-printable_begins c h = grind (arith, nat_tests)
-
-both_true : (a b : Bool) → (a && b) ≡ true → (a ≡ true) × (b ≡ true)
-both_true true b h = (refl, h)
-both_true false b h = absurd (cc)
-
--- each printable byte begins a character
-all_begin : (xs : List ℕ) → list_all is_printable xs ≡ true → count_by begins_character xs ≡ length xs
-all_begin [] h = refl
-all_begin (c ∷ xs) h =
-    let both = both_true (is_printable c) (list_all is_printable xs) h in
-    let one = ap {B = ℕ} (λ b. cond b 1 0) (printable_begins c both.0) in
-    omega (arith, sum_by-cons (λ x. cond (begins_character x) 1 0) c xs, one, all_begin xs both.1)
-
-all_printable : (xs : List ℕ) → list_all is_printable xs ≡ true → AllByRecursion (λ c. IsTrue (is_printable c)) xs
-all_printable [] h = tt
-all_printable (c ∷ xs) h = let both = both_true (is_printable c) (list_all is_printable xs) h in (both.0, all_printable xs both.1)
 
 pub string_written : (text : List ℕ) → slice_index text 0 ≡ 39 → character_count (unquoted false (behind_first text)) ≤ 254 → position (λ c. not (is_printable c)) text ≡ None → IsWrittenString (quoted_text text)
 string_written text q l h =

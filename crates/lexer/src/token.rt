@@ -25,7 +25,7 @@ pub enum Symbol {
     GreaterOrEquals,
 }
 
-/// What a token is.
+/// What a token is, wherever it stands; a name and a string are in its text.
 #[derive(Clone, Copy, Debug, PartialEq, Eq)]
 pub enum TokenKind {
     Reserved(Word),

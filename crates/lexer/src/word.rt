@@ -5,6 +5,7 @@ ghost use Rattle.std.specs.List.{list_all};
 ghost use Rattle.definitions.specs.Characters.{is_upper, folded};
 ghost use Rattle.definitions.specs.Word as spec;
 ghost use Rattle.lexer.specs.Meaning.{word_of};
+ghost use Rattle.lexer.specs.Words.{all_words, spelling};
 
 /// A reserved word (ISO/IEC 9075:1992, 5.2; the list is own).
 #[derive(Clone, Copy, Debug, PartialEq, Eq)]
@@ -67,7 +68,7 @@ pub enum Word {
 impl Word {
     /// The letters of the word, in upper case.
     pub fn as_str(self) -> &'static str
-        ensures spelling { result.now ≡ spec.spelling (word_of self) }
+        ensures spelling { result.now ≡ spelling (word_of self) }
         ensures in_upper_case { IsTrue (list_all is_upper result.now) }
     {
         match self {
@@ -130,7 +131,7 @@ impl Word {
 
 /// The reserved words that begin with a letter.
 fn words_from(letter: u8) -> &'static [Word]
-    ensures { map word_of result.now ≡ filter (λ w. slice_index (spec.spelling w) 0 == letter) spec.words }
+    ensures { map word_of result.now ≡ filter (λ w. slice_index (spelling w) 0 == letter) all_words }
 {
     match letter {
         b'A' => &[

@@ -60,7 +60,7 @@ impl TableColumn {
         })
     }
 
-    /// The column's name.
+    /// The name that CREATE TABLE gave, in upper case.
     pub fn name(&self) -> &str
         ensures { result.now ≡ self.now.header.name }
     {

@@ -42,7 +42,7 @@ impl<'a> Lines<'a> {
         }
     }
 
-    /// The script.
+    /// The whole text of the script.
     pub fn script(&self) -> &'a str {
         self.script
     }

@@ -125,7 +125,7 @@ pub(crate) fn hint_for(script: &str, unexpected: &Unexpected) -> Option<&'static
     statement_hint(&seen)
 }
 
-/// Of signs and remarks.
+/// A hint for signs and remarks of other dialects.
 fn sign_hint(seen: &Seen) -> Option<&'static str> {
     if seen.is_joined() {
         match (seen.sign, seen.found_sign()) {
@@ -165,7 +165,7 @@ fn ends_list(seen: &Seen) -> bool {
         )
 }
 
-/// Of queries.
+/// A hint for clauses of queries in other dialects.
 fn query_hint(seen: &Seen) -> Option<&'static str> {
     if seen.wants(TokenClass::Symbol(Symbol::Semicolon)) {
         return end_hint(seen);

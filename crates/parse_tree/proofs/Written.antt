@@ -3,7 +3,7 @@ use Rattle.std.proofs.Common.{ℕ, ◌<◌, Bool, subst, List, [], ◌∷◌, ma
 use Rattle.std.proofs.lemmas.List.{length-map}
 use Rattle.std.specs.Prelude.{⊤}
 use Rattle.definitions.specs.Statement as spec
-use Rattle.definitions.specs.Grammar.{operands, members, items}
+use Rattle.definitions.specs.Grammar.{operands, member_list, items}
 use Rattle.definitions.proofs.WrittenParts.{WrittenExpr, WrittenOperands, WrittenMembers, WrittenItems, WrittenList, WrittenBlock}
 use Rattle.parse_tree.specs.Trees.{OperandTree, source_of, expr_of, list_of, block_of, item_of, operand_of, expr_layer, list_layer, block_layer, item_layer, operand_layer}
 use Rattle.parse_tree.specs.declared.expr.Expr.{Expr}
@@ -60,11 +60,11 @@ abbrev WrittenMember : Option spec.Expr → Type 0
 WrittenMember None = ⊤
 WrittenMember (Some e) = WrittenExpr e
 
-with_member : (m : Option spec.Expr) (ms : List (Option spec.Expr)) → WrittenMember m → WrittenMembers (members ms) → WrittenMembers (members (m ∷ ms))
+with_member : (m : Option spec.Expr) (ms : List (Option spec.Expr)) → WrittenMember m → WrittenMembers (member_list ms) → WrittenMembers (member_list (m ∷ ms))
 with_member None ms w ws = ws
 with_member (Some e) ms w ws = (w, ws)
 
-of_members : (g : Option SE → Option Expr) (f : Option Expr → Option spec.Expr) → ((x : Option SE) → WrittenMember (f (g x))) → (xs : List (Option SE)) → WrittenMembers (members (map f (map g xs)))
+of_members : (g : Option SE → Option Expr) (f : Option Expr → Option spec.Expr) → ((x : Option SE) → WrittenMember (f (g x))) → (xs : List (Option SE)) → WrittenMembers (member_list (map f (map g xs)))
 of_members g f h [] = tt
 of_members g f h (x ∷ xs) = with_member (f (g x)) (map f (map g xs)) (h x) (of_members g f h xs)
 
@@ -74,7 +74,7 @@ abbrev expr_parts : Expr-F SE SL SB SI SO → Expr-F Expr SelectList Block Item 
 expr_parts y = folds.map-Expr SE SL SB SI SO Expr SelectList Block Item Operand (λ s. s.0) (λ s. s.0) (λ s. s.0) (λ s. s.0) (λ s. s.0) y
 
 abbrev expr_meaning : Expr-F Expr SelectList Block Item Operand → spec.Expr
-expr_meaning x = expr_layer (folds.map-Expr Expr SelectList Block Item Operand spec.Expr spec.SelectList spec.Block spec.Item OperandTree expr_of list_of block_of item_of operand_of x)
+expr_meaning x = expr_layer (folds.map-Expr Expr SelectList Block Item Operand spec.Expr spec.SelectList spec.QuerySpecification spec.DerivedColumn OperandTree expr_of list_of block_of item_of operand_of x)
 
 expr_step : (y : Expr-F SE SL SB SI SO) → WrittenExpr (expr_meaning (expr_parts y))
 expr_step (o.Column r) = tt
@@ -99,7 +99,7 @@ abbrev list_parts : SelectList-F SE SL SB SI SO → SelectList-F Expr SelectList
 list_parts y = folds.map-SelectList SE SL SB SI SO Expr SelectList Block Item Operand (λ s. s.0) (λ s. s.0) (λ s. s.0) (λ s. s.0) (λ s. s.0) y
 
 abbrev list_meaning : SelectList-F Expr SelectList Block Item Operand → spec.SelectList
-list_meaning x = list_layer (folds.map-SelectList Expr SelectList Block Item Operand spec.Expr spec.SelectList spec.Block spec.Item OperandTree expr_of list_of block_of item_of operand_of x)
+list_meaning x = list_layer (folds.map-SelectList Expr SelectList Block Item Operand spec.Expr spec.SelectList spec.QuerySpecification spec.DerivedColumn OperandTree expr_of list_of block_of item_of operand_of x)
 
 list_step : (y : SelectList-F SE SL SB SI SO) → WrittenList (list_meaning (list_parts y))
 list_step (o.Asterisk p) = tt
@@ -108,8 +108,8 @@ list_step (o.Items xs) = of_items xs.items
 abbrev block_parts : Block-F SE SL SB SI SO → Block-F Expr SelectList Block Item Operand
 block_parts y = folds.map-Block SE SL SB SI SO Expr SelectList Block Item Operand (λ s. s.0) (λ s. s.0) (λ s. s.0) (λ s. s.0) (λ s. s.0) y
 
-abbrev block_meaning : Block-F Expr SelectList Block Item Operand → spec.Block
-block_meaning x = block_layer (folds.map-Block Expr SelectList Block Item Operand spec.Expr spec.SelectList spec.Block spec.Item OperandTree expr_of list_of block_of item_of operand_of x)
+abbrev block_meaning : Block-F Expr SelectList Block Item Operand → spec.QuerySpecification
+block_meaning x = block_layer (folds.map-Block Expr SelectList Block Item Operand spec.Expr spec.SelectList spec.QuerySpecification spec.DerivedColumn OperandTree expr_of list_of block_of item_of operand_of x)
 
 -- as many tables as there are trees of them
 some_tables : (sources : Sources) → 0 < length (map source_of sources.tables.items)
@@ -129,9 +129,9 @@ block_step y = clauses y.start y.distinct y.list y.sources y.condition y.groups 
 
 pub written_block : (b : Block) → WrittenBlock (block_of b)
 written_block b = folds.ind-Block PE PL PB PI PO
-    (λ x y is. rw (folds.fold-roll-Expr spec.Expr spec.SelectList spec.Block spec.Item OperandTree expr_layer list_layer block_layer item_layer operand_layer x) (subst (λ z. WrittenExpr (expr_meaning z)) is (expr_step y)))
-    (λ x y is. rw (folds.fold-roll-SelectList spec.Expr spec.SelectList spec.Block spec.Item OperandTree expr_layer list_layer block_layer item_layer operand_layer x) (subst (λ z. WrittenList (list_meaning z)) is (list_step y)))
-    (λ x y is. rw (folds.fold-roll-Block spec.Expr spec.SelectList spec.Block spec.Item OperandTree expr_layer list_layer block_layer item_layer operand_layer x) (subst (λ z. WrittenBlock (block_meaning z)) is (block_step y)))
-    (λ x y is. rw (folds.fold-roll-Item spec.Expr spec.SelectList spec.Block spec.Item OperandTree expr_layer list_layer block_layer item_layer operand_layer x) (subst (λ z. WrittenExpr (item_layer (folds.map-Item Expr SelectList Block Item Operand spec.Expr spec.SelectList spec.Block spec.Item OperandTree expr_of list_of block_of item_of operand_of z)).value) is y.value.1))
-    (λ x y is. rw (folds.fold-roll-Operand spec.Expr spec.SelectList spec.Block spec.Item OperandTree expr_layer list_layer block_layer item_layer operand_layer x) (subst (λ z. WrittenExpr (operand_layer (folds.map-Operand Expr SelectList Block Item Operand spec.Expr spec.SelectList spec.Block spec.Item OperandTree expr_of list_of block_of item_of operand_of z)).1) is y.value.1))
+    (λ x y is. rw (folds.fold-roll-Expr spec.Expr spec.SelectList spec.QuerySpecification spec.DerivedColumn OperandTree expr_layer list_layer block_layer item_layer operand_layer x) (subst (λ z. WrittenExpr (expr_meaning z)) is (expr_step y)))
+    (λ x y is. rw (folds.fold-roll-SelectList spec.Expr spec.SelectList spec.QuerySpecification spec.DerivedColumn OperandTree expr_layer list_layer block_layer item_layer operand_layer x) (subst (λ z. WrittenList (list_meaning z)) is (list_step y)))
+    (λ x y is. rw (folds.fold-roll-Block spec.Expr spec.SelectList spec.QuerySpecification spec.DerivedColumn OperandTree expr_layer list_layer block_layer item_layer operand_layer x) (subst (λ z. WrittenBlock (block_meaning z)) is (block_step y)))
+    (λ x y is. rw (folds.fold-roll-Item spec.Expr spec.SelectList spec.QuerySpecification spec.DerivedColumn OperandTree expr_layer list_layer block_layer item_layer operand_layer x) (subst (λ z. WrittenExpr (item_layer (folds.map-Item Expr SelectList Block Item Operand spec.Expr spec.SelectList spec.QuerySpecification spec.DerivedColumn OperandTree expr_of list_of block_of item_of operand_of z)).value) is y.value.1))
+    (λ x y is. rw (folds.fold-roll-Operand spec.Expr spec.SelectList spec.QuerySpecification spec.DerivedColumn OperandTree expr_layer list_layer block_layer item_layer operand_layer x) (subst (λ z. WrittenExpr (operand_layer (folds.map-Operand Expr SelectList Block Item Operand spec.Expr spec.SelectList spec.QuerySpecification spec.DerivedColumn OperandTree expr_of list_of block_of item_of operand_of z)).1) is y.value.1))
     b

@@ -1,7 +1,7 @@
 -- What the trees of this crate stand for: those of the definitions, without the offsets in the script.
 use Rattle.std.specs.Prelude.{ℕ, List, Option, Some, None, map, string_bytes, option_map}
 use Rattle.definitions.specs.Statement as spec
-use Rattle.definitions.specs.Grammar.{operands, members, items}
+use Rattle.definitions.specs.Grammar.{operands, member_list, items}
 use Rattle.sqlvalue.specs.Meaning.{declared_of, op_of}
 use Rattle.parse_tree.specs.declared.leaf.Name.{Name}
 use Rattle.parse_tree.specs.declared.leaf.ColumnReference.{ColumnReference}
@@ -75,11 +75,11 @@ source_of t = record { table = name_of t.table; correlation = option_map name_of
 abbrev pub OperandTree : Type 0
 OperandTree = spec.LineOperator × spec.Expr
 
-abbrev pub condition_layer : Option spec.Expr → spec.Condition
+abbrev pub condition_layer : Option spec.Expr → spec.SearchClause
 condition_layer None = spec.Absent
 condition_layer (Some e) = spec.Present e
 
-abbrev pub expr_layer : Expr-F spec.Expr spec.SelectList spec.Block spec.Item OperandTree → spec.Expr
+abbrev pub expr_layer : Expr-F spec.Expr spec.SelectList spec.QuerySpecification spec.DerivedColumn OperandTree → spec.Expr
 expr_layer (e.Column r) = spec.Column (column_of r)
 expr_layer (e.Numeral n) = numeral_of n
 expr_layer (e.String t) = spec.String (text_of t)
@@ -91,46 +91,46 @@ expr_layer (e.CompareAll p op quantifier a b) = spec.CompareAll (op_of op) (quan
 expr_layer (e.IsNull p n a) = spec.IsNull n a.value
 expr_layer (e.Between p n a b c) = spec.Between n a.value b.value c.value
 expr_layer (e.Like p n a t) = spec.Like n a.value (text_of t)
-expr_layer (e.InList p n a xs) = spec.InList n a.value (members xs.items)
+expr_layer (e.InList p n a xs) = spec.InList n a.value (member_list xs.items)
 expr_layer (e.InQuery p n a b) = spec.InQuery n a.value b.value
 expr_layer (e.Exists p b) = spec.Exists b.value
 expr_layer (e.Scalar p b) = spec.Scalar b.value
 expr_layer (e.CountRows p) = spec.CountRows
 expr_layer (e.Function p g d a) = spec.Function (function_of g) d a.value
 
-abbrev pub list_layer : SelectList-F spec.Expr spec.SelectList spec.Block spec.Item OperandTree → spec.SelectList
+abbrev pub list_layer : SelectList-F spec.Expr spec.SelectList spec.QuerySpecification spec.DerivedColumn OperandTree → spec.SelectList
 list_layer (e.Asterisk p) = spec.Asterisk
 list_layer (e.Items xs) = spec.Listed (items xs.items)
 
-abbrev pub block_layer : Block-F spec.Expr spec.SelectList spec.Block spec.Item OperandTree → spec.Block
+abbrev pub block_layer : Block-F spec.Expr spec.SelectList spec.QuerySpecification spec.DerivedColumn OperandTree → spec.QuerySpecification
 block_layer b = spec.Specification b.distinct b.list (map source_of b.sources.tables.items) (condition_layer b.condition) (map column_of b.groups.items) (condition_layer b.having)
 
-abbrev pub item_layer : Item-F spec.Expr spec.SelectList spec.Block spec.Item OperandTree → spec.Item
+abbrev pub item_layer : Item-F spec.Expr spec.SelectList spec.QuerySpecification spec.DerivedColumn OperandTree → spec.DerivedColumn
 item_layer i = record { value = i.value; alias = option_map name_of i.alias }
 
-abbrev pub operand_layer : Operand-F spec.Expr spec.SelectList spec.Block spec.Item OperandTree → OperandTree
+abbrev pub operand_layer : Operand-F spec.Expr spec.SelectList spec.QuerySpecification spec.DerivedColumn OperandTree → OperandTree
 operand_layer x = (operator_of x.operator, x.value)
 
 abbrev pub expr_of : Expr → spec.Expr
-expr_of = fold-Expr spec.Expr spec.SelectList spec.Block spec.Item OperandTree expr_layer list_layer block_layer item_layer operand_layer
+expr_of = fold-Expr spec.Expr spec.SelectList spec.QuerySpecification spec.DerivedColumn OperandTree expr_layer list_layer block_layer item_layer operand_layer
 
 abbrev pub list_of : SelectList → spec.SelectList
-list_of = fold-SelectList spec.Expr spec.SelectList spec.Block spec.Item OperandTree expr_layer list_layer block_layer item_layer operand_layer
+list_of = fold-SelectList spec.Expr spec.SelectList spec.QuerySpecification spec.DerivedColumn OperandTree expr_layer list_layer block_layer item_layer operand_layer
 
-abbrev pub block_of : Block → spec.Block
-block_of = fold-Block spec.Expr spec.SelectList spec.Block spec.Item OperandTree expr_layer list_layer block_layer item_layer operand_layer
+abbrev pub block_of : Block → spec.QuerySpecification
+block_of = fold-Block spec.Expr spec.SelectList spec.QuerySpecification spec.DerivedColumn OperandTree expr_layer list_layer block_layer item_layer operand_layer
 
-abbrev pub item_of : Item → spec.Item
-item_of = fold-Item spec.Expr spec.SelectList spec.Block spec.Item OperandTree expr_layer list_layer block_layer item_layer operand_layer
+abbrev pub item_of : Item → spec.DerivedColumn
+item_of = fold-Item spec.Expr spec.SelectList spec.QuerySpecification spec.DerivedColumn OperandTree expr_layer list_layer block_layer item_layer operand_layer
 
 abbrev pub operand_of : Operand → OperandTree
-operand_of = fold-Operand spec.Expr spec.SelectList spec.Block spec.Item OperandTree expr_layer list_layer block_layer item_layer operand_layer
+operand_of = fold-Operand spec.Expr spec.SelectList spec.QuerySpecification spec.DerivedColumn OperandTree expr_layer list_layer block_layer item_layer operand_layer
 
 abbrev pub member_of : Option Expr → Option spec.Expr
 member_of None = None
 member_of (Some e) = Some (expr_of e)
 
-abbrev pub condition_of : Option Expr → spec.Condition
+abbrev pub condition_of : Option Expr → spec.SearchClause
 condition_of None = spec.Absent
 condition_of (Some e) = spec.Present (expr_of e)
 
@@ -143,7 +143,7 @@ abbrev pub key_name_of : KeyName → spec.KeyName
 key_name_of (k.Name n) = spec.ByName (name_of n)
 key_name_of (k.Position n) = spec.ByPosition n.units
 
-abbrev pub key_of : Key → spec.Key
+abbrev pub key_of : Key → spec.SortSpecification
 key_of x = record { named = key_name_of x.name; descending = x.descending }
 
 abbrev pub select_of : Select → spec.Select
@@ -167,7 +167,7 @@ bound_of b = record { minus = b.minus; units = b.number.units; digits = b.number
 abbrev pub range_of : Range → spec.Range
 range_of r = record { low = bound_of r.low; high = bound_of r.high }
 
-abbrev pub statistics_of : IndexStatistics → spec.IndexStatistics
+abbrev pub statistics_of : IndexStatistics → spec.GivenStatistics
 statistics_of f = record { keys = f.keys.units; pages = f.pages.units; clustered = f.clustered; range = option_map range_of f.range }
 
 abbrev pub statement_of : Statement → spec.Statement

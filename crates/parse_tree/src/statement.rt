@@ -65,7 +65,7 @@ pub struct IndexStatistics {
     pub range: Option<Range>,
 }
 
-/// A statement.
+/// A statement of a script, with the places of its names (ISO/IEC 9075:1992, 11 and 13; LOAD, EXPLAIN and SET STATISTICS are own).
 #[derive(Drop)]
 pub enum Statement {
     CreateTable {

@@ -166,10 +166,10 @@ module _ (space : Space) (table : ℕ) where
   }
 
 -- what a way adds is of its table and conjunct
-pub added_by : (space : Space) (table number : ℕ) (way : MergeClause) (items : List Item) (old new : List FoundMerge) → IsWay space table number (Some way) → AreItems space no_tables table items → ListsPathsOnce space table
-    → (IsWay space way.table way.conjunct (Some way) → AreItems space no_tables way.table items → ListsPathsOnce space way.table → AddsMerges space way.table way.conjunct old new) → AddsMerges space table number old new
-added_by space table number way items old new is are once adds =
-    let own = subst (λ t. IsWay space t way.conjunct (Some way)) (sym is.0) (subst (λ n. IsWay space table n (Some way)) (sym is.1) is) in
+pub added_by : (space : Space) (table number : ℕ) (clause : MergeClause) (items : List Item) (old new : List FoundMerge) → IsWay space table number (Some clause) → AreItems space no_tables table items → ListsPathsOnce space table
+    → (IsWay space clause.table clause.conjunct (Some clause) → AreItems space no_tables clause.table items → ListsPathsOnce space clause.table → AddsMerges space clause.table clause.conjunct old new) → AddsMerges space table number old new
+added_by space table number clause items old new is are once adds =
+    let own = subst (λ t. IsWay space t clause.conjunct (Some clause)) (sym is.0) (subst (λ n. IsWay space table n (Some clause)) (sym is.1) is) in
     let of_own = subst (λ t. AreItems space no_tables t items) (sym is.0) are in
     let own_once = subst (λ t. ListsPathsOnce space t) (sym is.0) once in
-    subst (λ n. AddsMerges space table n old new) is.1 (subst (λ t. AddsMerges space t way.conjunct old new) is.0 (adds own of_own own_once))
+    subst (λ n. AddsMerges space table n old new) is.1 (subst (λ t. AddsMerges space t clause.conjunct old new) is.0 (adds own of_own own_once))

@@ -30,4 +30,4 @@ pub record IsPlanSpace (s : Inside) : Type 0 where
   pub estimates_count : set_estimates.tables_in s.estimates ≡ (space_in (planned s)).table_count
   pub uses : order_uses.AreUses (space_in (planned s)) s.uses
   pub uses_count : order_uses.sets_in s.uses ≡ 2 ^ (space_in (planned s)).table_count
-  pub links : LinksSay (space_in (planned s)) s.links
+  pub links : LinksSay (space_in (planned s)) s.join_graph

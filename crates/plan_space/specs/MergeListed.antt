@@ -13,16 +13,16 @@ use Rattle.plan_space.specs.Merge.{FoundMerge, AreDistinct, MergesBy, IsFound, f
 use Rattle.plan_space.specs.declared.listed.MergeJoinPath.{MergeJoinPath}
 use Rattle.plan_space.specs.declared.listed.MergeClause.{MergeClause}
 
-abbrev pub merge_told : MergeJoinPath → FoundMerge
-merge_told x = record { conjunct = x.conjunct; other = x.other; inner = record { path = path_of x.path; sorted = x.sorted }; cost = x.cost; selectivity = x.selectivity }
+abbrev pub found_merge_of : MergeJoinPath → FoundMerge
+found_merge_of x = record { conjunct = x.conjunct; other = x.other; inner = record { path = path_of x.path; sorted = x.sorted }; cost = x.cost; selectivity = x.selectivity }
 
 module _ (space : Space) where
   -- how a conjunct may merge a table, if it does
   abbrev pub IsWay : ℕ → ℕ → Option MergeClause → Type 0
   IsWay table number None = (x y : BlockColumn) → MergesBy space table number x y → ⊥
-  IsWay table number (Some way) = (way.table ≡ table) × (way.conjunct ≡ number)
-      × ((x : BlockColumn) × (y : BlockColumn) × MergesBy space table number x y × (x.table ≡ way.other))
-      × (way.selectivity ≡ selectivity_of (slice_get space.conjuncts number)) × (way.sort_cost ≡ space.sort_cost (only table))
+  IsWay table number (Some clause) = (clause.table ≡ table) × (clause.conjunct ≡ number)
+      × ((x : BlockColumn) × (y : BlockColumn) × MergesBy space table number x y × (x.table ≡ clause.other))
+      × (clause.selectivity ≡ selectivity_of (slice_get space.conjuncts number)) × (clause.sort_cost ≡ space.sort_cost (only table))
 
   -- each is one that brings the table, those of all conjuncts are there, and none twice
   pub record AreMergesOf (table : ℕ) (xs : List FoundMerge) : Type 0 where

@@ -15,8 +15,8 @@ use Rattle.access_paths.specs.Scans.{scan_cost_of}
 use Rattle.access_paths.specs.Found.{FoundPath, is_open, CostsAsPath, Reads}
 use Rattle.plan_space.specs.declared.path_lists.NumberedPath.{NumberedPath}
 
-abbrev pub listed_told : NumberedPath → FoundPath × ℕ
-listed_told x = (record { path = path_of x.path; required_outer = set_of x.required_outer; cost = scan_cost_of x.cost }, x.order)
+abbrev pub listed_path_of : NumberedPath → FoundPath × ℕ
+listed_path_of x = (record { path = path_of x.path; required_outer = set_of x.required_outer; cost = scan_cost_of x.cost }, x.order)
 
 -- with the number of its order
 abbrev pub with_number : Database → Block → List Order → FoundPath → FoundPath × ℕ

@@ -5,7 +5,7 @@ use Rattle.definitions.specs.Table.{Database}
 use Rattle.definitions.specs.Queries.BoundBlock.{Block}
 use Rattle.definitions.specs.Estimates.Version.{Version}
 use Rattle.access_paths.specs.Found.{FoundPath}
-use Rattle.plan_space.specs.PathListed.{listed_told, AreListed}
+use Rattle.plan_space.specs.PathListed.{listed_path_of, AreListed}
 use Rattle.plan_space.specs.declared.path_lists.NumberedPath.{NumberedPath}
 use Rattle.plan_space.specs.declared.path_lists.BlockPaths.{BlockPaths}
 
@@ -13,7 +13,7 @@ abbrev pub tables_in : BlockPaths → ℕ
 tables_in p = length p.tables.items
 
 abbrev pub paths_at : BlockPaths → ℕ → List (FoundPath × ℕ)
-paths_at p table = get_or (map (λ (xs : Vec NumberedPath). map listed_told xs.items) p.tables.items) table []
+paths_at p table = get_or (map (λ (xs : Vec NumberedPath). map listed_path_of xs.items) p.tables.items) table []
 
 -- of each table they are its paths
 abbrev pub AreBlockPaths : Version → Database → Block → BlockPaths → Type 0

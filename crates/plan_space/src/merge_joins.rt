@@ -2,7 +2,7 @@
 
 ghost use Rattle.std.specs.Prelude.{◌≡◌, map};
 ghost use Rattle.plan_tree.specs.Sets.{set_of};
-ghost use Rattle.plan_space.specs.MergeListed.{merge_told};
+ghost use Rattle.plan_space.specs.MergeListed.{found_merge_of};
 ghost use Rattle.plan_space.specs.Merge.{open_merges, with_pairs};
 
 use crate::listed::MergeJoinPath;
@@ -37,15 +37,15 @@ impl<'a> Model for Merges<'a> {
 
     ghost use Rattle.std.specs.Prelude.{map};
     ghost use Rattle.plan_tree.specs.Sets.{set_of};
-    ghost use Rattle.plan_space.specs.MergeListed.{merge_told};
+    ghost use Rattle.plan_space.specs.MergeListed.{found_merge_of};
     ghost use Rattle.plan_space.specs.Merge.{open_merges};
 
-    ghost view = { λ s. open_merges (set_of s.tables) s.pairs (map merge_told s.rest.now) };
+    ghost view = { λ s. open_merges (set_of s.tables) s.pairs (map found_merge_of s.rest.now) };
 }
 
 impl<'a> Merges<'a> {
     pub(crate) fn new(rest: &'a [MergeJoinPath], tables: TableSet, pairs: u64) -> Merges<'a>
-        ensures { result ≡ open_merges (set_of tables) pairs (map merge_told rest.now) }
+        ensures { result ≡ open_merges (set_of tables) pairs (map found_merge_of rest.now) }
     {
         Merges {
             rest,
@@ -84,7 +84,7 @@ impl<'a> Iterator for Merges<'a> {
 /// What a merge adds to the cost of the outer plan: what its inner side costs, and the pairs of rows that its conjunct is taken to
 /// leave.
 fn cost(merge: &MergeJoinPath, pairs: u64) -> u64
-    ensures { result ≡ (with_pairs pairs (merge_told merge.now)).cost }
+    ensures { result ≡ (with_pairs pairs (found_merge_of merge.now)).cost }
 {
     saturate(u128::from(merge.cost) + u128::from(share(pairs, merge.selectivity)))
 }

@@ -20,7 +20,7 @@ ghost use Rattle.plan_space.specs.Item.{AreItems, IsItem};
 ghost use Rattle.plan_space.specs.Items.{item_of};
 ghost use Rattle.plan_space.specs.PathLists as block_paths;
 ghost use Rattle.plan_space.specs.Merge.{AddsMerges, AddsPath, AreMerges, ListsPathsOnce};
-ghost use Rattle.plan_space.specs.MergeListed.{merge_told, AreMergesOf, IsWay};
+ghost use Rattle.plan_space.specs.MergeListed.{found_merge_of, AreMergesOf, IsWay};
 
 use crate::listed::{MergeClause, MergeJoinPath};
 use crate::merge_joins::Merges;
@@ -96,15 +96,15 @@ fn table_merges(
         (space_of version estimate.now.database (block_of estimate.now.block)) uses.now →
         sort_cost ≡ estimates.sort_cost estimate.now.database (block_of estimate.now.block) (only table) →
         IfOk result (λ merges. AreMergesOf (space_of version estimate.now.database (block_of estimate.now.block))
-        table (map merge_told merges.items)) }
+        table (map found_merge_of merges.items)) }
 {
     let mut merges = Vec::new(alloc);
     'conjuncts: for conjunct in 0..estimate.conjuncts().len() {
-        if let Some(way) = merge_way(estimate, uses, table, conjunct, sort_cost) {
+        if let Some(clause) = merge_way(estimate, uses, table, conjunct, sort_cost) {
             add_merges(
                 &mut merges,
                 uses,
-                way,
+                clause,
                 paths.paths(estimate, TableSet::none(), table),
             )?;
         }
@@ -122,7 +122,7 @@ fn merge_way(
 ) -> Option<MergeClause>
     requires table { table < most_from_tables }
     requires conjunct { conjunct < length (plans.plan_conjuncts estimate.now.database (block_of estimate.now.block)) }
-    ensures table { IfSome result (λ way. way.table ≡ table) }
+    ensures table { IfSome result (λ clause. clause.table ≡ table) }
     ensures exact { (space : Space) → space.conjuncts ≡ plans.plan_conjuncts estimate.now.database
         (block_of estimate.now.block) → AreUses space uses.now → sort_cost ≡ space.sort_cost (only table) →
         IsWay space table conjunct result }
@@ -141,18 +141,18 @@ fn merge_way(
 fn add_merges(
     merges: &mut Vec<MergeJoinPath>,
     uses: &InterestingOrders,
-    way: MergeClause,
+    clause: MergeClause,
     paths: Paths<'_>,
 ) -> Result<(), AllocError>
-    requires { only way.table < order_uses.sets_in uses.now }
-    ensures { (space : Space) → AreUses space uses.now → IsWay space way.table way.conjunct (Some way) →
-        AreItems space no_tables way.table paths.entry → ListsPathsOnce space way.table →
-        OnOk result (AddsMerges space way.table way.conjunct (map merge_told merges.old.items)
-        (map merge_told merges.new.items)) }
+    requires { only clause.table < order_uses.sets_in uses.now }
+    ensures { (space : Space) → AreUses space uses.now → IsWay space clause.table clause.conjunct (Some clause) →
+        AreItems space no_tables clause.table paths.entry → ListsPathsOnce space clause.table →
+        OnOk result (AddsMerges space clause.table clause.conjunct (map found_merge_of merges.old.items)
+        (map found_merge_of merges.new.items)) }
 {
     let mut rest = paths;
     'paths: while let Some(item) = rest.next() {
-        add_path(merges, uses, way, item)?;
+        add_path(merges, uses, clause, item)?;
     }
     Ok(())
 }
@@ -161,51 +161,51 @@ fn add_merges(
 fn add_path(
     merges: &mut Vec<MergeJoinPath>,
     uses: &InterestingOrders,
-    way: MergeClause,
+    clause: MergeClause,
     item: CostedPath<'_>,
 ) -> Result<(), AllocError>
-    requires { only way.table < order_uses.sets_in uses.now }
-    ensures { (space : Space) → AreUses space uses.now → IsWay space way.table way.conjunct (Some way) →
-        IsItem space no_tables way.table (item_of item.entry) → IsPath space no_tables (path_of item.entry.path.now) →
-        OnOk result (AddsPath space way.table way.conjunct (path_of item.entry.path.now)
-        (map merge_told merges.old.items) (map merge_told merges.new.items)) }
+    requires { only clause.table < order_uses.sets_in uses.now }
+    ensures { (space : Space) → AreUses space uses.now → IsWay space clause.table clause.conjunct (Some clause) →
+        IsItem space no_tables clause.table (item_of item.entry) → IsPath space no_tables (path_of item.entry.path.now) →
+        OnOk result (AddsPath space clause.table clause.conjunct (path_of item.entry.path.now)
+        (map found_merge_of merges.old.items) (map found_merge_of merges.new.items)) }
 {
-    let sorted = saturate(u128::from(item.cost) + u128::from(way.sort_cost));
-    merges.push(merge_path(way, item.path, true, sorted)?)?;
+    let sorted = saturate(u128::from(item.cost) + u128::from(clause.sort_cost));
+    merges.push(merge_path(clause, item.path, true, sorted)?)?;
     if uses.goes_by(
-        TableSet::only(way.table),
+        TableSet::only(clause.table),
         item.order,
-        way.conjunct,
-        way.other,
+        clause.conjunct,
+        clause.other,
     ) {
-        merges.push(merge_path(way, item.path, false, item.cost)?)?;
+        merges.push(merge_path(clause, item.path, false, item.cost)?)?;
     }
     Ok(())
 }
 
 /// A merge of a conjunct with a path, whose inner side costs so much.
 fn merge_path(
-    way: MergeClause,
+    clause: MergeClause,
     path: &Path,
     sorted: bool,
     cost: u64,
 ) -> Result<MergeJoinPath, AllocError>
-    ensures { IfOk result (λ merge. merge_told merge ≡
+    ensures { IfOk result (λ merge. found_merge_of merge ≡
         record {
-          conjunct = way.conjunct;
-          other = way.other;
+          conjunct = clause.conjunct;
+          other = clause.other;
           inner =
               record { path = path_of path.now; sorted = sorted };
           cost = cost;
-          selectivity = way.selectivity;
+          selectivity = clause.selectivity;
         }) }
 {
     Ok(MergeJoinPath {
-        conjunct: way.conjunct,
-        other: way.other,
+        conjunct: clause.conjunct,
+        other: clause.other,
         path: path.clone()?,
         sorted,
         cost,
-        selectivity: way.selectivity,
+        selectivity: clause.selectivity,
     })
 }

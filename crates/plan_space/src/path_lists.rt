@@ -9,9 +9,9 @@ ghost use Rattle.definitions.specs.Plans.Numbering.{number_of};
 ghost use Rattle.query_tree.specs.Bound.{block_of};
 ghost use Rattle.plan_tree.specs.Plans.{path_of};
 ghost use Rattle.plan_tree.specs.Sets.{set_of};
-ghost use Rattle.access_paths.specs.Found.{FoundPath, path_told, Reads};
+ghost use Rattle.access_paths.specs.Found.{FoundPath, found_path_of, Reads};
 ghost use Rattle.interesting_orders.specs.Versions.{version_of};
-ghost use Rattle.plan_space.specs.PathListed.{AreListed, listed_told, with_number};
+ghost use Rattle.plan_space.specs.PathListed.{AreListed, listed_path_of, with_number};
 ghost use Rattle.plan_space.specs.Item.{AreItems};
 
 use crate::paths::Paths;
@@ -85,7 +85,7 @@ fn listed_paths(
     requires orders { orders.now ≡ spec.orders_of (version_of version) estimate.now.database
         (block_of estimate.now.block) }
     ensures { IfOk result (λ paths. AreListed (version_of version) estimate.now.database (block_of estimate.now.block)
-        table (map listed_told paths.items)) }
+        table (map listed_path_of paths.items)) }
 {
     let known = known_indexes(alloc, version, estimate.table(table))?;
     let found = table_paths(alloc, estimate, table, &known, version.reads_backward())?;
@@ -102,10 +102,10 @@ fn with_orders(
 ) -> Result<Vec<NumberedPath>, AllocError>
     requires table { table < length (block_of estimate.now.block).tables }
     requires reads { AllByRecursion (λ (x : FoundPath).
-        Reads estimate.now.database (block_of estimate.now.block) table x.path) (map path_told found.items) }
-    ensures { IfOk result (λ paths. map listed_told paths.items
+        Reads estimate.now.database (block_of estimate.now.block) table x.path) (map found_path_of found.items) }
+    ensures { IfOk result (λ paths. map listed_path_of paths.items
         ≡ map (with_number estimate.now.database (block_of estimate.now.block) orders.now)
-        (map path_told found.items)) }
+        (map found_path_of found.items)) }
 {
     let mut paths = Vec::new(alloc);
     let mut rest = found.into_iter();

@@ -2,7 +2,7 @@
 
 ghost use Rattle.std.specs.Prelude.{◌≡◌, map};
 ghost use Rattle.plan_tree.specs.Sets.{set_of};
-ghost use Rattle.plan_space.specs.PathListed.{listed_told};
+ghost use Rattle.plan_space.specs.PathListed.{listed_path_of};
 ghost use Rattle.plan_space.specs.Item.{open_items};
 
 use crate::path_lists::NumberedPath;
@@ -34,15 +34,15 @@ impl<'a> Model for Paths<'a> {
 
     ghost use Rattle.std.specs.Prelude.{map};
     ghost use Rattle.plan_tree.specs.Sets.{set_of};
-    ghost use Rattle.plan_space.specs.PathListed.{listed_told};
+    ghost use Rattle.plan_space.specs.PathListed.{listed_path_of};
     ghost use Rattle.plan_space.specs.Item.{open_items};
 
-    ghost view = { λ s. open_items (set_of s.known) s.rows (map listed_told s.rest.now) };
+    ghost view = { λ s. open_items (set_of s.known) s.rows (map listed_path_of s.rest.now) };
 }
 
 impl<'a> Paths<'a> {
     pub(crate) fn new(rest: &'a [NumberedPath], known: TableSet, rows: u64) -> Paths<'a>
-        ensures { result ≡ open_items (set_of known) rows (map listed_told rest.now) }
+        ensures { result ≡ open_items (set_of known) rows (map listed_path_of rest.now) }
     {
         Paths { rest, known, rows }
     }

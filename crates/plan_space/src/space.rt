@@ -50,7 +50,7 @@ pub struct Space<'a> {
     estimates: SetEstimates,
     uses: InterestingOrders,
     // none where products are free
-    links: Option<JoinGraph>,
+    join_graph: Option<JoinGraph>,
 }
 
 impl<'a> Model for Space<'a> {
@@ -95,7 +95,7 @@ impl<'a> Space<'a> {
             tables,
         )?;
         let merges = BlockMerges::new(alloc, &estimate, &paths, &uses, &estimates)?;
-        let links = table_links(alloc, &estimate, version)?;
+        let join_graph = join_graph_of(alloc, &estimate, version)?;
         Ok(Space {
             estimate,
             version,
@@ -104,7 +104,7 @@ impl<'a> Space<'a> {
             merges,
             estimates,
             uses,
-            links,
+            join_graph,
         })
     }
 
@@ -147,8 +147,8 @@ impl<'a> Space<'a> {
         requires table { table < (space_in self.now).table_count }
         ensures { Decides result (MayFollow (space_in self.now) (set_of tables) table) }
     {
-        match &self.links {
-            Some(links) => links.can_join_next(tables, table),
+        match &self.join_graph {
+            Some(join_graph) => join_graph.can_join_next(tables, table),
             None => !tables.has(table),
         }
     }
@@ -297,17 +297,17 @@ impl<'a> Space<'a> {
 }
 
 /// The links of a block's tables, where products come last.
-fn table_links(
+fn join_graph_of(
     alloc: Global,
     estimate: &Estimate,
     version: Version,
 ) -> Result<Option<JoinGraph>, AllocError>
-    ensures { IfOk result (λ links. LinksSay (space_of (version_of version) estimate.now.database
-        (block_of estimate.now.block)) links) }
+    ensures { IfOk result (λ join_graph. LinksSay (space_of (version_of version) estimate.now.database
+        (block_of estimate.now.block)) join_graph) }
 {
     if version.has_free_products() {
         return Ok(None);
     }
-    let links = JoinGraph::new(alloc, estimate.conjuncts(), estimate.table_count())?;
-    Ok(Some(links))
+    let join_graph = JoinGraph::new(alloc, estimate.conjuncts(), estimate.table_count())?;
+    Ok(Some(join_graph))
 }

@@ -38,7 +38,7 @@ module _ (query : Block) where
   items_refused xs l h db outer = fault.many_items (let same = ap item_count (ap fault.list_of (of_block query) ∙ l) ∙ as_many_items xs in rw same h)
 
   pub groups_refused : most_group_columns < length query.groups.items → (db : Database) (outer : Scopes) → BlockFaulty db (record { outer = outer; block = block_of query }) OverQueryLimit
-  groups_refused h db outer = fault.many_groups (let same = ap (λ b. length (fault.groups_of b)) (of_block query) ∙ as_many column_of query.groups.items in rw same h)
+  groups_refused h db outer = fault.many_groups (let same = ap (λ b. length (fault.group_by_of b)) (of_block query) ∙ as_many column_of query.groups.items in rw same h)
 
   pub conjuncts_refused : (e : Expr) → query.condition ≡ Some e → most_conjuncts < conjunct_count (expr_of e) → (db : Database) (outer : Scopes) → BlockFaulty db (record { outer = outer; block = block_of query }) OverQueryLimit
   conjuncts_refused e c h db outer =

@@ -33,7 +33,7 @@ nothing_more : {X : Type 0} (xs : List X) → xs ++ [] ≡ xs
 nothing_more [] = refl
 nothing_more (x ∷ xs) = ap (λ ys. x ∷ ys) (nothing_more xs)
 
-decides : (x distinct : Bool) (list : t.SelectList) (sources : List t.Source) (where' : t.Condition) → x ≡ list_any is_function (flat_map parts (item_values list))
+decides : (x distinct : Bool) (list : t.SelectList) (sources : List t.Source) (where' : t.SearchClause) → x ≡ list_any is_function (flat_map parts (item_values list))
     → (x ≡ true → IsGrouped (Specification distinct list sources where' [] Absent)) × (IsGrouped (Specification distinct list sources where' [] Absent) → x ≡ true)
 decides x distinct list sources where' e = (
   λ h. inr (inr (subst (λ xs. AnyOf (λ e. IsTrue (is_function e)) (flat_map parts xs)) (sym (nothing_more (item_values list))) (any_found is_function (flat_map parts (item_values list)) (sym e ∙ h)))),

@@ -103,15 +103,15 @@ pushed_key [] x = refl
 pushed_key (y ∷ xs) x = ap (λ ys. key_of y ∷ ys) (pushed_key xs x)
 
 -- keys of which some are left
-pub record KeysLeft (names : List (Option Name)) (all : List t.Key) (done : List b.Key) (rest : List t.Key) : Type 0 where
+pub record KeysLeft (names : List (Option Name)) (all : List t.SortSpecification) (done : List b.OrderKey) (rest : List t.SortSpecification) : Type 0 where
   pub are : bound_keys names all ≡ done ++ bound_keys names rest
   pub left : SomeKeyIsUnknown names all → SomeKeyIsUnknown names rest
   pub of_rest : SomeKeyIsUnknown names rest → SomeKeyIsUnknown names all
 
-pub begin_keys : (names : List (Option Name)) (all : List t.Key) → KeysLeft names all [] all
+pub begin_keys : (names : List (Option Name)) (all : List t.SortSpecification) → KeysLeft names all [] all
 begin_keys names all = record { are = refl; left = λ s. s; of_rest = λ s. s }
 
-pub next_key : (names : List (Option Name)) (all rest : List t.Key) (done : List b.Key) (k : t.Key) (item : ℕ) → KeysLeft names all done (k ∷ rest) → item ≡ key_item names k.named → (IsUnknownKey names k.named → ⊥)
+pub next_key : (names : List (Option Name)) (all rest : List t.SortSpecification) (done : List b.OrderKey) (k : t.SortSpecification) (item : ℕ) → KeysLeft names all done (k ∷ rest) → item ≡ key_item names k.named → (IsUnknownKey names k.named → ⊥)
     → KeysLeft names all (done ++ (record { item = item; descending = k.descending }) ∷ []) rest
 next_key names all rest done k item h is known = record {
   are = h.are ∙ ap (λ i. done ++ (record { item = i; descending = k.descending }) ∷ bound_keys names rest) (sym is) ∙ sym (append_assoc done ((record { item = item; descending = k.descending }) ∷ []) (bound_keys names rest));
@@ -119,14 +119,14 @@ next_key names all rest done k item h is known = record {
   of_rest = λ s. h.of_rest (inr s);
 }
 
-pub unknown_key : (names : List (Option Name)) (all rest : List t.Key) (done : List b.Key) (k : t.Key) → KeysLeft names all done (k ∷ rest) → IsUnknownKey names k.named → SomeKeyIsUnknown names all
+pub unknown_key : (names : List (Option Name)) (all rest : List t.SortSpecification) (done : List b.OrderKey) (k : t.SortSpecification) → KeysLeft names all done (k ∷ rest) → IsUnknownKey names k.named → SomeKeyIsUnknown names all
 unknown_key names all rest done k h u = h.of_rest (inl u)
 
-nothing_more : (xs : List b.Key) → xs ++ [] ≡ xs
+nothing_more : (xs : List b.OrderKey) → xs ++ [] ≡ xs
 nothing_more [] = refl
 nothing_more (x ∷ xs) = ap (λ ys. x ∷ ys) (nothing_more xs)
 
-pub end_keys : (names : List (Option Name)) (all : List t.Key) (done : List b.Key) → KeysLeft names all done [] → done ≡ bound_keys names all
+pub end_keys : (names : List (Option Name)) (all : List t.SortSpecification) (done : List b.OrderKey) → KeysLeft names all done [] → done ≡ bound_keys names all
 end_keys names all done h = sym (nothing_more done) ∙ sym h.are
 
 pub next_key_tree : (order : List TreeKey) (i : ℕ) (x : TreeKey) → i < length order → x ≡ get_or order i x → map tree_key_of (drop i order) ≡ tree_key_of x ∷ map tree_key_of (drop (i + 1) order)
@@ -153,12 +153,12 @@ pub result_names_of : (list : List TreeItem) → map (λ (i : TreeItem). result_
 result_names_of [] = refl
 result_names_of (x ∷ xs) = ap (λ ys. result_name (listed_item_of x).value (listed_item_of x).alias ∷ ys) (result_names_of xs)
 
-pub listed_items : (xs : List t.Item) → t.listed (items xs) ≡ xs
+pub listed_items : (xs : List t.DerivedColumn) → t.listed (items xs) ≡ xs
 listed_items [] = refl
 listed_items (x ∷ xs) = ap (λ ys. x ∷ ys) (listed_items xs)
 
 -- ---- a refused order
 
-pub refused_order : {X : Type 0} (result : Result X BindFault) (names : List (Option Name)) (keys : List t.Key) → IfErr result (λ f. IfSome (bind_refusal f) (λ r. (r ≡ UnknownKey) × SomeKeyIsUnknown names keys)) → IfErr result (λ f. IfSome (bind_refusal f) (RefusesOrder names keys))
+pub refused_order : {X : Type 0} (result : Result X BindFault) (names : List (Option Name)) (keys : List t.SortSpecification) → IfErr result (λ f. IfSome (bind_refusal f) (λ r. (r ≡ UnknownKey) × SomeKeyIsUnknown names keys)) → IfErr result (λ f. IfSome (bind_refusal f) (RefusesOrder names keys))
 refused_order (Ok x) names keys h = tt
 refused_order (Err f) names keys h = if_some (bind_refusal f) _ _ (λ r s. inl (s.1, s.0)) h

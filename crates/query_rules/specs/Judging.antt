@@ -3,13 +3,13 @@ use Rattle.std.specs.Prelude.{ℕ, ◌+◌, ◌<◌, ◌≤◌, ◌≡◌, ◌�
 use Rattle.definitions.specs.Lists.{AnyOf}
 use Rattle.definitions.specs.Limits.{most_blocks, greatest_scale}
 use Rattle.definitions.specs.Refusal.{Refusal, ScaleTooGreat, UnknownColumn, MixedKinds, MisplacedCondition, MisplacedFunction, UngroupedColumn, OverQueryLimit}
-use Rattle.definitions.specs.Statement.{Expr, Members, Block, Column}
+use Rattle.definitions.specs.Statement.{Expr, Members, QuerySpecification, Column}
 use Rattle.definitions.specs.Table.{Database}
 use Rattle.definitions.specs.ValueType.{ValueType, type_scale}
 use Rattle.definitions.specs.Plans.Order.{BlockColumn}
 use Rattle.definitions.specs.Binding.Scopes.{Scopes, resolve}
 use Rattle.definitions.specs.Binding.Types.{expr_type, query_type}
-use Rattle.definitions.specs.Binding.Parts.{PlacedBlock, is_function, parts, member_parts, blocks_in, member_blocks, block_blocks}
+use Rattle.definitions.specs.Binding.Parts.{PlacedBlock, is_function, parts, member_parts, placed_blocks_in, member_blocks, block_blocks}
 use Rattle.definitions.specs.Binding.BoundForm.{Next, bound_value, bound_condition, bound_members, bound_function, bound_blocks}
 use Rattle.definitions.specs.Binding.Faults.{IsTooFine, NamesNoColumn, MixesKinds, takes_right, is_condition, HasManyMembers, SomeMemberDiffers, members_are_values, IsOuterColumn, IsUngroupedColumn, argument_parts, block_is_there, column_count, NotOneColumn, BlockFaulty}
 use Rattle.definitions.specs.Queries.BoundBlock as b
@@ -78,27 +78,27 @@ module _ (db : Database) (scopes : Scopes) (place : ClauseKind) where
 
   -- a value is bound, and its type is known
   pub record BindsValue (old new : Progress) (e : Expr) (value : b.ValueExpr) (type : ValueType) : Type 0 where
-    pub adds : Adds old new (parts e) (blocks_in db scopes e)
+    pub adds : Adds old new (parts e) (placed_blocks_in db scopes e)
     pub bound : value ≡ bound_value db scopes (next_of old) e
     pub typed : expr_type db scopes e ≡ Some type
     pub fine : IsFine type
     pub is_value : is_condition e ≡ false
 
   pub record BindsCondition (old new : Progress) (e : Expr) (condition : b.Condition) : Type 0 where
-    pub adds : Adds old new (parts e) (blocks_in db scopes e)
+    pub adds : Adds old new (parts e) (placed_blocks_in db scopes e)
     pub bound : condition ≡ bound_condition db scopes (next_of old) e
     pub untyped : expr_type db scopes e ≡ None
     pub is_condition : is_condition e ≡ true
 
   -- why an expression is not bound: a fault, or it stands where the other kind is wanted
   abbrev pub RefusesValue : Progress → Expr → Refusal → Type 0
-  RefusesValue old e r = Refuses db scopes place (length old.blocks) (parts e) (blocks_in db scopes e) r ⊎ ((is_condition e ≡ true) × (r ≡ MisplacedCondition))
+  RefusesValue old e r = Refuses db scopes place (length old.blocks) (parts e) (placed_blocks_in db scopes e) r ⊎ ((is_condition e ≡ true) × (r ≡ MisplacedCondition))
 
   abbrev pub RefusesCondition : Progress → Expr → Refusal → Type 0
-  RefusesCondition old e r = Refuses db scopes place (length old.blocks) (parts e) (blocks_in db scopes e) r ⊎ ((is_condition e ≡ false) × (r ≡ MisplacedCondition))
+  RefusesCondition old e r = Refuses db scopes place (length old.blocks) (parts e) (placed_blocks_in db scopes e) r ⊎ ((is_condition e ≡ false) × (r ≡ MisplacedCondition))
 
   -- an inner block is bound, with those inside it; the type of its only column is known if it has one
-  pub record BindsQuery (old new : Progress) (query : Block) (number : ℕ) (only : Option ValueType) : Type 0 where
+  pub record BindsQuery (old new : Progress) (query : QuerySpecification) (number : ℕ) (only : Option ValueType) : Type 0 where
     pub is : number ≡ length old.blocks
     pub adds : Adds old new [] (block_blocks db scopes query)
     pub there : IsTrue (block_is_there db query)
@@ -106,18 +106,18 @@ module _ (db : Database) (scopes : Scopes) (place : ClauseKind) where
     pub one : (column_count db query ≡ 1) ↔ IsTrue (is_some only)
     pub fine : IfSome only IsFine
 
-  abbrev pub RefusesQuery : Progress → Block → Refusal → Type 0
+  abbrev pub RefusesQuery : Progress → QuerySpecification → Refusal → Type 0
   RefusesQuery old query r = Refuses db scopes place (length old.blocks) [] (block_blocks db scopes query) r
 
   -- one that is to have one column has it
-  pub record BindsColumn (old new : Progress) (query : Block) (number : ℕ) (type : ValueType) : Type 0 where
+  pub record BindsColumn (old new : Progress) (query : QuerySpecification) (number : ℕ) (type : ValueType) : Type 0 where
     pub is : number ≡ length old.blocks
     pub adds : Adds old new [] (block_blocks db scopes query)
     pub typed : query_type db scopes query ≡ Some type
     pub one : NotOneColumn db query → ⊥
     pub fine : IsFine type
 
-  abbrev pub RefusesColumn : Progress → Block → Refusal → Type 0
+  abbrev pub RefusesColumn : Progress → QuerySpecification → Refusal → Type 0
   RefusesColumn old query r = RefusesQuery old query r ⊎ (NotOneColumn db query × (r ≡ MixedKinds))
 
   -- the members of an IN list are bound, all of the kind of a type
@@ -133,7 +133,7 @@ module _ (db : Database) (scopes : Scopes) (place : ClauseKind) where
       ⊎ (SomeMemberDiffers db scopes (Some type) ms × (r ≡ MixedKinds)) ⊎ ((members_are_values ms ≡ false) × (r ≡ MisplacedCondition))
 
 -- a block is bound, with those inside it, behind the blocks before; the type of its only column is known if it has one
-pub record BindsBlock (db : Database) (outer : Scopes) (old new : Blocks) (query : Block) (only : Option ValueType) : Type 0 where
+pub record BindsBlock (db : Database) (outer : Scopes) (old new : Blocks) (query : QuerySpecification) (only : Option ValueType) : Type 0 where
   pub are : new ≡ old ++ bound_blocks db (length old) (block_blocks db outer query) []
   pub accepted : (r : Refusal) → AnyOf (λ p. BlockFaulty db p r) (block_blocks db outer query) → ⊥
   pub few : length old + length (block_blocks db outer query) ≤ most_blocks
@@ -142,6 +142,6 @@ pub record BindsBlock (db : Database) (outer : Scopes) (old new : Blocks) (query
   pub one : (column_count db query ≡ 1) ↔ IsTrue (is_some only)
   pub fine : IfSome only IsFine
 
-abbrev pub RefusesBlock : Database → Scopes → Blocks → Block → Refusal → Type 0
+abbrev pub RefusesBlock : Database → Scopes → Blocks → QuerySpecification → Refusal → Type 0
 RefusesBlock db outer old query r =
     AnyOf (λ p. BlockFaulty db p r) (block_blocks db outer query) ⊎ ((most_blocks < length old + length (block_blocks db outer query)) × (r ≡ OverQueryLimit))

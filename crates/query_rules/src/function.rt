@@ -2,7 +2,7 @@
 
 ghost use Rattle.std.specs.Prelude.{◌≡◌, flat_map, map};
 ghost use Rattle.std.specs.List.{list_any};
-ghost use Rattle.definitions.specs.Grammar.{members, operands};
+ghost use Rattle.definitions.specs.Grammar.{member_list, operands};
 ghost use Rattle.definitions.specs.Binding.Parts.{is_function, item_values, member_parts, operand_parts, parts};
 ghost use Rattle.parse_tree.specs.Trees.{expr_of, list_of, member_of, operand_of};
 
@@ -54,7 +54,7 @@ fn some_operand_holds_function(others: &[Operand]) -> bool
 
 #[cycle(holding)]
 fn some_member_holds_function(list: &[Option<Expr>]) -> bool
-    ensures { result ≡ list_any is_function (member_parts (members (map member_of list.now))) }
+    ensures { result ≡ list_any is_function (member_parts (member_list (map member_of list.now))) }
 {
     'members: for member in list {
         if let Some(expr) = member {

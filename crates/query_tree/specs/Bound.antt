@@ -104,7 +104,7 @@ bound_function_of (f.OfValues function distinct start argument) = spec.OfValues 
 abbrev pub item_of : Item → spec.Item
 item_of i = record { name = string_bytes i.name; value = value_of i.value }
 
-abbrev pub key_of : Key → spec.Key
+abbrev pub key_of : Key → spec.OrderKey
 key_of k = record { item = k.item; descending = k.descending }
 
 abbrev pub block_of : Block → spec.Block

@@ -67,9 +67,9 @@ module _ (db : Database) (numbers : List ℕ) (i : ℕ) (h : i < length numbers)
   pub number_within : AllByRecursion (λ n. n < length db) numbers → get_or numbers i 0 < length db
   number_within all = all_at (λ n. n < length db) numbers i (get_or numbers i 0) all h number_at
 
-  pub next_told : (before after : List (Bor Table)) (t : Bor Table) → after ≡ before ++ t ∷ [] → get_or numbers i 0 < length db → t.now ≡ get_or db (get_or numbers i 0) t.now
+  pub next_table : (before after : List (Bor Table)) (t : Bor Table) → after ≡ before ++ t ∷ [] → get_or numbers i 0 < length db → t.now ≡ get_or db (get_or numbers i 0) t.now
       → map told after ++ map (slice_get db) (drop (i + 1) numbers) ≡ map told before ++ map (slice_get db) (drop i numbers)
-  next_told before after t more within is =
+  next_table before after t more within is =
       next_mapped told (slice_get db) before after t numbers i (get_or numbers i 0) h number_at more (sym (slice_get_read db (length db) (get_or numbers i 0) t.now refl within is))
 
 -- ---- the rows of a table

@@ -12,9 +12,9 @@ use Rattle.definitions_execution.specs.Asking as spec
 use Rattle.scans.specs.declared.scan_key.ScanKey.{ScanKey}
 use Rattle.scans.specs.declared.scan_key.ScanKey.TheVariants as a
 
-abbrev pub asked_told : ScanKey → spec.ScanKey
-asked_told (a.EqualTo value) = spec.EqualTo (value_of value)
-asked_told (a.InRange low high) = spec.InRange (limit_of low) (limit_of high)
+abbrev pub asked_of : ScanKey → spec.ScanKey
+asked_of (a.EqualTo value) = spec.EqualTo (value_of value)
+asked_of (a.InRange low high) = spec.InRange (limit_of low) (limit_of high)
 
 -- the values of a condition can be evaluated
 pub record CanEvaluate (env : Environment) (condition : Condition) : Type 0 where

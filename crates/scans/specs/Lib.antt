@@ -9,6 +9,6 @@ pub mod Pulls
 pub mod Truths
 pub mod Comparisons
 pub mod Words
-pub mod Steps
+pub mod JoinFilters
 pub mod Scans
 pub mod Laws

@@ -1,6 +1,7 @@
 -- What a statement that reads no file does is a step of the definitions.
 use Rattle.std.proofs.Common.{◌≡◌, ◌∙◌, refl, sym, ap, List, Option, Some, Result, Ok, Err, IfOk, IfSome, Bool}
 use Rattle.std.specs.Prelude.{unwrap_or}
+use Rattle.definitions.specs.Ended as ends
 use Rattle.definitions.specs.Statement.{Name, Statement, CreateIndex}
 use Rattle.definitions.specs.Table.{Database}
 use Rattle.definitions.specs.Refusal.{Refusal}
@@ -20,9 +21,9 @@ use Rattle.sqlr.specs.Sessions.{Takes}
 
 pub database_changed : {L : Type 0} (answers : Answering L) (old : State L) (db : Database) (s : Statement) (result : Result Printed StepFault) → IfOk result (Changes old.database s db)
     → IfOk result (Takes answers old s (record old { database = db }))
-database_changed answers old db s (Ok p) (refused r f n t d) = (step.Faulted, step.refused r f (ap (λ x. record old { database = x }) n) t refl, d)
-database_changed answers old db s (Ok p) (repeated a k n t d) = (step.Faulted, step.repeated a k (ap (λ x. record old { database = x }) n) t refl, d)
-database_changed answers old db s (Ok p) (made a m t d) = (step.Well, step.made db a m refl t refl, d)
+database_changed answers old db s (Ok p) (refused r f n t d) = (ends.Faulted, step.refused r f (ap (λ x. record old { database = x }) n) t refl, d)
+database_changed answers old db s (Ok p) (repeated a k n t d) = (ends.Faulted, step.repeated a k (ap (λ x. record old { database = x }) n) t refl, d)
+database_changed answers old db s (Ok p) (made a m t d) = (ends.Well, step.made db a m refl t refl, d)
 database_changed answers old db s (Err f) h = tt
 
 same_refusal : (refusal own : Refusal) → Some refusal ≡ Some own → refusal ≡ own

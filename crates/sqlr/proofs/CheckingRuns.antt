@@ -1,6 +1,7 @@
 -- Checking runs: what is printed, and how they break off.
 use Rattle.std.proofs.Common.{ℕ, ◌≡◌, ◌≢◌, ◌<◌, ◌∙◌, ◌++◌, refl, sym, ap, subst, List, [], ◌∷◌, Option, Some, None, Result, Ok, Err, IfOk, IfErr, OnOk, OnErr, length, map}
 use Rattle.std.proofs.lemmas.List.{append_assoc}
+use Rattle.definitions.specs.Ended as ends
 use Rattle.definitions.specs.Printing.{refusal_text}
 use Rattle.definitions.specs.Refusal.{Refusal}
 use Rattle.definitions.specs.Statement.{Select, Statement}
@@ -8,8 +9,6 @@ use Rattle.definitions.specs.Table.{Database}
 use Rattle.definitions_execution.specs.Step.{Answering, Failing, State, AreStatements, FaultLine}
 use Rattle.definitions.specs.Binding.Faults as binding
 use Rattle.definitions.specs.Estimates.Version.{current_version}
-use Rattle.definitions.specs.Certificates.Verdicts as verdicts
-use Rattle.definitions.specs.Certificates.Verdicts.{CheckEnded}
 use Rattle.definitions_execution.specs.CheckingRun as run
 use Rattle.definitions_execution.specs.CheckingRun.{asked, nothing_text, Prepares, Checked}
 use Rattle.parse_tree.specs.declared.statement.Statement as tree
@@ -20,28 +19,28 @@ use Rattle.sqlr.specs.declared.ended.RunFault.{RunFault}
 use Rattle.sqlr.specs.declared.ended.RunFault.TheVariants as r
 use Rattle.sqlr.specs.declared.outcome.Printed.{Printed}
 use Rattle.sqlr.specs.Devices.{Took, TookBeginning}
-use Rattle.sqlr.specs.Sessions.{BreaksLine, IsLibraryBlamed, IsSinkBlamed, Prints}
+use Rattle.sqlr.specs.Sessions.{ended_of, BreaksLine, IsLibraryBlamed, IsSinkBlamed, Prints}
 use Rattle.query_tree.specs.Bound.{block_of}
 use Rattle.certificate_files.specs.Telling.{check_ended_of}
 use Rattle.sqlr.specs.declared.checked.Checked.TheVariants as c
 use Rattle.diagnostics.specs.declared.checked_file.CheckedFile.{CheckedFile}
-use Rattle.sqlr.specs.Checking.{IsChecked, end_of_file, ArePrepared, BreaksChecking, BreaksLast, BreaksPreparing, Checks, ChecksLast, LastChecked, QueryChecked, refused, told, end_of_check}
+use Rattle.sqlr.specs.Checking.{IsChecked, end_of_file, ArePrepared, BreaksChecking, BreaksLast, BreaksPreparing, Checks, ChecksLast, LastChecked, QueryChecked, refused, told}
 use Rattle.sqlr.proofs.Running.{took_all, took_nothing, took_up_to}
 
 -- ---- a text that is put as a whole
 
 module _ {L : Type 0} (answers : Answering L) (fails : Failing L) (old new : State L) (script file : List ℕ) (taken taken' : Option (List ℕ)) where
-  pub text_put : (text : List ℕ) (how : CheckEnded) (ended : Ended) (result : Result Ended RunFault) → Checked answers current_version old script file new text how → ended ≡ end_of_check how
+  pub text_put : (text : List ℕ) (how : ends.Ended) (ended : Ended) (result : Result Ended RunFault) → Checked answers current_version old script file new text how → ended ≡ ended_of how
       → IfOk result (λ own. own ≡ ended) → OnOk result (Took taken text taken') → IfOk result (Checks answers old script file new taken taken')
   text_put text how ended (Ok own) is end same took = (text, how, is, same ∙ end, took)
   text_put text how ended (Err fault) is end same took = tt
 
-  begun_at : (text : List ℕ) (how : CheckEnded) (fault : RunFault) → Checked answers current_version old script file new text how → fault ≡ r.Sink → TookBeginning taken text taken'
+  begun_at : (text : List ℕ) (how : ends.Ended) (fault : RunFault) → Checked answers current_version old script file new text how → fault ≡ r.Sink → TookBeginning taken text taken'
       → BreaksChecking answers fails old script file new taken taken' fault
   begun_at text how fault is sink begun =
       subst (λ f. BreaksChecking answers fails old script file new taken taken' f) (sym sink) (text, run.unprinted how refl is, took_up_to taken taken taken' [] text (took_nothing taken) begun)
 
-  pub text_begun : (text : List ℕ) (how : CheckEnded) (result : Result Ended RunFault) → Checked answers current_version old script file new text how
+  pub text_begun : (text : List ℕ) (how : ends.Ended) (result : Result Ended RunFault) → Checked answers current_version old script file new text how
       → IfErr result (λ f. f ≡ r.Sink) → OnErr result (TookBeginning taken text taken') → IfErr result (BreaksChecking answers fails old script file new taken taken')
   text_begun text how (Ok own) is sink begun = tt
   text_begun text how (Err fault) is sink begun = begun_at text how fault is sink begun
@@ -53,7 +52,7 @@ nothing_read answers fails old script file taken offset = ([], run.unread refl r
 
 pub fault_put : {L : Type 0} (answers : Answering L) (old : State L) (script file line : List ℕ) (taken taken' : Option (List ℕ)) (result : Result Ended RunFault)
     → FaultLine script line → IfOk result (Prints line taken taken') → IfOk result (Checks answers old script file old taken taken')
-fault_put answers old script file line taken taken' (Ok ended) f (is, took) = (line, verdicts.Faulted, run.fault f refl refl, is, took)
+fault_put answers old script file line taken taken' (Ok ended) f (is, took) = (line, ends.Faulted, run.fault f refl refl, is, took)
 fault_put answers old script file line taken taken' (Err x) f h = tt
 
 fault_begun_at : {L : Type 0} (answers : Answering L) (fails : Failing L) (old : State L) (script file line : List ℕ) (taken taken' : Option (List ℕ)) (fault : RunFault)
@@ -61,7 +60,7 @@ fault_begun_at : {L : Type 0} (answers : Answering L) (fails : Failing L) (old :
 fault_begun_at answers fails old script file line taken taken' (r.Memory offset) f h =
     subst (λ x. BreaksChecking answers fails old script file old taken x (r.Memory offset)) (sym h) (nothing_read answers fails old script file taken offset)
 fault_begun_at answers fails old script file line taken taken' (r.Library offset) f h = absurd h
-fault_begun_at answers fails old script file line taken taken' r.Sink f h = begun_at answers fails old old script file taken taken' line verdicts.Faulted r.Sink (run.fault f refl refl) refl h
+fault_begun_at answers fails old script file line taken taken' r.Sink f h = begun_at answers fails old old script file taken taken' line ends.Faulted r.Sink (run.fault f refl refl) refl h
 
 pub fault_begun : {L : Type 0} (answers : Answering L) (fails : Failing L) (old : State L) (script file line : List ℕ) (taken taken' : Option (List ℕ)) (result : Result Ended RunFault)
     → FaultLine script line → IfErr result (BreaksLine line taken taken') → IfErr result (BreaksChecking answers fails old script file old taken taken')
@@ -71,7 +70,7 @@ fault_begun answers fails old script file line taken taken' (Err x) f h = fault_
 -- ---- the statements
 
 pub no_statement_checked : {L : Type 0} (answers : Answering L) (old : State L) (script file : List ℕ) (xs : List tree.Statement)
-    → length xs ≡ 0 → AreStatements script (statements_of xs) → Checked answers current_version old script file old nothing_text verdicts.Faulted
+    → length xs ≡ 0 → AreStatements script (statements_of xs) → Checked answers current_version old script file old nothing_text ends.Faulted
 no_statement_checked answers old script file [] none are = run.no_statement are refl refl refl
 no_statement_checked answers old script file (x ∷ xs) none are = absurd cc
 
@@ -91,7 +90,7 @@ module _ {L : Type 0} (answers : Answering L) (fails : Failing L) (old new : Sta
   refused_ended : (p : Printed) → ArePrepared answers old (statements_of before) new (Some p) → p.ended ≡ e.Faulted
   refused_ended p (front, rest, s, mid, is, prepared, (none, this, ended)) = ended
 
-  refused_checked : (p : Printed) → ArePrepared answers old (statements_of before) new (Some p) → Checked answers current_version old script file new p.text.items verdicts.Faulted
+  refused_checked : (p : Printed) → ArePrepared answers old (statements_of before) new (Some p) → Checked answers current_version old script file new p.text.items ends.Faulted
   refused_checked p (front, rest, s, mid, is, prepared, (none, this, ended)) =
       let own : AreStatements script (front ++ s ∷ (rest ++ statement_of last ∷ [])) =
       subst (λ ss. AreStatements script ss) (ap (λ ss. ss ++ statement_of last ∷ []) is ∙ append_assoc front (s ∷ rest) (statement_of last ∷ [])) whole in
@@ -100,12 +99,12 @@ module _ {L : Type 0} (answers : Answering L) (fails : Failing L) (old new : Sta
   pub refused_line : (p : Printed) (taken taken' : Option (List ℕ)) (result : Result Ended RunFault) → ArePrepared answers old (statements_of before) new (Some p)
       → IfOk result (λ own. own ≡ p.ended) → OnOk result (Took taken p.text.items taken') → IfOk result (Checks answers old script file new taken taken')
   refused_line p taken taken' result prepared same took =
-      text_put answers fails old new script file taken taken' p.text.items verdicts.Faulted p.ended result (refused_checked p prepared) (refused_ended p prepared) same took
+      text_put answers fails old new script file taken taken' p.text.items ends.Faulted p.ended result (refused_checked p prepared) (refused_ended p prepared) same took
 
   pub refused_line_begun : (p : Printed) (taken taken' : Option (List ℕ)) (result : Result Ended RunFault) → ArePrepared answers old (statements_of before) new (Some p)
       → IfErr result (λ f. f ≡ r.Sink) → OnErr result (TookBeginning taken p.text.items taken') → IfErr result (BreaksChecking answers fails old script file new taken taken')
   refused_line_begun p taken taken' result prepared sink begun =
-      text_begun answers fails old new script file taken taken' p.text.items verdicts.Faulted result (refused_checked p prepared) sink begun
+      text_begun answers fails old new script file taken taken' p.text.items ends.Faulted result (refused_checked p prepared) sink begun
 
   pub preparing_broke : (fault : RunFault) → BreaksPreparing answers fails old (statements_of before) new fault → (taken : Option (List ℕ)) → BreaksChecking answers fails old script file new taken taken fault
   preparing_broke fault (front, rest, s, mid, is, prepared, none, broke) taken =
@@ -114,11 +113,11 @@ module _ {L : Type 0} (answers : Answering L) (fails : Failing L) (old new : Sta
       ([], run.unprepared front (rest ++ statement_of last ∷ []) s mid own (not_empty rest (statement_of last)) prepared none broke refl, took_all taken taken [] (took_nothing taken))
 
   module _ (prepared : Prepares answers old (statements_of before) new) where
-    of_query : (q : Select) (text : List ℕ) (how : CheckEnded) → asked (statement_of last) ≡ Some q → QueryChecked new.database q file text how → Checked answers current_version old script file new text how
+    of_query : (q : Select) (text : List ℕ) (how : ends.Ended) → asked (statement_of last) ≡ Some q → QueryChecked new.database q file text how → Checked answers current_version old script file new text how
     of_query q text how is (refused refusal faulty own ended) = run.unbound (statements_of before) (statement_of last) q refusal whole prepared is faulty own ended
     of_query q text how is (told blocks binds own) = run.told (statements_of before) (statement_of last) q blocks whole prepared is binds own
 
-    of_asked : (o : Option Select) (text : List ℕ) (how : CheckEnded) → asked (statement_of last) ≡ o → LastChecked new.database o file text how → Checked answers current_version old script file new text how
+    of_asked : (o : Option Select) (text : List ℕ) (how : ends.Ended) → asked (statement_of last) ≡ o → LastChecked new.database o file text how → Checked answers current_version old script file new text how
     of_asked None text how is (own, ended) = run.no_query (statements_of before) (statement_of last) whole prepared is own ended
     of_asked (Some q) text how is h = of_query q text how is h
 
@@ -141,34 +140,34 @@ module _ {L : Type 0} (answers : Answering L) (fails : Failing L) (old new : Sta
 -- ---- the last statement
 
 module _ (db : Database) (s : Statement) (file : List ℕ) (taken taken' : Option (List ℕ)) where
-  pub last_put : (text : List ℕ) (how : CheckEnded) (ended : Ended) (result : Result Ended RunFault) → LastChecked db (asked s) file text how → ended ≡ end_of_check how
+  pub last_put : (text : List ℕ) (how : ends.Ended) (ended : Ended) (result : Result Ended RunFault) → LastChecked db (asked s) file text how → ended ≡ ended_of how
       → IfOk result (λ own. own ≡ ended) → OnOk result (Took taken text taken') → IfOk result (ChecksLast db s file taken taken')
   last_put text how ended (Ok own) is end same took = (text, how, is, same ∙ end, took)
   last_put text how ended (Err fault) is end same took = tt
 
-  begun_last_at : (text : List ℕ) (how : CheckEnded) (fault : RunFault) → LastChecked db (asked s) file text how → fault ≡ r.Sink → TookBeginning taken text taken' → BreaksLast db s file taken taken' fault
+  begun_last_at : (text : List ℕ) (how : ends.Ended) (fault : RunFault) → LastChecked db (asked s) file text how → fault ≡ r.Sink → TookBeginning taken text taken' → BreaksLast db s file taken taken' fault
   begun_last_at text how fault is sink begun = subst (λ f. BreaksLast db s file taken taken' f) (sym sink) (text, how, is, begun)
 
-  pub last_begun : (text : List ℕ) (how : CheckEnded) (result : Result Ended RunFault) → LastChecked db (asked s) file text how
+  pub last_begun : (text : List ℕ) (how : ends.Ended) (result : Result Ended RunFault) → LastChecked db (asked s) file text how
       → IfErr result (λ f. f ≡ r.Sink) → OnErr result (TookBeginning taken text taken') → IfErr result (BreaksLast db s file taken taken')
   last_begun text how (Ok own) is sink begun = tt
   last_begun text how (Err fault) is sink begun = begun_last_at text how fault is sink begun
 
   -- nothing is asked, or a query
-  pub nothing_asked : asked s ≡ None → LastChecked db (asked s) file nothing_text verdicts.Faulted
-  nothing_asked none = subst (λ o. LastChecked db o file nothing_text verdicts.Faulted) (sym none) (refl, refl)
+  pub nothing_asked : asked s ≡ None → LastChecked db (asked s) file nothing_text ends.Faulted
+  nothing_asked none = subst (λ o. LastChecked db o file nothing_text ends.Faulted) (sym none) (refl, refl)
 
-  pub query_asked : (q : Select) (text : List ℕ) (how : CheckEnded) → Some q ≡ asked s → QueryChecked db q file text how → LastChecked db (asked s) file text how
+  pub query_asked : (q : Select) (text : List ℕ) (how : ends.Ended) → Some q ≡ asked s → QueryChecked db q file text how → LastChecked db (asked s) file text how
   query_asked q text how is h = subst (λ o. LastChecked db o file text how) is h
 
   -- the line of a refused query
   pub refused_put : (q : Select) (p : Printed) (result : Result Ended RunFault) → Some q ≡ asked s → IsChecked db q file (c.Refused p)
       → IfOk result (λ own. own ≡ p.ended) → OnOk result (Took taken p.text.items taken') → IfOk result (ChecksLast db s file taken taken')
-  refused_put q p result is h same took = last_put p.text.items verdicts.Faulted p.ended result (query_asked q p.text.items verdicts.Faulted is h.1) h.0 same took
+  refused_put q p result is h same took = last_put p.text.items ends.Faulted p.ended result (query_asked q p.text.items ends.Faulted is h.1) h.0 same took
 
   pub refused_begun : (q : Select) (p : Printed) (result : Result Ended RunFault) → Some q ≡ asked s → IsChecked db q file (c.Refused p)
       → IfErr result (λ f. f ≡ r.Sink) → OnErr result (TookBeginning taken p.text.items taken') → IfErr result (BreaksLast db s file taken taken')
-  refused_begun q p result is h sink begun = last_begun p.text.items verdicts.Faulted result (query_asked q p.text.items verdicts.Faulted is h.1) sink begun
+  refused_begun q p result is h sink begun = last_begun p.text.items ends.Faulted result (query_asked q p.text.items ends.Faulted is h.1) sink begun
 
   -- what is told of its certificates
   all_told : (q : Select) (checked : CheckedFile) → IsChecked db q file (c.Told checked) → QueryChecked db q file checked.told.text.items (check_ended_of checked.told.ended)
@@ -186,8 +185,8 @@ module _ (db : Database) (s : Statement) (file : List ℕ) (taken taken' : Optio
 
 -- ---- the query
 
-pub query_refused : (db : Database) (q : Select) (file : List ℕ) (p : Printed) (refusal : Refusal) → binding.Faulty db q refusal → p.text.items ≡ refusal_text refusal → p.ended ≡ e.Faulted
-    → (p.ended ≡ e.Faulted) × QueryChecked db q file p.text.items verdicts.Faulted
+pub query_refused : (db : Database) (q : Select) (file : List ℕ) (p : Printed) (refusal : Refusal) → binding.QueryFaulty db q refusal → p.text.items ≡ refusal_text refusal → p.ended ≡ e.Faulted
+    → (p.ended ≡ e.Faulted) × QueryChecked db q file p.text.items ends.Faulted
 query_refused db q file p refusal faulty own ended = (ended, refused refusal faulty own refl)
 
 pub binds_of : (db : Database) (q : Select) (file : List ℕ) (checked : CheckedFile) → IsChecked db q file (c.Told checked) → binding.Binds db q (map block_of checked.blocks.items)

@@ -5,6 +5,7 @@ use Rattle.std.specs.Cmp.{int_ranked}
 use Rattle.std.specs.declared.cmp.Ordering.TheVariants.{Less, Equal}
 use Rattle.std.proofs.Math.Nat.{one-le-pow}
 use Rattle.std.proofs.lemmas.List.{take-append-drop}
+use Rattle.definitions.specs.Ended.{Ended, both_ended}
 use Rattle.definitions.specs.Refusal as refusal
 use Rattle.definitions.specs.Refusal.{Refusal}
 use Rattle.definitions.specs.Value.{SqlType, scale_of}
@@ -14,7 +15,7 @@ use Rattle.definitions.specs.Grammar as g
 use Rattle.definitions.specs.Grammar.{Derives, BeginsNone, IsWrong, kinds}
 use Rattle.definitions.specs.Limits.{most_levels}
 use Rattle.definitions.specs.Statement as tree
-use Rattle.definitions.specs.Statement.{Name, Select, Statement, Bound, Range, IndexStatistics as Given}
+use Rattle.definitions.specs.Statement.{Name, Select, Statement, Bound, Range, GivenStatistics as Given}
 use Rattle.definitions.specs.Table.{Table, Database, KeyRange, IndexStatistics, table_named, column_numbers}
 use Rattle.definitions.specs.Change as made
 use Rattle.definitions.specs.Change.{bound_units, KeptAs, RangeKept, StatisticsKept, Makes, RepeatsKeys, with_index, with_index_statistics, with_table_statistics, new_table, changed, first_type}
@@ -22,13 +23,14 @@ use Rattle.definitions.specs.Faults as faulty
 use Rattle.definitions.specs.Faults.{Faulty}
 use Rattle.definitions.specs.Loading.{Record, AreFileRecords}
 use Rattle.definitions.specs.Arithmetic.{Meaning, Is, Raises}
-use Rattle.definitions.specs.Queries.BoundBlock.{Key}
+use Rattle.definitions.specs.Plans.Plan.{Plan}
+use Rattle.definitions.specs.Queries.BoundBlock.{OrderKey, Blocks}
 use Rattle.definitions.specs.Queries.Answer.{answer}
-use Rattle.definitions.specs.Queries.Outcomes.{Told, Rows, Exception, Allowed, AllowedOf, names_of, order_of, shown}
+use Rattle.definitions.specs.Queries.Outcomes.{Told, Rows, Exception, Allowed, AllowedOf, names_of, order_keys, shown}
 use Rattle.definitions.specs.Binding.BoundForm.{bound_form}
 use Rattle.definitions_execution.specs.RunLaws.{LoadHasOneOutcome}
 use Rattle.definitions_execution.specs.Step as step
-use Rattle.definitions_execution.specs.Step.{Answering, State, Step, Steps, Ended, Loaded, FaultLine, AreStatements, both_ended, told_ended}
+use Rattle.definitions_execution.specs.Step.{Answering, State, Step, Steps, Loaded, FaultLine, AreStatements, IsAnswered, IsWorkAfter, told_ended}
 use Rattle.definitions_execution.specs.RunLaws.{AnswersOnce, AreOneButForWork, AreAlike, same, faults, outcomes, plans, AllAlike, fault_lines, printed, RunsEndAlike}
 use Rattle.definitions.proofs.Loading.{factor}
 use Rattle.definitions.proofs.Lexing.{reads_once}
@@ -192,7 +194,7 @@ makes_once db s a b (made.index_set name columns given t numbers type kept is na
 
 -- ---- what queries tell
 
-told_alike : (m : Meaning (List _)) (keys : List Key) (told told' : Told) → Allowed m keys told → Allowed m keys told' → told_ended told ≡ told_ended told'
+told_alike : (m : Meaning (List _)) (keys : List OrderKey) (told told' : Told) → Allowed m keys told → Allowed m keys told' → told_ended told ≡ told_ended told'
 told_alike (Is bag) keys (Rows rows) (Rows rows') g h = refl
 told_alike (Is bag) keys (Rows rows) (Exception r) g h = absurd h
 told_alike (Is bag) keys (Exception r) told' g h = absurd g
@@ -208,6 +210,12 @@ one_state {L} e = (ap (λ (s : State L). s.library) e, ap (λ (s : State L). s.d
 through : {L : Type 0} (a b c : State L) → AreOneButForWork a b → AreOneButForWork b c → AreOneButForWork a c
 through a b c g h = (g.0 ∙ h.0, g.1 ∙ h.1)
 
+-- the work is counted anew, or stays
+work_from : (db : Database) (blocks : Blocks) (plans : List Plan) (told : Told) (before after other : ℕ) → IsWorkAfter db blocks plans told before after
+    → (again : ℕ) × IsWorkAfter db blocks plans told other again
+work_from db blocks chosen (Rows rows) before after other counted = (after, counted)
+work_from db blocks chosen (Exception raise) before after other stays = (other, refl)
+
 -- from one of them a statement goes on as from the other
 module _ {L : Type 0} (answers : Answering L) where
   reworked : (old new : State L) (work : ℕ) (s : Statement) (x : List ℕ) (e : Ended) → Step answers (record old { work = work }) s new x e → (own : State L) × AreOneButForWork own new × Step answers old s own x e
@@ -217,10 +225,20 @@ module _ {L : Type 0} (answers : Answering L) where
   reworked old new work s x e (step.no_file name file library is a given n t d) = (record old { library = library }, (sym (one_state n).0, sym (one_state n).1), step.no_file name file library is a given refl t d)
   reworked old new work s x e (step.load name file bytes library tb records db is named given are lo n) =
       (record old { library = library; database = db }, (sym (one_state n).0, sym (one_state n).1), step.load name file bytes library tb records db is named given are lo refl)
-  reworked old new work s x e (step.query q blocks (Rows rows) after is a b al run n t d) =
-      (record old { work = after }, (sym (one_state n).0, sym (one_state n).1), step.query q blocks (Rows rows) after is a b al run refl t d)
-  reworked old new work s x e (step.query q blocks (Exception raise) after is a b al (chosen, certified, unchanged) n t d) =
-      (old, (sym (one_state n).0, sym (one_state n).1), step.query q blocks (Exception raise) old.work is a b al (chosen, certified, refl) refl t d)
+  reworked old new work s x e (step.query q after is a own n) =
+      let (again, works) = work_from old.database own.blocks own.plans own.told work after old.work own.work in
+      let moved : IsAnswered old.database q x old.work again e = record {
+        blocks = own.blocks;
+        bound = own.bound;
+        plans = own.plans;
+        certified = own.certified;
+        told = own.told;
+        allowed = own.allowed;
+        printed = own.printed;
+        work = works;
+        ends = own.ends;
+      } in
+      (record old { work = again }, (sym (one_state n).0, sym (one_state n).1), step.query q again is a moved refl)
   reworked old new work s x e (step.explain q blocks is a b are n d) = (old, (sym (one_state n).0, sym (one_state n).1), step.explain q blocks is a b are refl d)
 
   step_moved : (old other new : State L) (s : Statement) (x : List ℕ) (e : Ended) → AreOneButForWork old other → Step answers other s new x e → (own : State L) × AreOneButForWork own new × Step answers old s own x e
@@ -258,21 +276,21 @@ module _ {L : Type 0} (answers : Answering L) (once : AnswersOnce answers) (load
   step_once a b s x y first second (step.refused r fa n t e) (step.made db' ac' mk' n' t' e') = absurd (ac' r fa)
   step_once a b s x y first second (step.refused r fa n t e) (step.no_file name' file' lib' is' ac' ans' n' t' e') = absurd (ac' r fa)
   step_once a b s x y first second (step.refused r fa n t e) (step.load name' file' bytes' lib' tb' rs' db' is' named' ans' are' lo' n') = absurd (load_is_faultless old.database s r name' file' tb' fa is' named')
-  step_once a b s x y first second (step.refused r fa n t e) (step.query q' blocks' told' work' is' ac' bs' al' total' n' t' e') = absurd (ac' r fa)
+  step_once a b s x y first second (step.refused r fa n t e) (step.query q' work' is' ac' own' n') = absurd (ac' r fa)
   step_once a b s x y first second (step.refused r fa n t e) (step.explain q' blocks' is' ac' bs' ares' n' e') = absurd (ac' r fa)
   step_once a b s x y first second (step.repeated ac rep n t e) (step.refused r' fa' n' t' e') = absurd (ac r' fa')
   step_once a b s x y first second (step.repeated ac rep n t e) (step.repeated ac' rep' n' t' e') = (one_state (n ∙ sym n'), e ∙ sym e', same (t ∙ sym t'))
   step_once a b s x y first second (step.repeated ac rep n t e) (step.made db' ac' mk' n' t' e') = absurd (never_both old.database s db' rep mk')
   step_once a b s x y first second (step.repeated ac rep n t e) (step.no_file name' file' lib' is' ac' ans' n' t' e') = absurd (no_change s (repeats_change old.database s rep) (ap is_change is'))
   step_once a b s x y first second (step.repeated ac rep n t e) (step.load name' file' bytes' lib' tb' rs' db' is' named' ans' are' lo' n') = absurd (no_change s (repeats_change old.database s rep) (ap is_change is'))
-  step_once a b s x y first second (step.repeated ac rep n t e) (step.query q' blocks' told' work' is' ac' bs' al' total' n' t' e') = absurd (no_change s (repeats_change old.database s rep) (ap is_change is'))
+  step_once a b s x y first second (step.repeated ac rep n t e) (step.query q' work' is' ac' own' n') = absurd (no_change s (repeats_change old.database s rep) (ap is_change is'))
   step_once a b s x y first second (step.repeated ac rep n t e) (step.explain q' blocks' is' ac' bs' ares' n' e') = absurd (no_change s (repeats_change old.database s rep) (ap is_change is'))
   step_once a b s x y first second (step.made db ac mk n t e) (step.refused r' fa' n' t' e') = absurd (ac r' fa')
   step_once a b s x y first second (step.made db ac mk n t e) (step.repeated ac' rep' n' t' e') = absurd (never_both old.database s db rep' mk)
   step_once a b s x y first second (step.made db ac mk n t e) (step.made db' ac' mk' n' t' e') = (one_state (n ∙ ap (λ d. record old { database = d }) (makes_once old.database s db db' mk mk') ∙ sym n'), e ∙ sym e', same (t ∙ sym t'))
   step_once a b s x y first second (step.made db ac mk n t e) (step.no_file name' file' lib' is' ac' ans' n' t' e') = absurd (no_change s (makes_change old.database s db mk) (ap is_change is'))
   step_once a b s x y first second (step.made db ac mk n t e) (step.load name' file' bytes' lib' tb' rs' db' is' named' ans' are' lo' n') = absurd (no_change s (makes_change old.database s db mk) (ap is_change is'))
-  step_once a b s x y first second (step.made db ac mk n t e) (step.query q' blocks' told' work' is' ac' bs' al' total' n' t' e') = absurd (no_change s (makes_change old.database s db mk) (ap is_change is'))
+  step_once a b s x y first second (step.made db ac mk n t e) (step.query q' work' is' ac' own' n') = absurd (no_change s (makes_change old.database s db mk) (ap is_change is'))
   step_once a b s x y first second (step.made db ac mk n t e) (step.explain q' blocks' is' ac' bs' ares' n' e') = absurd (no_change s (makes_change old.database s db mk) (ap is_change is'))
   step_once a b s x y first second (step.no_file name file lib is ac ans n t e) (step.refused r' fa' n' t' e') = absurd (ac r' fa')
   step_once a b s x y first second (step.no_file name file lib is ac ans n t e) (step.repeated ac' rep' n' t' e') = absurd (no_change s (repeats_change old.database s rep') (ap is_change is))
@@ -281,32 +299,35 @@ module _ {L : Type 0} (answers : Answering L) (once : AnswersOnce answers) (load
       let l : lib ≡ lib' = (once old.library file' None None lib lib' (rw (same_file s name name' file file' is is').1 at ans) ans').1 in
       (one_state (n ∙ ap (λ l. record old { library = l }) l ∙ sym n'), e ∙ sym e', same (t ∙ sym t'))
   step_once a b s x y first second (step.no_file name file lib is ac ans n t e) (step.load name' file' bytes' lib' tb' rs' db' is' named' ans' are' lo' n') = absurd (none_and_some bytes' (once old.library file' None (Some bytes') lib lib' (rw (same_file s name name' file file' is is').1 at ans) ans').0)
-  step_once a b s x y first second (step.no_file name file lib is ac ans n t e) (step.query q' blocks' told' work' is' ac' bs' al' total' n' t' e') = absurd (apart s 0 1 (ap kind is) (ap kind is') (λ h. omega (arith, h)))
+  step_once a b s x y first second (step.no_file name file lib is ac ans n t e) (step.query q' work' is' ac' own' n') = absurd (apart s 0 1 (ap kind is) (ap kind is') (λ h. omega (arith, h)))
   step_once a b s x y first second (step.no_file name file lib is ac ans n t e) (step.explain q' blocks' is' ac' bs' ares' n' e') = absurd (apart s 0 2 (ap kind is) (ap kind is') (λ h. omega (arith, h)))
   step_once a b s x y first second (step.load name file bytes lib tb rs db is named ans are lo n) (step.refused r' fa' n' t' e') = absurd (load_is_faultless old.database s r' name file tb fa' is named)
   step_once a b s x y first second (step.load name file bytes lib tb rs db is named ans are lo n) (step.repeated ac' rep' n' t' e') = absurd (no_change s (repeats_change old.database s rep') (ap is_change is))
   step_once a b s x y first second (step.load name file bytes lib tb rs db is named ans are lo n) (step.made db' ac' mk' n' t' e') = absurd (no_change s (makes_change old.database s db' mk') (ap is_change is))
   step_once a b s x y first second (step.load name file bytes lib tb rs db is named ans are lo n) (step.no_file name' file' lib' is' ac' ans' n' t' e') = absurd (none_and_some bytes (once old.library file None (Some bytes) lib' lib (rw (same_file s name' name file' file is' is).1 at ans') ans).0)
   step_once a b s x y first second (step.load name file bytes lib tb rs db is named ans are lo n) (step.load name' file' bytes' lib' tb' rs' db' is' named' ans' are' lo' n') = load_once name name' file file' bytes bytes' lib lib' tb tb' rs rs' db db' is is' named named' ans ans' are are' lo lo' n n'
-  step_once a b s x y first second (step.load name file bytes lib tb rs db is named ans are lo n) (step.query q' blocks' told' work' is' ac' bs' al' total' n' t' e') = absurd (apart s 0 1 (ap kind is) (ap kind is') (λ h. omega (arith, h)))
+  step_once a b s x y first second (step.load name file bytes lib tb rs db is named ans are lo n) (step.query q' work' is' ac' own' n') = absurd (apart s 0 1 (ap kind is) (ap kind is') (λ h. omega (arith, h)))
   step_once a b s x y first second (step.load name file bytes lib tb rs db is named ans are lo n) (step.explain q' blocks' is' ac' bs' ares' n' e') = absurd (apart s 0 2 (ap kind is) (ap kind is') (λ h. omega (arith, h)))
-  step_once a b s x y first second (step.query q blocks told work is ac bs al total n t e) (step.refused r' fa' n' t' e') = absurd (ac r' fa')
-  step_once a b s x y first second (step.query q blocks told work is ac bs al total n t e) (step.repeated ac' rep' n' t' e') = absurd (no_change s (repeats_change old.database s rep') (ap is_change is))
-  step_once a b s x y first second (step.query q blocks told work is ac bs al total n t e) (step.made db' ac' mk' n' t' e') = absurd (no_change s (makes_change old.database s db' mk') (ap is_change is))
-  step_once a b s x y first second (step.query q blocks told work is ac bs al total n t e) (step.no_file name' file' lib' is' ac' ans' n' t' e') = absurd (apart s 0 1 (ap kind is') (ap kind is) (λ h. omega (arith, h)))
-  step_once a b s x y first second (step.query q blocks told work is ac bs al total n t e) (step.load name' file' bytes' lib' tb' rs' db' is' named' ans' are' lo' n') = absurd (apart s 0 1 (ap kind is') (ap kind is) (λ h. omega (arith, h)))
-  step_once a b s x y first second (step.query q blocks told work is ac bs al total n t e) (step.query q' blocks' told' work' is' ac' bs' al' total' n' t' e') =
+  step_once a b s x y first second (step.query q work is ac own n) (step.refused r' fa' n' t' e') = absurd (ac r' fa')
+  step_once a b s x y first second (step.query q work is ac own n) (step.repeated ac' rep' n' t' e') = absurd (no_change s (repeats_change old.database s rep') (ap is_change is))
+  step_once a b s x y first second (step.query q work is ac own n) (step.made db' ac' mk' n' t' e') = absurd (no_change s (makes_change old.database s db' mk') (ap is_change is))
+  step_once a b s x y first second (step.query q work is ac own n) (step.no_file name' file' lib' is' ac' ans' n' t' e') = absurd (apart s 0 1 (ap kind is') (ap kind is) (λ h. omega (arith, h)))
+  step_once a b s x y first second (step.query q work is ac own n) (step.load name' file' bytes' lib' tb' rs' db' is' named' ans' are' lo' n') = absurd (apart s 0 1 (ap kind is') (ap kind is) (λ h. omega (arith, h)))
+  step_once a b s x y first second (step.query q work is ac own n) (step.query q' work' is' ac' own' n') =
       let q_is : q ≡ q' = query_is s q q' is is' in
-      let blocks_are : blocks ≡ blocks' = bs.1 ∙ ap (bound_form old.database) q_is ∙ sym bs'.1 in
-      let al2 : AllowedOf old.database blocks told' = rw (sym blocks_are) at al' in
-      ((ap (λ (s : State L). s.library) n ∙ sym (ap (λ (s : State L). s.library) n'), ap (λ (s : State L). s.database) n ∙ sym (ap (λ (s : State L). s.database) n')), e ∙ told_alike (answer old.database blocks) (order_of blocks) told told' al al2 ∙ sym e', outcomes q blocks told told' is bs al al2 t (t' ∙ ap (λ b. shown (names_of b) told') (sym blocks_are)))
-  step_once a b s x y first second (step.query q blocks told work is ac bs al total n t e) (step.explain q' blocks' is' ac' bs' ares' n' e') = absurd (apart s 1 2 (ap kind is) (ap kind is') (λ h. omega (arith, h)))
+      let blocks_are : own.blocks ≡ own'.blocks = own.bound.1 ∙ ap (bound_form old.database) q_is ∙ sym own'.bound.1 in
+      let other : AllowedOf old.database own.blocks own'.told = subst (λ (bs : Blocks). AllowedOf old.database bs own'.told) (sym blocks_are) own'.allowed in (
+        (ap (λ (s : State L). s.library) n ∙ sym (ap (λ (s : State L). s.library) n'), ap (λ (s : State L). s.database) n ∙ sym (ap (λ (s : State L). s.database) n')),
+        own.ends ∙ told_alike (answer old.database own.blocks) (order_keys own.blocks) own.told own'.told own.allowed other ∙ sym own'.ends,
+        outcomes q own.blocks own.told own'.told is own.bound own.allowed other own.printed (own'.printed ∙ ap (λ b. shown (names_of b) own'.told) (sym blocks_are)),
+      )
+  step_once a b s x y first second (step.query q work is ac own n) (step.explain q' blocks' is' ac' bs' ares' n' e') = absurd (apart s 1 2 (ap kind is) (ap kind is') (λ h. omega (arith, h)))
   step_once a b s x y first second (step.explain q blocks is ac bs ares n e) (step.refused r' fa' n' t' e') = absurd (ac r' fa')
   step_once a b s x y first second (step.explain q blocks is ac bs ares n e) (step.repeated ac' rep' n' t' e') = absurd (no_change s (repeats_change old.database s rep') (ap is_change is))
   step_once a b s x y first second (step.explain q blocks is ac bs ares n e) (step.made db' ac' mk' n' t' e') = absurd (no_change s (makes_change old.database s db' mk') (ap is_change is))
   step_once a b s x y first second (step.explain q blocks is ac bs ares n e) (step.no_file name' file' lib' is' ac' ans' n' t' e') = absurd (apart s 0 2 (ap kind is') (ap kind is) (λ h. omega (arith, h)))
   step_once a b s x y first second (step.explain q blocks is ac bs ares n e) (step.load name' file' bytes' lib' tb' rs' db' is' named' ans' are' lo' n') = absurd (apart s 0 2 (ap kind is') (ap kind is) (λ h. omega (arith, h)))
-  step_once a b s x y first second (step.explain q blocks is ac bs ares n e) (step.query q' blocks' told' work' is' ac' bs' al' total' n' t' e') = absurd (apart s 1 2 (ap kind is') (ap kind is) (λ h. omega (arith, h)))
+  step_once a b s x y first second (step.explain q blocks is ac bs ares n e) (step.query q' work' is' ac' own' n') = absurd (apart s 1 2 (ap kind is') (ap kind is) (λ h. omega (arith, h)))
   step_once a b s x y first second (step.explain q blocks is ac bs ares n e) (step.explain q' blocks' is' ac' bs' ares' n' e') =
       let q_is : q ≡ q' = explain_is s q q' is is' in
       let blocks_are : blocks ≡ blocks' = bs.1 ∙ ap (bound_form old.database) q_is ∙ sym bs'.1 in

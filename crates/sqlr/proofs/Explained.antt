@@ -13,7 +13,7 @@ use Rattle.definitions.specs.Binding.Faults as binding
 use Rattle.definitions.specs.Binding.Faults.{Binds}
 use Rattle.definitions.specs.Binding.Formed.{AreWritten, IsFormedSomewhere}
 use Rattle.definitions.specs.Faults as faults
-use Rattle.definitions.specs.Faults.{Faulty, IsAccepted}
+use Rattle.definitions.specs.Faults.{IsAccepted}
 use Rattle.definitions.proofs.BindingTheory.AcceptedQueries.{each_block_is_formed, few_blocks}
 use Rattle.query_tree.specs.Bound.{block_of}
 use Rattle.query_tree.specs.declared.block.Block as tree
@@ -22,7 +22,7 @@ use Rattle.sqlr.specs.declared.outcome.Printed.{Printed}
 use Rattle.sqlr.specs.declared.outcome.StepFault.{StepFault}
 use Rattle.sqlr.specs.Explaining.{Explains, refused}
 
-pub fault_told : (db : Database) (q : Select) (result : Result Printed StepFault) (r : Refusal) → binding.Faulty db q r
+pub fault_told : (db : Database) (q : Select) (result : Result Printed StepFault) (r : Refusal) → binding.QueryFaulty db q r
     → IfOk result (λ (p : Printed). p.text.items ≡ refusal_text r) → IfOk result (λ (p : Printed). p.ended ≡ e.Faulted) → IfOk result (Explains db q)
 fault_told db q (Ok p) r f t d = refused r (faults.explained q r f) t d
 fault_told db q (Err x) r f t d = tt

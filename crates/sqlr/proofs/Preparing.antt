@@ -1,9 +1,10 @@
 -- Statements before the last of a checking run, one after another.
 use Rattle.std.proofs.Common.{ℕ, ◌≡◌, ◌≢◌, ◌<◌, ◌∙◌, ◌++◌, refl, sym, ap, subst, suc, List, [], ◌∷◌, Option, Some, None, length, take, drop, get_or, Bor}
 use Rattle.std.specs.Prelude.{true, false, is_some, option_map}
+use Rattle.definitions.specs.Ended as ends
 use Rattle.definitions.specs.Statement.{Select, Statement}
-use Rattle.definitions_execution.specs.Step as step
 use Rattle.definitions_execution.specs.Step.{Answering, Failing, State, Step, StepBreaks}
+use Rattle.definitions_execution.proofs.ScriptSteps.{never_refused}
 use Rattle.definitions_execution.specs.CheckingRun.{asked, Prepared, Prepares}
 use Rattle.parse_tree.specs.declared.statement.Statement as tree
 use Rattle.parse_tree.specs.declared.statement.Select as own
@@ -39,23 +40,25 @@ pub none_asked : (s : Statement) (o : Option (Bor own.Select)) → option_map (�
 none_asked s None e h = sym e
 none_asked s (Some q) e h = absurd cc
 
-ended_well : (how : step.Ended) → ended_of how ≡ e.Well → how ≡ step.Well
-ended_well step.Well h = refl
-ended_well step.Faulted h = absurd cc
+ended_well : (how : ends.Ended) → ended_of how ≡ e.Well → how ≡ ends.Well
+ended_well ends.Well h = refl
+ended_well ends.Faulted h = absurd cc
+ended_well ends.Refused h = absurd cc
 
-ended_badly : (how : step.Ended) → ended_of how ≢ e.Well → how ≡ step.Faulted
-ended_badly step.Well h = absurd (h refl)
-ended_badly step.Faulted h = refl
+ended_badly : (how : ends.Ended) → ended_of how ≢ e.Well → how ≢ ends.Refused → how ≡ ends.Faulted
+ended_badly ends.Well h k = absurd (h refl)
+ended_badly ends.Faulted h k = refl
+ended_badly ends.Refused h k = absurd (k refl)
 
 -- a step that is not refused, or one that is
 pub kept_if_refused : {L : Type 0} (answers : Answering L) (old new : State L) (s : Statement) (p : Printed) (o : Option Printed)
     → asked s ≡ None → Takes answers old s new p → IsIfRefused p o → IsPrepared answers old s new o
 kept_if_refused answers old new s p None none (how, this, is) well =
-    let own : Step answers old s new p.text.items step.Well = subst (λ h. Step answers old s new p.text.items h) (ended_well how (sym is ∙ well)) this in
+    let own : Step answers old s new p.text.items ends.Well = subst (λ h. Step answers old s new p.text.items h) (ended_well how (sym is ∙ well)) this in
     subst (λ o. Prepared answers old s new o) (sym none) (p.text.items, own)
 kept_if_refused answers old new s p (Some kept) none (how, this, is) (same, bad) =
-    let faulted : how ≡ step.Faulted = ended_badly how (λ h. bad (is ∙ h)) in
-    let own : Step answers old s new p.text.items step.Faulted = subst (λ h. Step answers old s new p.text.items h) faulted this in
+    let faulted : how ≡ ends.Faulted = ended_badly how (λ h. bad (is ∙ h)) (never_refused answers old new s p.text.items how this) in
+    let own : Step answers old s new p.text.items ends.Faulted = subst (λ h. Step answers old s new p.text.items h) faulted this in
     subst (λ q. IsPrepared answers old s new (Some q)) (sym same) (none, own, is ∙ ap ended_of faulted)
 
 -- ---- one after another

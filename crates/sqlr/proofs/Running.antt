@@ -2,9 +2,11 @@
 use Rattle.std.proofs.Common.{ℕ, ◌≡◌, ◌<◌, ◌∙◌, ◌++◌, refl, sym, ap, subst, zero, suc, List, [], ◌∷◌, Option, Some, None, Result, Ok, Err, length, take, drop, get_or, IfOk, IfErr, arith}
 use Rattle.std.specs.Prelude.{◌+◌}
 use Rattle.std.proofs.lemmas.List.{append-nil, append_assoc}
+use Rattle.definitions.specs.Ended.{both_ended}
+use Rattle.definitions.specs.Ended as ends
 use Rattle.definitions.specs.Statement.{Statement}
 use Rattle.definitions_execution.specs.Step as step
-use Rattle.definitions_execution.specs.Step.{Answering, Failing, State, Step, Steps, AreStatements, FaultLine, both_ended, StepBreaks}
+use Rattle.definitions_execution.specs.Step.{Answering, Failing, State, Step, Steps, AreStatements, FaultLine, StepBreaks}
 use Rattle.parse_tree.specs.declared.statement.Statement as tree
 use Rattle.parse_tree.specs.Trees.{statement_of, statements_of}
 use Rattle.sqlr.specs.declared.ended.Ended.{Ended}
@@ -20,21 +22,23 @@ next i = omega arith
 
 -- ---- how statements ended
 
-ended_first : (a : step.Ended) → both_ended a step.Well ≡ a
-ended_first step.Well = refl
-ended_first step.Faulted = refl
+ended_first : (a : ends.Ended) → both_ended a ends.Well ≡ a
+ended_first ends.Well = refl
+ended_first ends.Faulted = refl
+ended_first ends.Refused = refl
 
-ended_assoc : (a b c : step.Ended) → both_ended (both_ended a b) c ≡ both_ended a (both_ended b c)
-ended_assoc step.Well b c = refl
-ended_assoc step.Faulted b c = refl
+ended_assoc : (a b c : ends.Ended) → both_ended (both_ended a b) c ≡ both_ended a (both_ended b c)
+ended_assoc ends.Well b c = refl
+ended_assoc ends.Faulted b c = refl
+ended_assoc ends.Refused b c = refl
 
 -- ---- steps
 
 -- steps, and one more
-steps_more : {L : Type 0} (answers : Answering L) (ss : List Statement) (old mid new : State L) (s : Statement) (text own : List ℕ) (a b : step.Ended)
+steps_more : {L : Type 0} (answers : Answering L) (ss : List Statement) (old mid new : State L) (s : Statement) (text own : List ℕ) (a b : ends.Ended)
     → Steps answers old ss mid text a → Step answers mid s new own b → Steps answers old (ss ++ s ∷ []) new (text ++ own) (both_ended a b)
 steps_more answers [] old mid new s text own a b (same, none, well) h =
-    (new, own, [], b, step.Well, subst (λ x. Step answers x s new own b) same h, (refl, refl, refl), ap (λ t. t ++ own) none ∙ sym (append-nil own), ap (λ x. both_ended x b) well ∙ sym (ended_first b))
+    (new, own, [], b, ends.Well, subst (λ x. Step answers x s new own b) same h, (refl, refl, refl), ap (λ t. t ++ own) none ∙ sym (append-nil own), ap (λ x. both_ended x b) well ∙ sym (ended_first b))
 steps_more answers (x ∷ ss) old mid new s text own a b (next, first, rest, c, d, this, others, joined, both) h =
     (next, first, rest ++ own, c, both_ended d b, this, steps_more answers ss next mid new s rest own d b others h, ap (λ t. t ++ own) joined ∙ append_assoc first rest own, ap (λ x. both_ended x b) both ∙ ended_assoc c d b)
 
@@ -66,7 +70,7 @@ abbrev pub RanTo : {L : Type 0} → Answering L → State L → List tree.Statem
 RanTo answers old xs i new taken taken' ended = RunsAll answers old (statements_of (take i xs)) new taken taken' ended
 
 pub nothing_ran : {L : Type 0} (answers : Answering L) (old : State L) (xs : List tree.Statement) (taken : Option (List ℕ)) → RanTo answers old xs 0 old taken taken e.Well
-nothing_ran answers old xs taken = ([], step.Well, (refl, refl, refl), refl, took_nothing taken)
+nothing_ran answers old xs taken = ([], ends.Well, (refl, refl, refl), refl, took_nothing taken)
 
 pub front : (xs : List tree.Statement) (i : ℕ) (x : tree.Statement) → i < length xs → x ≡ get_or xs i x → statements_of (take (suc i) xs) ≡ statements_of (take i xs) ++ statement_of x ∷ []
 front [] i x l h = absurd (omega (arith, l))
@@ -110,7 +114,7 @@ script_broke answers fails old new script ss taken taken' (Err f) a (printed, be
 
 pub line_printed : {L : Type 0} (answers : Answering L) (old : State L) (script line : List ℕ) (taken taken' : Option (List ℕ)) (result : Result Ended RunFault)
     → FaultLine script line → IfOk result (Prints line taken taken') → IfOk result (Runs answers old script old taken taken')
-line_printed answers old script line taken taken' (Ok ended) f (is, took) = (line, step.Faulted, step.fault f refl refl, is, took)
+line_printed answers old script line taken taken' (Ok ended) f (is, took) = (line, ends.Faulted, step.fault f refl refl, is, took)
 line_printed answers old script line taken taken' (Err x) f h = tt
 
 pub nothing_done : {L : Type 0} (answers : Answering L) (fails : Failing L) (old : State L) (script : List ℕ) (taken : Option (List ℕ)) (offset : ℕ) → BreaksOff answers fails old script old taken taken (r.Memory offset)

@@ -1,7 +1,8 @@
 -- What a statement's call gives is a step of the definitions.
-use Rattle.std.proofs.Common.{ℕ, ◌≡◌, ◌≢◌, ◌∙◌, refl, sym, ap, List, Option, Some, None, Result, Ok, Err, IfOk, Bor}
+use Rattle.std.proofs.Common.{ℕ, ◌≡◌, ◌≢◌, ◌∙◌, refl, sym, ap, subst, List, Option, Some, None, Result, Ok, Err, IfOk, Bor}
 use Rattle.std.specs.Prelude.{true, false, is_some, unwrap_or}
 use Rattle.std.specs.Option.{option_copied}
+use Rattle.definitions.specs.Ended as ends
 use Rattle.definitions.specs.Statement as tree
 use Rattle.definitions.specs.Statement.{Name, Statement}
 use Rattle.definitions.specs.Table.{Table, Database, table_named}
@@ -9,11 +10,15 @@ use Rattle.definitions.specs.Refusal as r
 use Rattle.definitions.specs.Faults as faults
 use Rattle.definitions.specs.Loading.{Record, AreFileRecords, FirstFaulty}
 use Rattle.definitions.specs.Printing.{refusal_text, record_refusal_text, loaded_text}
-use Rattle.definitions.specs.Queries.Outcomes.{Rows, Exception}
+use Rattle.definitions.specs.Plans.Plan.{Plan}
+use Rattle.definitions.specs.Binding.Faults.{Binds}
+use Rattle.definitions.specs.Queries.BoundBlock.{Blocks}
+use Rattle.definitions.specs.Queries.Outcomes.{Told, Rows, Exception, AllowedOf, names_of, shown}
 use Rattle.definitions.specs.Estimates.Version.{current_version}
-use Rattle.definitions_execution.specs.Total.{total_of}
+use Rattle.definitions_execution.specs.Total.{AreCertified, total_of}
 use Rattle.definitions_execution.specs.Step as step
-use Rattle.definitions_execution.specs.Step.{Answering, State}
+use Rattle.definitions_execution.specs.Step.{Answering, State, IsAnswered, IsWorkAfter, told_ended}
+use Rattle.definitions_execution.proofs.Answered.{answered}
 use Rattle.loading.specs.Meaning.{record_refusal}
 use Rattle.loading.specs.declared.fault.RefusedRecord.{RefusedRecord}
 use Rattle.catalog.specs.Loads.{LoadsNamed, RefusesNamed}
@@ -45,7 +50,7 @@ some_named db name (Some t) e h k =
 -- a statement is refused, and its line is told
 pub refusal_told : {L : Type 0} (answers : Answering L) (old new : State L) (s : Statement) (result : Result Printed StepFault) (refusal : r.Refusal) → faults.Faulty old.database s refusal → new ≡ old
     → IfOk result (λ (p : Printed). p.text.items ≡ refusal_text refusal) → IfOk result (λ (p : Printed). p.ended ≡ e.Faulted) → IfOk result (Takes answers old s new)
-refusal_told answers old new s (Ok p) refusal h n t d = (step.Faulted, step.refused refusal h n t refl, d)
+refusal_told answers old new s (Ok p) refusal h n t d = (ends.Faulted, step.refused refusal h n t refl, d)
 refusal_told answers old new s (Err f) refusal h n t d = tt
 
 -- ---- LOAD
@@ -55,7 +60,7 @@ load_accepted db name file h f (faults.no_table n g e) = h e
 
 pub no_file_told : {L : Type 0} (answers : Answering L) (old new : State L) (library : L) (name : Name) (file : List ℕ) (result : Result Printed StepFault) → table_named old.database name ≢ None → answers old.library file None library
     → new ≡ record old { library = library } → IfOk result (λ (p : Printed). p.text.items ≡ refusal_text r.NoFile) → IfOk result (λ (p : Printed). p.ended ≡ e.Faulted) → IfOk result (Takes answers old (tree.Load name file) new)
-no_file_told answers old new library name file (Ok p) h a n t d = (step.Faulted, step.no_file name file library refl (load_accepted old.database name file h) a n t refl, d)
+no_file_told answers old new library name file (Ok p) h a n t d = (ends.Faulted, step.no_file name file library refl (load_accepted old.database name file h) a n t refl, d)
 no_file_told answers old new library name file (Err f) h a n t d = tt
 
 pub bytes_taken : {L : Type 0} (answers : Answering L) (old new : State L) (library : L) (db : Database) (name : Name) (file bytes : List ℕ) (p : Printed) → answers old.library file (Some bytes) library
@@ -68,7 +73,7 @@ rows_taken db db' name bytes n p (t, named, (records, rows, are, all, few, count
   named = named;
   records = records;
   are = are;
-  how = step.Well;
+  how = ends.Well;
   loaded = step.loaded rows all few new (x ∙ ap loaded_text count) refl;
   ended = d;
 }
@@ -82,7 +87,7 @@ first_told db db' name bytes t records refusal number (Ok p) named are first n x
   named = named;
   records = records;
   are = are;
-  how = step.Faulted;
+  how = ends.Faulted;
   loaded = step.refused refusal number first n x refl;
   ended = d;
 }
@@ -108,7 +113,7 @@ limit_told db db' name bytes (Ok p) (t, named, (records, are, full)) n x d = rec
   named = named;
   records = records;
   are = are;
-  how = step.Faulted;
+  how = ends.Faulted;
   loaded = step.too_many full n x refl;
   ended = d;
 }
@@ -116,21 +121,32 @@ limit_told db db' name bytes (Err f) h n x d = tt
 
 -- ---- SELECT
 
+answered_as : (db : Database) (q : tree.Select) (text : List ℕ) (blocks : Blocks) (plans : List Plan) (told : Told) (before after : ℕ) → Binds db q blocks
+    → AreCertified current_version db blocks plans → AllowedOf db blocks told → text ≡ shown (names_of blocks) told → IsWorkAfter db blocks plans told before after
+    → IsAnswered db q text before after (told_ended told)
+answered_as db q text blocks plans told before after bound certified allowed is work =
+    subst (λ t. IsAnswered db q t before after (told_ended told)) (sym is) (answered db q blocks bound plans certified told allowed before after work)
+
 -- the work is the one told, where one is
 pub query_taken : {L : Type 0} (answers : Answering L) (old new : State L) (q : tree.Select) (p : Printed) → Answers old.database q p → new ≡ record old { work = unwrap_or p.work old.work } → Takes answers old (tree.Query q) new p
-query_taken answers old new q p (selecting.refused r f t d w) n = (step.Faulted, step.refused r f (n ∙ ap (λ o. record old { work = unwrap_or o old.work }) w) t refl, d)
-query_taken answers old new q p (selecting.told blocks (Rows rows) plans a b allowed certified t d w) n = (
-  step.Well,
-  step.query q blocks (Rows rows) (total_of current_version old.database blocks plans) refl a b allowed (plans, certified, refl)
-      (n ∙ ap (λ o. record old { work = unwrap_or o old.work }) w) t refl,
+query_taken answers old new q p (selecting.refused r f t d w) n = (ends.Faulted, step.refused r f (n ∙ ap (λ o. record old { work = unwrap_or o old.work }) w) t refl, d)
+query_taken answers old new q p (selecting.told blocks (Rows rows) plans a b allowed certified t d w) n =
+    let work = total_of current_version old.database blocks plans in (
+      ends.Well,
+      step.query q work refl a (answered_as old.database q p.text.items blocks plans (Rows rows) old.work work b certified allowed t refl)
+          (n ∙ ap (λ o. record old { work = unwrap_or o old.work }) w),
+      d,
+    )
+query_taken answers old new q p (selecting.told blocks (Exception raise) plans a b allowed certified t d w) n = (
+  ends.Faulted,
+  step.query q old.work refl a (answered_as old.database q p.text.items blocks plans (Exception raise) old.work old.work b certified allowed t refl)
+      (n ∙ ap (λ o. record old { work = unwrap_or o old.work }) w),
   d,
 )
-query_taken answers old new q p (selecting.told blocks (Exception raise) plans a b allowed certified t d w) n =
-    (step.Faulted, step.query q blocks (Exception raise) old.work refl a b allowed (plans, certified, refl) (n ∙ ap (λ o. record old { work = unwrap_or o old.work }) w) t refl, d)
 
 -- ---- EXPLAIN
 
 pub explained_taken : {L : Type 0} (answers : Answering L) (s : State L) (q : tree.Select) (result : Result Printed StepFault) → IfOk result (Explains s.database q) → IfOk result (Takes answers s (tree.Explain q) s)
-explained_taken answers s q (Ok p) (explaining.refused r f t d) = (step.Faulted, step.refused r f refl t refl, d)
-explained_taken answers s q (Ok p) (explaining.told blocks a b are d) = (step.Well, step.explain q blocks refl a b are refl refl, d)
+explained_taken answers s q (Ok p) (explaining.refused r f t d) = (ends.Faulted, step.refused r f refl t refl, d)
+explained_taken answers s q (Ok p) (explaining.told blocks a b are d) = (ends.Well, step.explain q blocks refl a b are refl refl, d)
 explained_taken answers s q (Err f) h = tt

@@ -31,7 +31,7 @@ impl<L: Ledger> Failures<L> {
         Failures { book, share }
     }
 
-    /// One failure more.
+    /// Counts one failure more of the device.
     pub fn rise(&mut self)
         ensures { self.new ≡ self.old + 1 }
     {

@@ -5,7 +5,7 @@ ghost use Rattle.sqlr.specs.Meaning.{status_of};
 
 use thiserror::Error;
 
-/// How a run ended.
+/// How a run or a check ended that did not break off; `status` has its exit status.
 #[derive(Clone, Copy, PartialEq, Eq)]
 pub enum Ended {
     /// No error line was printed.

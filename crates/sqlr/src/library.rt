@@ -5,7 +5,7 @@ ghost use Rattle.sqlr.specs.Devices.{answer_of, IsFetchBlamed};
 
 use thiserror::Error;
 
-/// Files by their names.
+/// Files by their names, which LOAD asks for.
 pub trait Library: Drop {
     /// What may be answered: the library before, a name, the file's bytes or none, and the library
     /// after.
@@ -24,7 +24,7 @@ pub trait Library: Drop {
         ensures blamed { IsFetchBlamed (failures self.old) (failures self.new) result };
 }
 
-/// What a library answers.
+/// What a library answers for a name.
 #[derive(Drop)]
 pub enum Fetched {
     /// There is no such file.

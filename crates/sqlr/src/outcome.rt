@@ -77,7 +77,7 @@ pub fn exception_line<'a>(alloc: Global, raise: Raise) -> Result<Printed<'a>, St
     })
 }
 
-/// A refused statement's line.
+/// The line of a refused statement, and the cause that a sink is told beside it.
 pub fn refusal_line<'a>(
     alloc: Global,
     refusal: Refusal,

@@ -3,7 +3,6 @@
 ghost use Rattle.std.specs.Prelude.{◌≡◌, ◌≢◌, ℕ, List, [], None, IfOk, IfErr, OnErr};
 ghost use Rattle.definitions.specs.Printing.{fault_text};
 ghost use Rattle.definitions.specs.Statement as tree;
-ghost use Rattle.definitions_execution.specs.Headline.{KeepsHeadline};
 ghost use Rattle.definitions.specs.Table.{table_named};
 ghost use Rattle.sqlvalue.specs.RefusalMeaning.{refusal_of};
 ghost use Rattle.parse_tree.specs.Trees.{name_of, select_of, statement_of, statements_of, text_of};
@@ -81,9 +80,8 @@ impl<L: Library> Session<L> {
     /// off did; where the sink failed, the statement whose text it refused has taken effect, and a
     /// beginning of that text was printed.
     pub fn run<S: Sink>(&mut self, script: &str, sink: &mut S) -> Result<Ended, RunFault>
-        ensures headline { IfOk result (λ ended. (text : List ℕ) × Took (S.taken sink.old) text (S.taken sink.new)
-            × KeepsHeadline L.answers self.old script.now self.new text) }
-        ensures runs { IfOk result (Runs L.answers self.old script.now self.new (S.taken sink.old) (S.taken sink.new)) }
+        ensures headline { IfOk result (Runs L.answers self.old script.now self.new (S.taken sink.old)
+            (S.taken sink.new)) }
         ensures breaks { IfErr result (BreaksOff L.answers L.fails self.old script.now self.new (S.taken sink.old)
             (S.taken sink.new)) }
         ensures library { IsLibraryBlamed (L.failures self.old.library) (L.failures self.new.library) result }

@@ -11,7 +11,7 @@ use diagnostics::{CheckedFile, Planned, Progress, Refused};
 use sqlvalue::Raise;
 use thiserror::Error;
 
-/// Takes what is printed.
+/// Takes what is printed, a statement's text as a whole, and is told what is not printed.
 pub trait Sink {
     /// The bytes that it has taken, where it tells them.
     ghost taken: { Self → Option (List ℕ) };

@@ -17,7 +17,7 @@ pub enum OwnedValue {
 }
 
 impl OwnedValue {
-    /// Keeps a value.
+    /// A copy of a value, which stays when what lent it is gone.
     pub fn new(alloc: Global, value: &Value) -> Result<OwnedValue, AllocError>
         ensures { IfOk result (λ own. owned_value own ≡ value_of value.now) }
     {
@@ -31,7 +31,7 @@ impl OwnedValue {
         }
     }
 
-    /// Lends it.
+    /// The value, lent.
     pub fn value(&self) -> Value<'_>
         ensures { value_of result ≡ owned_value self.now }
     {

@@ -7,7 +7,7 @@ use Rattle.std.specs.Prelude.{slice_get}
 use Rattle.definitions.specs.Token.{TokenKind}
 use Rattle.definitions.specs.Rule.{Rule, Gives, Then}
 use Rattle.definitions.specs.Grammar as g
-use Rattle.definitions.specs.Grammar.{LineKind, LineOf, operator_in, line, operands}
+use Rattle.definitions.specs.Grammar.{LineKind, LineOf, operator_in, operator_line, operands}
 use Rattle.definitions.specs.Statement as s
 use Rattle.definitions.specs.Statement.{Expr, LineOperator}
 use Rattle.parse_tree.specs.Trees.{operand_of}
@@ -49,22 +49,22 @@ joint_alike kind n m operator = then_alike (operand_alike kind n m) (λ e. gives
 
 -- the operands so far, and behind them whatever the rest comes to
 abbrev pub Lines : LineKind → (levels least : ℕ) → (p q : Place) → Expr → List (LineOperator × Expr) → Type 0
-Lines kind levels least p q first others = Joined (operator_in kind) (Joint kind) (λ m. LineOf kind (OperandAt kind m)) levels least p q (λ ys. line first (operands ys)) others
+Lines kind levels least p q first others = Joined (operator_in kind) (Joint kind) (λ m. LineOf kind (OperandAt kind m)) levels least p q (λ ys. operator_line first (operands ys)) others
 
 module _ (kind : LineKind) (levels least : ℕ) where
   pub line_begins : (p q : Place) (x : Expr) (k : ℕ) → Outcome (OperandAt kind) levels k p q (Ok x) → Lines kind levels least p q x []
-  line_begins p q x k d t o rest = then_on (λ m. operand_alike kind levels m) d (mapped (λ ys. line x (operands ys)) o rest)
+  line_begins p q x k d t o rest = then_on (λ m. operand_alike kind levels m) d (mapped (λ ys. operator_line x (operands ys)) o rest)
 
   pub line_goes_on : (p q q' t : Place) (x : Expr) (xs : List (LineOperator × Expr)) (operator : LineOperator) (e : Expr) (k : ℕ) → Lines kind levels least p q x xs → (operator_in kind (slice_get q.tokens q.at) ≡ Some operator) × IsNext q q'
       → Outcome (OperandAt kind) levels k q' t (Ok e) → Lines kind levels least p t x (xs ++ (operator, e) ∷ [])
-  line_goes_on p q q' t x xs operator e k inv at d = joined (operator_in kind) (Joint kind) (λ m. LineOf kind (OperandAt kind m)) levels least (λ m op. joint_alike kind levels m op) p q q' t (λ ys. line x (operands ys)) xs operator (operator, e) k inv at (mapped (λ y. (operator, y)) (Ok e) d)
+  line_goes_on p q q' t x xs operator e k inv at d = joined (operator_in kind) (Joint kind) (λ m. LineOf kind (OperandAt kind m)) levels least (λ m op. joint_alike kind levels m op) p q q' t (λ ys. operator_line x (operands ys)) xs operator (operator, e) k inv at (mapped (λ y. (operator, y)) (Ok e) d)
 
   pub line_fails : (p q q' t : Place) (x : Expr) (xs : List (LineOperator × Expr)) (operator : LineOperator) (stop : ParseStop) → Lines kind levels least p q x xs → (operator_in kind (slice_get q.tokens q.at) ≡ Some operator) × IsNext q q'
       → Outcome (OperandAt kind) levels least q' t (Err stop) → Outcome (LineAt kind) levels least p t (Err stop)
-  line_fails p q q' t x xs operator stop inv at d = is_line kind (joined_fails (operator_in kind) (Joint kind) (λ m. LineOf kind (OperandAt kind m)) levels least p q q' t (λ ys. line x (operands ys)) xs operator stop inv at (then_fails d))
+  line_fails p q q' t x xs operator stop inv at d = is_line kind (joined_fails (operator_in kind) (Joint kind) (λ m. LineOf kind (OperandAt kind m)) levels least p q q' t (λ ys. operator_line x (operands ys)) xs operator stop inv at (then_fails d))
 
-  pub line_ends : (p q t : Place) (x : Expr) (xs : List (LineOperator × Expr)) → Lines kind levels least p q x xs → (operator_in kind (slice_get q.tokens q.at) ≡ None) × (t ≡ q) → Outcome (LineAt kind) levels least p t (Ok (line x (operands xs)))
-  line_ends p q t x xs inv at = is_line kind (subst (λ z. Outcome (λ m. LineOf kind (OperandAt kind m)) levels least p z (Ok (line x (operands xs)))) (sym at.1) (joined_ends (operator_in kind) (Joint kind) (λ m. LineOf kind (OperandAt kind m)) levels least p q (λ ys. line x (operands ys)) xs inv at.0))
+  pub line_ends : (p q t : Place) (x : Expr) (xs : List (LineOperator × Expr)) → Lines kind levels least p q x xs → (operator_in kind (slice_get q.tokens q.at) ≡ None) × (t ≡ q) → Outcome (LineAt kind) levels least p t (Ok (operator_line x (operands xs)))
+  line_ends p q t x xs inv at = is_line kind (subst (λ z. Outcome (λ m. LineOf kind (OperandAt kind m)) levels least p z (Ok (operator_line x (operands xs)))) (sym at.1) (joined_ends (operator_in kind) (Joint kind) (λ m. LineOf kind (OperandAt kind m)) levels least p q (λ ys. operator_line x (operands ys)) xs inv at.0))
 
   -- fewer tokens are left behind an operand than before its operator
   pub fewer : (q q' t : Place) (operator : LineOperator) (e : Expr) (k : ℕ) → (operator_in kind (slice_get q.tokens q.at) ≡ Some operator) × IsNext q q' → Outcome (OperandAt kind) levels k q' t (Ok e) → length t.tokens - t.at < length q.tokens - q.at
@@ -97,15 +97,15 @@ is_zero n b e h = grind (arith, nat_tests, e, h)
 pub no_operand : (v : Vec Operand Global) (b : Bool) → b ≡ (v.len == 0) → b ≡ true → v.items ≡ []
 no_operand v b e h = no_length v.items (sym v.ok.0 ∙ is_zero v.len b e h)
 
-pub alone : (x : Expr) (v : Vec Operand Global) (b : Bool) → b ≡ (v.len == 0) → b ≡ true → line x (operands (map operand_of v.items)) ≡ x
-alone x v b e h = ap (λ xs. line x (operands (map operand_of xs))) (no_operand v b e h)
+pub alone : (x : Expr) (v : Vec Operand Global) (b : Bool) → b ≡ (v.len == 0) → b ≡ true → operator_line x (operands (map operand_of v.items)) ≡ x
+alone x v b e h = ap (λ xs. operator_line x (operands (map operand_of xs))) (no_operand v b e h)
 
-pub several : (x : Expr) (v : Vec Operand Global) (b : Bool) → b ≡ (v.len == 0) → b ≡ false → line x (operands (map operand_of v.items)) ≡ s.Line x (operands (map operand_of v.items))
+pub several : (x : Expr) (v : Vec Operand Global) (b : Bool) → b ≡ (v.len == 0) → b ≡ false → operator_line x (operands (map operand_of v.items)) ≡ s.Line x (operands (map operand_of v.items))
 several x v b e h = some v.items (λ z. is_some v.len b e h (v.ok.0 ∙ z))
   where
     is_some : (n : ℕ) (b : Bool) → b ≡ (n == 0) → b ≡ false → n ≡ 0 → ⊥
     is_some n b e h z = grind (arith, nat_tests, e, h, z)
 
-    some : (xs : List Operand) → (length xs ≡ 0 → ⊥) → line x (operands (map operand_of xs)) ≡ s.Line x (operands (map operand_of xs))
+    some : (xs : List Operand) → (length xs ≡ 0 → ⊥) → operator_line x (operands (map operand_of xs)) ≡ s.Line x (operands (map operand_of xs))
     some [] n = absurd (n refl)
     some (y ∷ ys) n = refl

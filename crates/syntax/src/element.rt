@@ -9,7 +9,7 @@ ghost use Rattle.syntax.specs.Places.{all};
 use lexer::Symbol;
 use syntax_cursor::{Cursor, ParseStop};
 
-/// What stands between commas.
+/// An element of a list: what stands between two commas.
 pub trait Element: Drop {
     ghost use Rattle.std.specs.Prelude.{List, IfOk};
     ghost use Rattle.definitions.specs.Rule.{Rule};
@@ -27,7 +27,7 @@ pub trait Element: Drop {
 
     ghost leaves: { Self → List Placed };
 
-    /// One element.
+    /// Reads one element at the cursor's place.
     fn read(cursor: &mut Cursor) -> Result<Self, ParseStop>
         ensures reads { ParsesFlat rule cursor.old cursor.new (viewed tree_of result) }
         ensures placed { IfOk result (λ x. Stands cursor.old cursor.new (leaves x)) };

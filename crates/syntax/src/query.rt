@@ -234,13 +234,13 @@ impl Element for ColumnReference {
 }
 
 impl Element for Key {
-    ghost use Rattle.definitions.specs.Statement.{Key};
+    ghost use Rattle.definitions.specs.Statement.{SortSpecification};
     ghost use Rattle.definitions.specs.Grammar.{KeyAt};
     ghost use Rattle.definitions.proofs.Grammar.{key_alike};
     ghost use Rattle.parse_tree.specs.Trees.{key_of};
     ghost use Rattle.syntax.specs.Places.{key_leaves};
 
-    ghost Tree = { Key };
+    ghost Tree = { SortSpecification };
 
     ghost rule = { KeyAt };
 

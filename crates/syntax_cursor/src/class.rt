@@ -42,7 +42,7 @@ pub struct Wanted {
 }
 
 impl Wanted {
-    /// No class.
+    /// A set without classes.
     pub fn nothing() -> Wanted {
         Wanted {
             classes: [TokenClass::Name; MOST],

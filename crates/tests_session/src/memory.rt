@@ -5,34 +5,77 @@ use crate::steps::{FILES, LOOK, STEPS, script, seen_behind, steps_printed};
 use sqlr::{Ended, RunFault, Session};
 use std::alloc::{AllocError, Global};
 use std::test::Fail;
-use tests_devices::{Part, Shelf, run};
+use tests_devices::{Part, Ran, Shelf, run};
 
 /// Room for all that is printed, so that no sink wants memory.
 const ROOM: usize = 256;
 
+/// What a run tells of a refused allocation, and a look behind it at what it left.
+#[derive(Clone, Copy)]
+enum Seen {
+    /// There was no run.
+    BeforeRun,
+    /// It ended behind so many statements, of which the look sees the work.
+    Behind(usize),
+    /// All of the run is done, and the look wants memory and prints nothing.
+    BehindRun,
+    /// Nothing was refused.
+    Whole,
+    /// What is printed or seen is not that of whole statements.
+    Wrong,
+}
+
 #[test]
 fn refused_allocation_leaves_whole_statements(rt: HostRuntime) -> Result<(), Fail> {
-    let alloc = rt.alloc();
-    let Ok((script, tape, second_tape)) = script_and_tapes(alloc) else {
-        println!(rt; "refused before the run")?;
-        return Ok(());
-    };
+    let seen = look_behind(rt.alloc());
+    match seen {
+        Seen::BeforeRun => println!(rt; "refused before the run")?,
+        Seen::Behind(done) => println!(rt; "refused behind {done} statements")?,
+        Seen::BehindRun => println!(rt; "refused behind the run")?,
+        Seen::Whole | Seen::Wrong => {}
+    }
+    assert!(rt; !matches!(seen, Seen::Wrong));
+    Ok(())
+}
+
+/// Runs the script, and looks at what it left.
+fn look_behind(alloc: Global) -> Seen {
+    match script_and_tapes(alloc) {
+        Ok((script, tape, second_tape)) => look_behind_run(alloc, &script, tape, second_tape),
+        Err(AllocError) => Seen::BeforeRun,
+    }
+}
+
+fn look_behind_run(alloc: Global, script: &str, tape: Vec<u8>, second_tape: Vec<u8>) -> Seen {
     let files = &FILES;
     let mut session = Session::new(alloc, Shelf { alloc, files });
-    let ran = run(&mut session, tape, Part::whole(&script));
-    let done = steps_printed(&ran.printed).ok_or("no whole texts")?;
-    assert!(rt; is_end_behind(ran.end, done), "behind {done} statements");
+    let ran = run(&mut session, tape, Part::whole(script));
     let look = run(&mut session, second_tape, Part::whole(LOOK));
-    if done < STEPS.len() {
-        println!(rt; "refused behind {done} statements")?;
-    } else if look.end.is_err() {
-        println!(rt; "refused behind the run")?;
-        assert!(rt; matches!(look.end, Err(RunFault::Memory { .. })) && look.printed.is_empty());
-        return Ok(());
+    judge(&ran, &look)
+}
+
+fn judge(ran: &Ran, look: &Ran) -> Seen {
+    let Some(done) = steps_printed(&ran.printed) else {
+        return Seen::Wrong;
+    };
+    if !is_end_behind(ran.end, done) {
+        return Seen::Wrong;
     }
-    let is_seen = look.printed.as_slice() == seen_behind(done).as_bytes();
-    assert!(rt; is_seen, "behind {done} statements");
-    Ok(())
+    if done == STEPS.len() && look.end.is_err() {
+        let is_refused = matches!(look.end, Err(RunFault::Memory { .. }));
+        return if is_refused && look.printed.is_empty() {
+            Seen::BehindRun
+        } else {
+            Seen::Wrong
+        };
+    }
+    if look.printed.as_slice() != seen_behind(done).as_bytes() {
+        Seen::Wrong
+    } else if done < STEPS.len() {
+        Seen::Behind(done)
+    } else {
+        Seen::Whole
+    }
 }
 
 /// The script, and two tapes with room.

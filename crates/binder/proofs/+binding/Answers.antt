@@ -7,7 +7,7 @@ use Rattle.query_tree.proofs.Views.{of_signed as bound_signed, of_chain as bound
 use Rattle.parse_tree.specs.Trees.{column_of, expr_of, text_of, operand_of, member_of, block_of as query_of, operator_of, function_of, condition_of, item_of as listed_item_of, list_of, name_of, source_of, quantifier_of}
 use Rattle.parse_tree.proofs.Views.{of_column, of_numeral, of_string, of_signed, of_compare, of_compare_all, of_between, of_in_query, of_scalar, of_count_rows, of_function, of_in_list, of_line, of_asterisk, of_items}
 use Rattle.std.specs.Prelude.{IfSome, option_map, IsTrue}
-use Rattle.definitions.specs.Grammar.{operands, items, members}
+use Rattle.definitions.specs.Grammar.{operands, items, member_list}
 use Rattle.parse_tree.specs.declared.expr.Expr.{the_lemmas}
 use Rattle.query_rules.specs.Judging.{BindsValue, BindsCondition, BindsColumn, RefusesValue, RefusesColumn, InWhere, takes_functions, InArgument, BindsMembers, BindsQuery, RefusesCondition, RefusesMembers, RefusesQuery, RefusesBlock}
 use Rattle.binder.proofs.Predicates.{scalar_query, binds_scalar, binds_is_null, is_null_operand, binds_like, like_operand, like_number, binds_not, not_operand, binds_between, between_operand, between_low, between_high, between_low_mixed, between_high_mixed, binds_exists, exists_query, in_query, compare_all, binds_test, test_operand, test_query, test_mixed}
@@ -208,7 +208,7 @@ items::result_columns-returns t c =
 -- src/condition.rt:201:5
 pub condition::bound_members-members-init : goal.condition::bound_members-members-init
 condition::bound_members-members-init t c =
-    rw c.new-bound.ensures.items (begin_members c.args.clause.now.database.now c.args.clause.now.scopes.now (place_of c.args.clause.now.place) (progress_of c.args.blocks.now.items c.args.functions.now.items) (value_type_of c.args.value_type) (members (map member_of c.deref-member-items.result.now)) (few_blocks c.args.blocks.now.items c.requires.few))
+    rw c.new-bound.ensures.items (begin_members c.args.clause.now.database.now c.args.clause.now.scopes.now (place_of c.args.clause.now.place) (progress_of c.args.blocks.now.items c.args.functions.now.items) (value_type_of c.args.value_type) (member_list (map member_of c.deref-member-items.result.now)) (few_blocks c.args.blocks.now.items c.requires.few))
 
 -- src/condition.rt:204:29
 pub condition::bound_members-value-requires : goal.condition::bound_members-value-requires
@@ -219,38 +219,38 @@ condition::bound_members-value-requires t c =
 pub condition::bound_members-returns-in_err-typed-in-Some :
     goal.condition::bound_members-returns-in_err-typed-in-Some
 condition::bound_members-returns-in_err-typed-in-Some t c =
-    let tree = ap expr_of c.in-InList.is ∙ of_in_list c.in-InList.start c.in-InList.negated c.in-InList.value c.in-InList.members ∙ ap (λ xs. spec.InList c.in-InList.negated (expr_of c.in-InList.value.value) (members (map member_of xs))) (sym c.deref-member-items.ensures.value) in
-    let left : MembersLeft c.args.clause.now.database.now c.args.clause.now.scopes.now (place_of c.args.clause.now.place) (progress_of c.args.blocks.now.items c.args.functions.now.items) (value_type_of c.args.value_type) (members (map member_of c.deref-member-items.result.now)) (progress_of c.members.blocks.items c.members.functions.items) (map bound_member_of c.members.bound.items) (spec.Member (expr_of c.in-Some.expr) (members (map member_of (drop (c.members.member-index + 1) c.deref-member-items.result.now)))) = rw (next_member_tree c.deref-member-items.result.now c.members.member-index c.member-item.result c.members-test.true c.member-item.is, c.in-Some.is) at c.members.invariant in
+    let tree = ap expr_of c.in-InList.is ∙ of_in_list c.in-InList.start c.in-InList.negated c.in-InList.value c.in-InList.members ∙ ap (λ xs. spec.InList c.in-InList.negated (expr_of c.in-InList.value.value) (member_list (map member_of xs))) (sym c.deref-member-items.ensures.value) in
+    let left : MembersLeft c.args.clause.now.database.now c.args.clause.now.scopes.now (place_of c.args.clause.now.place) (progress_of c.args.blocks.now.items c.args.functions.now.items) (value_type_of c.args.value_type) (member_list (map member_of c.deref-member-items.result.now)) (progress_of c.members.blocks.items c.members.functions.items) (map bound_member_of c.members.bound.items) (spec.Member (expr_of c.in-Some.expr) (member_list (map member_of (drop (c.members.member-index + 1) c.deref-member-items.result.now)))) = rw (next_member_tree c.deref-member-items.result.now c.members.member-index c.member-item.result c.members-test.true c.member-item.is, c.in-Some.is) at c.members.invariant in
     let f = c.in_err-typed-in-Some.field-0.0 in
-    members_err c.args.clause.now (progress_of c.args.blocks.now.items c.args.functions.now.items) _ c.args.value_type _ _ f (search rules) (rw tree (if_some (bind_refusal f) _ _ (λ r e. fault_at_value c.args.clause.now.database.now c.args.clause.now.scopes.now (place_of c.args.clause.now.place) (progress_of c.args.blocks.now.items c.args.functions.now.items) (value_type_of c.args.value_type) (members (map member_of c.deref-member-items.result.now)) (progress_of c.members.blocks.items c.members.functions.items) (map bound_member_of c.members.bound.items) (expr_of c.in-Some.expr) (members (map member_of (drop (c.members.member-index + 1) c.deref-member-items.result.now))) r left e) c.in_err-typed-in-Some.ensures))
+    members_err c.args.clause.now (progress_of c.args.blocks.now.items c.args.functions.now.items) _ c.args.value_type _ _ f (search rules) (rw tree (if_some (bind_refusal f) _ _ (λ r e. fault_at_value c.args.clause.now.database.now c.args.clause.now.scopes.now (place_of c.args.clause.now.place) (progress_of c.args.blocks.now.items c.args.functions.now.items) (value_type_of c.args.value_type) (member_list (map member_of c.deref-member-items.result.now)) (progress_of c.members.blocks.items c.members.functions.items) (map bound_member_of c.members.bound.items) (expr_of c.in-Some.expr) (member_list (map member_of (drop (c.members.member-index + 1) c.deref-member-items.result.now))) r left e) c.in_err-typed-in-Some.ensures))
 
 -- src/condition.rt:205:17
 pub condition::bound_members-returns-in_err-judge_kinds-in-Some :
     goal.condition::bound_members-returns-in_err-judge_kinds-in-Some
 condition::bound_members-returns-in_err-judge_kinds-in-Some t c =
-    let tree = ap expr_of c.in-InList.is ∙ of_in_list c.in-InList.start c.in-InList.negated c.in-InList.value c.in-InList.members ∙ ap (λ xs. spec.InList c.in-InList.negated (expr_of c.in-InList.value.value) (members (map member_of xs))) (sym c.deref-member-items.ensures.value) in
-    let left : MembersLeft c.args.clause.now.database.now c.args.clause.now.scopes.now (place_of c.args.clause.now.place) (progress_of c.args.blocks.now.items c.args.functions.now.items) (value_type_of c.args.value_type) (members (map member_of c.deref-member-items.result.now)) (progress_of c.members.blocks.items c.members.functions.items) (map bound_member_of c.members.bound.items) (spec.Member (expr_of c.in-Some.expr) (members (map member_of (drop (c.members.member-index + 1) c.deref-member-items.result.now)))) = rw (next_member_tree c.deref-member-items.result.now c.members.member-index c.member-item.result c.members-test.true c.member-item.is, c.in-Some.is) at c.members.invariant in
+    let tree = ap expr_of c.in-InList.is ∙ of_in_list c.in-InList.start c.in-InList.negated c.in-InList.value c.in-InList.members ∙ ap (λ xs. spec.InList c.in-InList.negated (expr_of c.in-InList.value.value) (member_list (map member_of xs))) (sym c.deref-member-items.ensures.value) in
+    let left : MembersLeft c.args.clause.now.database.now c.args.clause.now.scopes.now (place_of c.args.clause.now.place) (progress_of c.args.blocks.now.items c.args.functions.now.items) (value_type_of c.args.value_type) (member_list (map member_of c.deref-member-items.result.now)) (progress_of c.members.blocks.items c.members.functions.items) (map bound_member_of c.members.bound.items) (spec.Member (expr_of c.in-Some.expr) (member_list (map member_of (drop (c.members.member-index + 1) c.deref-member-items.result.now)))) = rw (next_member_tree c.deref-member-items.result.now c.members.member-index c.member-item.result c.members-test.true c.member-item.is, c.in-Some.is) at c.members.invariant in
     let q = c.in_err-judge_kinds-in-Some.field-0.0 in
     members_refused c.args.clause.now (progress_of c.args.blocks.now.items c.args.functions.now.items) _ c.args.value_type _ _ q MixedKinds (is_refused _ q c.from_residual-in_err-judge_kinds-in-Some.ensures) c.in_err-judge_kinds-in-Some.ensures.refused
-    (rw tree (kinds_at_value c.args.clause.now.database.now c.args.clause.now.scopes.now (place_of c.args.clause.now.place) (progress_of c.args.blocks.now.items c.args.functions.now.items) (value_type_of c.args.value_type) (value_type_of c.in_ok-typed-in-Some.typed.value_type) (members (map member_of c.deref-member-items.result.now)) (progress_of c.members.blocks.items c.members.functions.items) (progress_of c.value.new.blocks.items c.value.new.functions.items) (map bound_member_of c.members.bound.items) (expr_of c.in-Some.expr) (value_of c.in_ok-typed-in-Some.typed.value) (members (map member_of (drop (c.members.member-index + 1) c.deref-member-items.result.now))) left c.in_ok-typed-in-Some.ensures c.in_err-judge_kinds-in-Some.ensures.apart))
+    (rw tree (kinds_at_value c.args.clause.now.database.now c.args.clause.now.scopes.now (place_of c.args.clause.now.place) (progress_of c.args.blocks.now.items c.args.functions.now.items) (value_type_of c.args.value_type) (value_type_of c.in_ok-typed-in-Some.typed.value_type) (member_list (map member_of c.deref-member-items.result.now)) (progress_of c.members.blocks.items c.members.functions.items) (progress_of c.value.new.blocks.items c.value.new.functions.items) (map bound_member_of c.members.bound.items) (expr_of c.in-Some.expr) (value_of c.in_ok-typed-in-Some.typed.value) (member_list (map member_of (drop (c.members.member-index + 1) c.deref-member-items.result.now))) left c.in_ok-typed-in-Some.ensures c.in_err-judge_kinds-in-Some.ensures.apart))
 
 -- src/condition.rt:201:5
 pub condition::bound_members-members-preserved : goal.condition::bound_members-members-preserved
 condition::bound_members-members-preserved t c =
     elim c.match-member.branch [
-      | condition::bound_members-in-Some+in_ok-typed-in-Some+in_ok-judge_kinds-in-Some+in_ok-push-in-Some w ↦ let left : MembersLeft c.args.clause.now.database.now c.args.clause.now.scopes.now (place_of c.args.clause.now.place) (progress_of c.args.blocks.now.items c.args.functions.now.items) (value_type_of c.args.value_type) (members (map member_of c.deref-member-items.result.now)) (progress_of c.members.blocks.items c.members.functions.items) (map bound_member_of c.members.bound.items) (spec.Member (expr_of w.in-Some.expr) (members (map member_of (drop (c.members.member-index + 1) c.deref-member-items.result.now)))) = rw (next_member_tree c.deref-member-items.result.now c.members.member-index c.member-item.result c.members-test.true c.member-item.is, w.in-Some.is) at c.members.invariant in
+      | condition::bound_members-in-Some+in_ok-typed-in-Some+in_ok-judge_kinds-in-Some+in_ok-push-in-Some w ↦ let left : MembersLeft c.args.clause.now.database.now c.args.clause.now.scopes.now (place_of c.args.clause.now.place) (progress_of c.args.blocks.now.items c.args.functions.now.items) (value_type_of c.args.value_type) (member_list (map member_of c.deref-member-items.result.now)) (progress_of c.members.blocks.items c.members.functions.items) (map bound_member_of c.members.bound.items) (spec.Member (expr_of w.in-Some.expr) (member_list (map member_of (drop (c.members.member-index + 1) c.deref-member-items.result.now)))) = rw (next_member_tree c.deref-member-items.result.now c.members.member-index c.member-item.result c.members-test.true c.member-item.is, w.in-Some.is) at c.members.invariant in
           rw (w.blocks-is, w.functions-is, w.bound-is, w.in_ok-push-in-Some.ensures.items, pushed_member c.members.bound.items (Some w.in_ok-typed-in-Some.typed.value))
-          (past_value c.args.clause.now.database.now c.args.clause.now.scopes.now (place_of c.args.clause.now.place) (progress_of c.args.blocks.now.items c.args.functions.now.items) (value_type_of c.args.value_type) (value_type_of w.in_ok-typed-in-Some.typed.value_type) (members (map member_of c.deref-member-items.result.now)) (progress_of c.members.blocks.items c.members.functions.items) (progress_of w.value.new.blocks.items w.value.new.functions.items) (map bound_member_of c.members.bound.items) (expr_of w.in-Some.expr) (value_of w.in_ok-typed-in-Some.typed.value) (members (map member_of (drop (c.members.member-index + 1) c.deref-member-items.result.now))) left w.in_ok-typed-in-Some.ensures w.in_ok-judge_kinds-in-Some.ensures.alike (few_after c.args.clause.now.database.now c.args.clause.now.scopes.now (place_of c.args.clause.now.place) (progress_of c.members.blocks.items c.members.functions.items) (progress_of w.value.new.blocks.items w.value.new.functions.items) _ _ w.in_ok-typed-in-Some.ensures.adds))
-      | condition::bound_members-in-None+in_ok-push-in-None w ↦ let left : MembersLeft c.args.clause.now.database.now c.args.clause.now.scopes.now (place_of c.args.clause.now.place) (progress_of c.args.blocks.now.items c.args.functions.now.items) (value_type_of c.args.value_type) (members (map member_of c.deref-member-items.result.now)) (progress_of c.members.blocks.items c.members.functions.items) (map bound_member_of c.members.bound.items) (spec.NullMember (members (map member_of (drop (c.members.member-index + 1) c.deref-member-items.result.now)))) = rw (next_member_tree c.deref-member-items.result.now c.members.member-index c.member-item.result c.members-test.true c.member-item.is, w.in-None.is) at c.members.invariant in
-          rw (w.blocks-is, w.functions-is, w.bound-is, w.in_ok-push-in-None.ensures.items, pushed_member c.members.bound.items None) (past_null c.args.clause.now.database.now c.args.clause.now.scopes.now (place_of c.args.clause.now.place) (progress_of c.args.blocks.now.items c.args.functions.now.items) (value_type_of c.args.value_type) (members (map member_of c.deref-member-items.result.now)) (progress_of c.members.blocks.items c.members.functions.items) (map bound_member_of c.members.bound.items) (members (map member_of (drop (c.members.member-index + 1) c.deref-member-items.result.now))) left)
+          (past_value c.args.clause.now.database.now c.args.clause.now.scopes.now (place_of c.args.clause.now.place) (progress_of c.args.blocks.now.items c.args.functions.now.items) (value_type_of c.args.value_type) (value_type_of w.in_ok-typed-in-Some.typed.value_type) (member_list (map member_of c.deref-member-items.result.now)) (progress_of c.members.blocks.items c.members.functions.items) (progress_of w.value.new.blocks.items w.value.new.functions.items) (map bound_member_of c.members.bound.items) (expr_of w.in-Some.expr) (value_of w.in_ok-typed-in-Some.typed.value) (member_list (map member_of (drop (c.members.member-index + 1) c.deref-member-items.result.now))) left w.in_ok-typed-in-Some.ensures w.in_ok-judge_kinds-in-Some.ensures.alike (few_after c.args.clause.now.database.now c.args.clause.now.scopes.now (place_of c.args.clause.now.place) (progress_of c.members.blocks.items c.members.functions.items) (progress_of w.value.new.blocks.items w.value.new.functions.items) _ _ w.in_ok-typed-in-Some.ensures.adds))
+      | condition::bound_members-in-None+in_ok-push-in-None w ↦ let left : MembersLeft c.args.clause.now.database.now c.args.clause.now.scopes.now (place_of c.args.clause.now.place) (progress_of c.args.blocks.now.items c.args.functions.now.items) (value_type_of c.args.value_type) (member_list (map member_of c.deref-member-items.result.now)) (progress_of c.members.blocks.items c.members.functions.items) (map bound_member_of c.members.bound.items) (spec.NullMember (member_list (map member_of (drop (c.members.member-index + 1) c.deref-member-items.result.now)))) = rw (next_member_tree c.deref-member-items.result.now c.members.member-index c.member-item.result c.members-test.true c.member-item.is, w.in-None.is) at c.members.invariant in
+          rw (w.blocks-is, w.functions-is, w.bound-is, w.in_ok-push-in-None.ensures.items, pushed_member c.members.bound.items None) (past_null c.args.clause.now.database.now c.args.clause.now.scopes.now (place_of c.args.clause.now.place) (progress_of c.args.blocks.now.items c.args.functions.now.items) (value_type_of c.args.value_type) (member_list (map member_of c.deref-member-items.result.now)) (progress_of c.members.blocks.items c.members.functions.items) (map bound_member_of c.members.bound.items) (member_list (map member_of (drop (c.members.member-index + 1) c.deref-member-items.result.now))) left)
     ]
 
 -- src/condition.rt:188:1
 pub condition::bound_members-returns : goal.condition::bound_members-returns
 condition::bound_members-returns t c =
-    let tree = ap expr_of c.in-InList.is ∙ of_in_list c.in-InList.start c.in-InList.negated c.in-InList.value c.in-InList.members ∙ ap (λ xs. spec.InList c.in-InList.negated (expr_of c.in-InList.value.value) (members (map member_of xs))) (sym c.deref-member-items.ensures.value) in
-    let left : MembersLeft c.args.clause.now.database.now c.args.clause.now.scopes.now (place_of c.args.clause.now.place) (progress_of c.args.blocks.now.items c.args.functions.now.items) (value_type_of c.args.value_type) (members (map member_of c.deref-member-items.result.now)) (progress_of c.members.blocks.items c.members.functions.items) (map bound_member_of c.members.bound.items) spec.NoMember = rw (no_member_tree c.deref-member-items.result.now c.members.member-index c.members-test.false) at c.members.invariant in
-    rw tree (end_members c.args.clause.now.database.now c.args.clause.now.scopes.now (place_of c.args.clause.now.place) (progress_of c.args.blocks.now.items c.args.functions.now.items) (value_type_of c.args.value_type) (members (map member_of c.deref-member-items.result.now)) (progress_of c.members.blocks.items c.members.functions.items) (map bound_member_of c.members.bound.items) left)
+    let tree = ap expr_of c.in-InList.is ∙ of_in_list c.in-InList.start c.in-InList.negated c.in-InList.value c.in-InList.members ∙ ap (λ xs. spec.InList c.in-InList.negated (expr_of c.in-InList.value.value) (member_list (map member_of xs))) (sym c.deref-member-items.ensures.value) in
+    let left : MembersLeft c.args.clause.now.database.now c.args.clause.now.scopes.now (place_of c.args.clause.now.place) (progress_of c.args.blocks.now.items c.args.functions.now.items) (value_type_of c.args.value_type) (member_list (map member_of c.deref-member-items.result.now)) (progress_of c.members.blocks.items c.members.functions.items) (map bound_member_of c.members.bound.items) spec.NoMember = rw (no_member_tree c.deref-member-items.result.now c.members.member-index c.members-test.false) at c.members.invariant in
+    rw tree (end_members c.args.clause.now.database.now c.args.clause.now.scopes.now (place_of c.args.clause.now.place) (progress_of c.args.blocks.now.items c.args.functions.now.items) (value_type_of c.args.value_type) (member_list (map member_of c.deref-member-items.result.now)) (progress_of c.members.blocks.items c.members.functions.items) (map bound_member_of c.members.bound.items) left)
 
 -- src/condition.rt:225:11
 pub condition::column_of_query-returns-in_err-block :
@@ -839,8 +839,8 @@ pub condition::in_list-returns-then-len-gt-MAX_MEMBERS :
     goal.condition::in_list-returns-then-len-gt-MAX_MEMBERS
 condition::in_list-returns-then-len-gt-MAX_MEMBERS t c =
     let tree = ap expr_of c.in-InList.is ∙ of_in_list c.in-InList.start c.in-InList.negated c.in-InList.operand c.in-InList.members in
-    let many : 256 < member_count (members (map member_of c.in-InList.members.items)) = (let k = as_many_members c.in-InList.members.items in let l = c.len.ensures in let h = c.if-len-gt-MAX_MEMBERS.true in omega (arith, k, l, h)) in
-    rw tree (many_in_list c.args.clause.now.database.now c.args.clause.now.scopes.now (place_of c.args.clause.now.place) (progress_of c.args.blocks.now.items c.args.functions.now.items) c.in-InList.negated (expr_of c.in-InList.operand.value) (members (map member_of c.in-InList.members.items)) many)
+    let many : 256 < member_count (member_list (map member_of c.in-InList.members.items)) = (let k = as_many_members c.in-InList.members.items in let l = c.len.ensures in let h = c.if-len-gt-MAX_MEMBERS.true in omega (arith, k, l, h)) in
+    rw tree (many_in_list c.args.clause.now.database.now c.args.clause.now.scopes.now (place_of c.args.clause.now.place) (progress_of c.args.blocks.now.items c.args.functions.now.items) c.in-InList.negated (expr_of c.in-InList.operand.value) (member_list (map member_of c.in-InList.members.items)) many)
 
 pub condition::in_list-returns-in_err-typed :
     goal.condition::in_list-returns-in_err-typed
@@ -848,7 +848,7 @@ condition::in_list-returns-in_err-typed t c =
     let tree = ap expr_of c.in-InList.is ∙ of_in_list c.in-InList.start c.in-InList.negated c.in-InList.operand c.in-InList.members in
     let f = c.in_err-typed.field-0.0 in
     let inner : IfSome (bind_refusal f) (RefusesValue c.args.clause.now.database.now c.args.clause.now.scopes.now (place_of c.args.clause.now.place) (progress_of c.args.blocks.now.items c.args.functions.now.items) (expr_of c.in-InList.operand.value)) = rw c.deref.ensures at c.in_err-typed.ensures in
-    condition_err c.args.clause.now (progress_of c.args.blocks.now.items c.args.functions.now.items) _ _ _ f (search rules) (rw tree (if_some (bind_refusal f) _ _ (in_list_operand c.args.clause.now.database.now c.args.clause.now.scopes.now (place_of c.args.clause.now.place) (progress_of c.args.blocks.now.items c.args.functions.now.items) c.in-InList.negated (expr_of c.in-InList.operand.value) (members (map member_of c.in-InList.members.items))) inner))
+    condition_err c.args.clause.now (progress_of c.args.blocks.now.items c.args.functions.now.items) _ _ _ f (search rules) (rw tree (if_some (bind_refusal f) _ _ (in_list_operand c.args.clause.now.database.now c.args.clause.now.scopes.now (place_of c.args.clause.now.place) (progress_of c.args.blocks.now.items c.args.functions.now.items) c.in-InList.negated (expr_of c.in-InList.operand.value) (member_list (map member_of c.in-InList.members.items))) inner))
 
 pub condition::in_list-bound_members-requires : goal.condition::in_list-bound_members-requires
 condition::in_list-bound_members-requires t c =
@@ -861,18 +861,18 @@ condition::in_list-returns-in_err-members t c =
     let tree = ap expr_of c.in-InList.is ∙ of_in_list c.in-InList.start c.in-InList.negated c.in-InList.operand c.in-InList.members in
     let first : BindsValue c.args.clause.now.database.now c.args.clause.now.scopes.now (place_of c.args.clause.now.place) (progress_of c.args.blocks.now.items c.args.functions.now.items) (progress_of c.value.new.blocks.items c.value.new.functions.items) (expr_of c.in-InList.operand.value) (value_of c.in_ok-typed.typed.value) (value_type_of c.in_ok-typed.typed.value_type) = rw c.deref.ensures at c.in_ok-typed.ensures in
     let f = c.in_err-members.field-0.0 in
-    let inner : IfSome (bind_refusal f) (RefusesMembers c.args.clause.now.database.now c.args.clause.now.scopes.now (place_of c.args.clause.now.place) (progress_of c.value.new.blocks.items c.value.new.functions.items) (value_type_of c.in_ok-typed.typed.value_type) (members (map member_of c.in-InList.members.items))) = rw tree at c.in_err-members.ensures in
-    condition_err c.args.clause.now (progress_of c.args.blocks.now.items c.args.functions.now.items) _ _ _ f (search rules) (rw tree (if_some (bind_refusal f) _ _ (λ r x. in_list_members c.args.clause.now.database.now c.args.clause.now.scopes.now (place_of c.args.clause.now.place) (progress_of c.args.blocks.now.items c.args.functions.now.items) (progress_of c.value.new.blocks.items c.value.new.functions.items) c.in-InList.negated (expr_of c.in-InList.operand.value) (members (map member_of c.in-InList.members.items)) (value_of c.in_ok-typed.typed.value) (value_type_of c.in_ok-typed.typed.value_type) r first x) inner))
+    let inner : IfSome (bind_refusal f) (RefusesMembers c.args.clause.now.database.now c.args.clause.now.scopes.now (place_of c.args.clause.now.place) (progress_of c.value.new.blocks.items c.value.new.functions.items) (value_type_of c.in_ok-typed.typed.value_type) (member_list (map member_of c.in-InList.members.items))) = rw tree at c.in_err-members.ensures in
+    condition_err c.args.clause.now (progress_of c.args.blocks.now.items c.args.functions.now.items) _ _ _ f (search rules) (rw tree (if_some (bind_refusal f) _ _ (λ r x. in_list_members c.args.clause.now.database.now c.args.clause.now.scopes.now (place_of c.args.clause.now.place) (progress_of c.args.blocks.now.items c.args.functions.now.items) (progress_of c.value.new.blocks.items c.value.new.functions.items) c.in-InList.negated (expr_of c.in-InList.operand.value) (member_list (map member_of c.in-InList.members.items)) (value_of c.in_ok-typed.typed.value) (value_type_of c.in_ok-typed.typed.value_type) r first x) inner))
 
 pub condition::in_list-returns :
     goal.condition::in_list-returns
 condition::in_list-returns t c =
     let tree = ap expr_of c.in-InList.is ∙ of_in_list c.in-InList.start c.in-InList.negated c.in-InList.operand c.in-InList.members in
     let first : BindsValue c.args.clause.now.database.now c.args.clause.now.scopes.now (place_of c.args.clause.now.place) (progress_of c.args.blocks.now.items c.args.functions.now.items) (progress_of c.value.new.blocks.items c.value.new.functions.items) (expr_of c.in-InList.operand.value) (value_of c.in_ok-typed.typed.value) (value_type_of c.in_ok-typed.typed.value_type) = rw c.deref.ensures at c.in_ok-typed.ensures in
-    let list : BindsMembers c.args.clause.now.database.now c.args.clause.now.scopes.now (place_of c.args.clause.now.place) (progress_of c.value.new.blocks.items c.value.new.functions.items) (progress_of c.bound_members.new.blocks.items c.bound_members.new.functions.items) (value_type_of c.in_ok-typed.typed.value_type) (members (map member_of c.in-InList.members.items)) (map bound_member_of c.in_ok-members.members.items) = rw tree at c.in_ok-members.ensures in
-    let few : HasManyMembers (spec.InList c.in-InList.negated (expr_of c.in-InList.operand.value) (members (map member_of c.in-InList.members.items))) → ⊥ = λ m. absurd (let k = as_many_members c.in-InList.members.items in let l = c.len.ensures in let h = c.if-len-gt-MAX_MEMBERS.false in omega (arith, m, k, l, h)) in
+    let list : BindsMembers c.args.clause.now.database.now c.args.clause.now.scopes.now (place_of c.args.clause.now.place) (progress_of c.value.new.blocks.items c.value.new.functions.items) (progress_of c.bound_members.new.blocks.items c.bound_members.new.functions.items) (value_type_of c.in_ok-typed.typed.value_type) (member_list (map member_of c.in-InList.members.items)) (map bound_member_of c.in_ok-members.members.items) = rw tree at c.in_ok-members.ensures in
+    let few : HasManyMembers (spec.InList c.in-InList.negated (expr_of c.in-InList.operand.value) (member_list (map member_of c.in-InList.members.items))) → ⊥ = λ m. absurd (let k = as_many_members c.in-InList.members.items in let l = c.len.ensures in let h = c.if-len-gt-MAX_MEMBERS.false in omega (arith, m, k, l, h)) in
     rw (tree, bound_in_list c.in-InList.negated c.in_ok-typed.typed.value c.in_ok-members.members)
-    (binds_in_list c.args.clause.now.database.now c.args.clause.now.scopes.now (place_of c.args.clause.now.place) (progress_of c.args.blocks.now.items c.args.functions.now.items) (progress_of c.value.new.blocks.items c.value.new.functions.items) (progress_of c.bound_members.new.blocks.items c.bound_members.new.functions.items) c.in-InList.negated (expr_of c.in-InList.operand.value) (members (map member_of c.in-InList.members.items)) (value_of c.in_ok-typed.typed.value) (value_type_of c.in_ok-typed.typed.value_type) _ first list few)
+    (binds_in_list c.args.clause.now.database.now c.args.clause.now.scopes.now (place_of c.args.clause.now.place) (progress_of c.args.blocks.now.items c.args.functions.now.items) (progress_of c.value.new.blocks.items c.value.new.functions.items) (progress_of c.bound_members.new.blocks.items c.bound_members.new.functions.items) c.in-InList.negated (expr_of c.in-InList.operand.value) (member_list (map member_of c.in-InList.members.items)) (value_of c.in_ok-typed.typed.value) (value_type_of c.in_ok-typed.typed.value_type) _ first list few)
 
 pub condition::in_query-returns-in_err-typed :
     goal.condition::in_query-returns-in_err-typed

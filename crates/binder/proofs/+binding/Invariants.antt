@@ -3,7 +3,7 @@ use Rattle.query_tree.specs.Bound.{operand_of as bound_operand_of, item_of, valu
 use Rattle.parse_tree.specs.Trees.{operand_of, item_of as listed_item_of, member_of}
 use Rattle.query_rules.specs.Meaning.{place_of}
 use Rattle.binder.specs.Meaning.{progress_of}
-use Rattle.definitions.specs.Grammar.{operands, items, members}
+use Rattle.definitions.specs.Grammar.{operands, items, member_list}
 use Rattle.binder.proofs.Lines.{OperandsLeft, PartsLeft}
 use Rattle.std.specs.Prelude.{option_map}
 use Rattle.binder.specs.Blocks.{IsOnly}
@@ -15,8 +15,8 @@ use Rattle.binder.proofs.+binding.Given as goal
 abbrev pub invariant-condition::bound_members-members :
     goal.invariant-condition::bound_members-members
 invariant-condition::bound_members-members l =
-    MembersLeft l.clause.database.now l.clause.scopes.now (place_of l.clause.place) (progress_of l.initial.blocks.items l.initial.functions.items) (value_type_of l.value_type) (members (map member_of l.member-items))
-    (progress_of l.blocks.items l.functions.items) (map bound_member_of l.bound.items) (members (map member_of (drop l.member-index l.member-items)))
+    MembersLeft l.clause.database.now l.clause.scopes.now (place_of l.clause.place) (progress_of l.initial.blocks.items l.initial.functions.items) (value_type_of l.value_type) (member_list (map member_of l.member-items))
+    (progress_of l.blocks.items l.functions.items) (map bound_member_of l.bound.items) (member_list (map member_of (drop l.member-index l.member-items)))
 
 -- the conditions behind the first
 abbrev pub invariant-condition::logical-operands : goal.invariant-condition::logical-operands

@@ -4,7 +4,7 @@ use Rattle.std.proofs.lemmas.List.{length-append}
 use Rattle.definitions.specs.Limits.{most_conjuncts}
 use Rattle.definitions.specs.Table.{Database}
 use Rattle.definitions.specs.Statement as t
-use Rattle.definitions.specs.Statement.{Expr, Operands}
+use Rattle.definitions.specs.Statement.{Expr, LineOperands}
 use Rattle.definitions.specs.Binding.Scopes.{Scopes}
 use Rattle.definitions.specs.Binding.BoundForm.{Next, after, bound_condition, bound_parts, bound_option}
 use Rattle.definitions.specs.Binding.Faults.{conjunct_count, operands_count}
@@ -42,14 +42,14 @@ module _ (db : Database) (scopes : Scopes) where
     of_expr (t.String codes) next = lit≤ tt
     of_expr (t.Signed minus e) next = lit≤ tt
 
-    of_operands : (others : Operands) (next : Next) → length (conjuncts_of_parts (bound_parts db scopes next others)) ≤ operands_count others
+    of_operands : (others : LineOperands) (next : Next) → length (conjuncts_of_parts (bound_parts db scopes next others)) ≤ operands_count others
     of_operands t.NoOperand next = lit≤ tt
     of_operands (t.Operand operator e others) next =
         let x = of_expr e next in
         let y = of_operands others (after db scopes e next) in
         omega (arith, x, y, length-append (conjuncts_of (bound_condition db scopes next e)) (conjuncts_of_parts (bound_parts db scopes (after db scopes e next) others)))
 
-  pub few_conjuncts : (c : t.Condition) (next : Next) → AllByRecursion (λ e. most_conjuncts < conjunct_count e → ⊥) (condition_values c)
+  pub few_conjuncts : (c : t.SearchClause) (next : Next) → AllByRecursion (λ e. most_conjuncts < conjunct_count e → ⊥) (condition_values c)
       → length (conjuncts_of_option (bound_option db scopes next c)) ≤ most_conjuncts
   few_conjuncts t.Absent next h = lit≤ tt
   few_conjuncts (t.Present e) next h = let x = of_expr e next in let own = h.0 in omega (arith, x, own)

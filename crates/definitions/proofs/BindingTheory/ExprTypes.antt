@@ -9,10 +9,10 @@ use Rattle.definitions.specs.ValueType.{ValueType, NumberType, TextType, type_of
 use Rattle.definitions.specs.Arithmetic.{quotient_scale}
 use Rattle.definitions.specs.Table.{Database}
 use Rattle.definitions.specs.Statement as t
-use Rattle.definitions.specs.Statement.{Expr, Operands, Block, SetFunction, LineOperator}
+use Rattle.definitions.specs.Statement.{Expr, LineOperands, QuerySpecification, SetFunction, LineOperator}
 use Rattle.definitions.specs.Binding.Scopes.{Scopes, Found, Resolution, NotThere, Ambiguous, Named, scope_of, are_there, all_columns, resolve}
 use Rattle.definitions.specs.Binding.Types.{found_type, joined_type, function_type, single_type, expr_type, chain_type, query_type}
-use Rattle.definitions.specs.Binding.Parts.{parts, operand_parts, blocks_in, operand_blocks, condition_values, condition_blocks, block_blocks}
+use Rattle.definitions.specs.Binding.Parts.{parts, operand_parts, placed_blocks_in, placed_operand_blocks, condition_values, condition_blocks, block_blocks}
 use Rattle.definitions.specs.Binding.BoundForm.{Next, known_type, operator_of, bound_column, after, bound_value, bound_operands, select_items}
 use Rattle.definitions.specs.Binding.Faults.{is_logical, is_condition, same, operands_are, NotOneColumn, IsGreat, HasGreatProduct, IsNoColumn, SomeOperandIsText, WantsNumbers, list_of}
 use Rattle.definitions.specs.Binding.Formed.{kind_type, only_type}
@@ -25,20 +25,20 @@ use Rattle.definitions.proofs.BindingTheory.SoundBlocks.{IsSoundPart, IsSoundArg
 pub record IsClean (db : Database) (scopes : Scopes) (e : Expr) : Type 0 where
   pub there : IsTrue (are_there scopes)
   pub parts : AllByRecursion (IsSoundPart db scopes) (parts e)
-  pub inner : AllByRecursion (IsGood db) (blocks_in db scopes e)
+  pub inner : AllByRecursion (IsGood db) (placed_blocks_in db scopes e)
 
 pub record IsTyped (db : Database) (scopes : Scopes) (e : Expr) : Type 0 where
   pub type : ValueType
   pub typed : expr_type db scopes e ≡ Some type
   pub bound : (next : Next) → value_type (bound_value db scopes next e) ≡ Some type
 
-pub record AreTyped (db : Database) (scopes : Scopes) (left : ℕ) (others : Operands) : Type 0 where
+pub record AreTyped (db : Database) (scopes : Scopes) (left : ℕ) (others : LineOperands) : Type 0 where
   pub type : ValueType
   pub typed : chain_type db scopes (Some (NumberType left)) others ≡ Some type
   pub bound : (next : Next) → operands_type (Some (NumberType left)) (bound_operands db scopes next others) ≡ Some type
 
 -- a query has one column, of the type
-pub record IsTypedQuery (db : Database) (scopes : Scopes) (query : Block) : Type 0 where
+pub record IsTypedQuery (db : Database) (scopes : Scopes) (query : QuerySpecification) : Type 0 where
   pub type : ValueType
   pub typed : query_type db scopes query ≡ Some type
   pub bound : (next : Next) → only_type (select_items db (scope_of db (t.block_sources query) ∷ scopes) next (list_of query)) ≡ Some type
@@ -122,7 +122,7 @@ mutual
   typed db scopes (t.Line first others) h c =
       let right = both (same false (is_condition first)) (operands_are false others) (subst (λ l. same l (is_condition first) && operands_are l others ≡ true) c h.parts.0.itself.right) in
       let ps = split (IsSoundPart db scopes) (parts first) (operand_parts others) h.parts.1 in
-      let bs = split (IsGood db) (blocks_in db scopes first) (operand_blocks db scopes others) h.inner in
+      let bs = split (IsGood db) (placed_blocks_in db scopes first) (placed_operand_blocks db scopes others) h.inner in
       let s = typed db scopes first (record { there = h.there; parts = ps.0; inner = bs.0 }) (negated (is_condition first) right.0) in
       let n = number_of s.type (λ k. h.parts.0.itself.kinds (is_wrong (is_logical others) c, inl (s.type, s.typed, k))) in
       let left : expr_type db scopes first ≡ Some (NumberType n.0) = s.typed ∙ ap Some n.1 in
@@ -152,13 +152,13 @@ mutual
   typed db scopes (t.InQuery n e query) h c = absurd cc
   typed db scopes (t.Exists query) h c = absurd cc
 
-  pub typed_operands : (db : Database) (scopes : Scopes) (left : ℕ) (others : Operands) → IsTrue (are_there scopes) → AllByRecursion (IsSoundPart db scopes) (operand_parts others) → AllByRecursion (IsGood db) (operand_blocks db scopes others)
+  pub typed_operands : (db : Database) (scopes : Scopes) (left : ℕ) (others : LineOperands) → IsTrue (are_there scopes) → AllByRecursion (IsSoundPart db scopes) (operand_parts others) → AllByRecursion (IsGood db) (placed_operand_blocks db scopes others)
       → operands_are false others ≡ true → (SomeOperandIsText db scopes others → ⊥) → (HasGreatProduct db scopes (Some (NumberType left)) others → ⊥) → AreTyped db scopes left others
   typed_operands db scopes left t.NoOperand there p i v numbers fine = record { type = NumberType left; typed = refl; bound = λ next. refl }
   typed_operands db scopes left (t.Operand o e others) there p i v numbers fine =
       let right = both (same false (is_condition e)) (operands_are false others) v in
       let ps = split (IsSoundPart db scopes) (parts e) (operand_parts others) p in
-      let bs = split (IsGood db) (blocks_in db scopes e) (operand_blocks db scopes others) i in
+      let bs = split (IsGood db) (placed_blocks_in db scopes e) (placed_operand_blocks db scopes others) i in
       let s = typed db scopes e (record { there = there; parts = ps.0; inner = bs.0 }) (negated (is_condition e) right.0) in
       let n = number_of s.type (λ k. numbers (inl (s.type, s.typed, k))) in
       let known : expr_type db scopes e ≡ Some (NumberType n.0) = s.typed ∙ ap Some n.1 in
@@ -173,7 +173,7 @@ mutual
             ∙ rest.bound (after db scopes e next);
       }
 
-  pub typed_query : (db : Database) (scopes : Scopes) (query : Block) → IsTrue (are_there scopes) → AllByRecursion (IsGood db) (block_blocks db scopes query) → (NotOneColumn db query → ⊥) → IsTypedQuery db scopes query
+  pub typed_query : (db : Database) (scopes : Scopes) (query : QuerySpecification) → IsTrue (are_there scopes) → AllByRecursion (IsGood db) (block_blocks db scopes query) → (NotOneColumn db query → ⊥) → IsTypedQuery db scopes query
   typed_query db scopes (t.Specification d t.Asterisk sources w g h) there good count =
       let s = sound_block db (record { outer = scopes; block = t.Specification d t.Asterisk sources w g h }) good.0 there in
       let columns = single (all_columns (scope_of db sources)) (one _ (λ n. count (s.own, n))) in
@@ -184,9 +184,9 @@ mutual
       let s = sound_block db (record { outer = scopes; block = t.Specification d (t.Listed (t.AddItem e alias t.NoItem)) sources w g h }) good.0 there in
       let inner = scope_of db sources ∷ scopes in
       let ps = split (IsSoundPart db inner) (parts e) (flat_map parts (condition_values h)) s.shown in
-      let first = split (IsGood db) (((blocks_in db inner e) ++ []) ++ condition_blocks db inner w) (condition_blocks db inner h) good.1 in
-      let second = split (IsGood db) ((blocks_in db inner e) ++ []) (condition_blocks db inner w) first.0 in
-      let third = split (IsGood db) (blocks_in db inner e) [] second.0 in
+      let first = split (IsGood db) (((placed_blocks_in db inner e) ++ []) ++ condition_blocks db inner w) (condition_blocks db inner h) good.1 in
+      let second = split (IsGood db) ((placed_blocks_in db inner e) ++ []) (condition_blocks db inner w) first.0 in
+      let third = split (IsGood db) (placed_blocks_in db inner e) [] second.0 in
       let v = typed db inner e (record { there = s.there; parts = ps.0; inner = third.0 }) s.values.0 in
       record { type = v.type; typed = chosen (are_there (scope_of db sources ∷ [])) (expr_type db inner e) v.type s.own v.typed; bound = λ next. v.bound next }
   typed_query db scopes (t.Specification d (t.Listed (t.AddItem e alias (t.AddItem f other more))) sources w g h) there good count =

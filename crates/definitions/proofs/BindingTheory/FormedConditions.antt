@@ -5,11 +5,11 @@ use Rattle.std.specs.List.{AllByRecursion, list_all}
 use Rattle.std.proofs.lemmas.List.{append_assoc}
 use Rattle.definitions.specs.Value.{Numbers, Texts}
 use Rattle.definitions.specs.Statement as t
-use Rattle.definitions.specs.Statement.{Expr, Operands, Members}
+use Rattle.definitions.specs.Statement.{Expr, LineOperands, Members}
 use Rattle.definitions.specs.ValueType.{ValueType, NumberType, TextType, type_kind}
 use Rattle.definitions.specs.Binding.Scopes.{are_there}
 use Rattle.definitions.specs.Binding.Types.{expr_type, query_type}
-use Rattle.definitions.specs.Binding.Parts.{PlacedBlock, is_function, parts, operand_parts, member_parts, blocks_in, operand_blocks, member_blocks, block_blocks}
+use Rattle.definitions.specs.Binding.Parts.{PlacedBlock, is_function, parts, operand_parts, member_parts, placed_blocks_in, placed_operand_blocks, member_blocks, block_blocks}
 use Rattle.definitions.specs.Binding.BoundForm.{Next, connected, after, bound_value, bound_members, bound_condition, bound_parts}
 use Rattle.definitions.specs.Binding.Faults.{is_condition, same, operands_are, members_are_values, Differ, NotOneColumn, SomeMemberDiffers}
 use Rattle.definitions.specs.Binding.Formed.{column_type}
@@ -53,7 +53,7 @@ module _ (s : Setting) where
     pub functions : FunctionsAt s next.function ps
 
   abbrev pub IsReadyExpr : Next → Expr → Type 0
-  IsReadyExpr next e = IsReady next (parts e) (blocks_in s.db (scopes_in s) e)
+  IsReadyExpr next e = IsReady next (parts e) (placed_blocks_in s.db (scopes_in s) e)
 
   abbrev pub behind : Next → List Expr → List PlacedBlock → Next
   behind next ps bs = record { block = next.block + length bs; function = next.function + length (filter is_function ps) }
@@ -74,11 +74,11 @@ module _ (s : Setting) where
       (x.0, y.0, y.1)
 
   -- a value and a query
-  ready_query : (next : Next) (e : Expr) (query : t.Block) → IsReady next (parts e) (blocks_in s.db (scopes_in s) e ++ block_blocks s.db (scopes_in s) query)
-      → IsReadyExpr next e × IsReady (behind next (parts e) (blocks_in s.db (scopes_in s) e)) [] (block_blocks s.db (scopes_in s) query)
+  ready_query : (next : Next) (e : Expr) (query : t.QuerySpecification) → IsReady next (parts e) (placed_blocks_in s.db (scopes_in s) e ++ block_blocks s.db (scopes_in s) query)
+      → IsReadyExpr next e × IsReady (behind next (parts e) (placed_blocks_in s.db (scopes_in s) e)) [] (block_blocks s.db (scopes_in s) query)
   ready_query next e query h =
-      ready_both next (parts e) [] (blocks_in s.db (scopes_in s) e) (block_blocks s.db (scopes_in s) query)
-      (subst (λ ps. IsReady next ps (blocks_in s.db (scopes_in s) e ++ block_blocks s.db (scopes_in s) query)) (sym (nothing_more (parts e))) h)
+      ready_both next (parts e) [] (placed_blocks_in s.db (scopes_in s) e) (block_blocks s.db (scopes_in s) query)
+      (subst (λ ps. IsReady next ps (placed_blocks_in s.db (scopes_in s) e ++ block_blocks s.db (scopes_in s) query)) (sym (nothing_more (parts e))) h)
 
   no_function : (c : Bool) (k : ℕ) (e : Expr) (ps : List Expr) → c ≡ false → Numbered (IsAt s.functions) k (cond c (e ∷ ps) ps) → Numbered (IsAt s.functions) k ps
   no_function true k e ps h n = absurd cc
@@ -124,7 +124,7 @@ module _ (s : Setting) where
   members next type (t.NullMember others) h c apart = let m = members next type others h c apart in record { values = m.values; alike = m.alike }
   members next type (t.Member e others) h c apart =
       let right = both (not (is_condition e)) (members_are_values others) c in
-      let r = ready_both next (parts e) (member_parts others) (blocks_in s.db (scopes_in s) e) (member_blocks s.db (scopes_in s) others) h in
+      let r = ready_both next (parts e) (member_parts others) (placed_blocks_in s.db (scopes_in s) e) (member_blocks s.db (scopes_in s) others) h in
       let v = value next e r.0 (negated (is_condition e) right.0) in
       let m = members (after s.db (scopes_in s) e next) type others r.1 right.1 (λ d. apart (inr d)) in
       record { values = (v.bound, m.values); alike = together _ _ (are_comparable_too (Some type) _ (Some type) _ type v.type refl v.typed refl v.known (λ d. apart (inl d))) m.alike }
@@ -141,7 +141,7 @@ module _ (s : Setting) where
     pub sound : are_sound (column_type s.blocks) cs ≡ true
     pub tested : AllByRecursion (IsInner s) (q.tested_blocks_of_parts cs)
 
-  connected_test : (others : Operands) (cs : Conditions) → AreTests cs → IsTest (connected others cs)
+  connected_test : (others : LineOperands) (cs : Conditions) → AreTests cs → IsTest (connected others cs)
   connected_test t.NoOperand cs h = record { values = h.values; sound = h.sound; tested = h.tested }
   connected_test (t.Operand t.And e others) cs h = record { values = h.values; sound = h.sound; tested = h.tested }
   connected_test (t.Operand t.Or e others) cs h = record { values = h.values; sound = h.sound; tested = h.tested }
@@ -151,7 +151,7 @@ module _ (s : Setting) where
   connected_test (t.Operand t.Divided e others) cs h = record { values = h.values; sound = h.sound; tested = h.tested }
 
   -- a value against the column of a query
-  against : (next : Next) (e : Expr) (query : t.Block) (k : ℕ) (v : IsValue next e) → IsTrue (are_there (scopes_in s)) → AllByRecursion (IsGood s.db) (block_blocks s.db (scopes_in s) query) → AreNumbered s k (block_blocks s.db (scopes_in s) query)
+  against : (next : Next) (e : Expr) (query : t.QuerySpecification) (k : ℕ) (v : IsValue next e) → IsTrue (are_there (scopes_in s)) → AllByRecursion (IsGood s.db) (block_blocks s.db (scopes_in s) query) → AreNumbered s k (block_blocks s.db (scopes_in s) query)
       → (NotOneColumn s.db query → ⊥) → (Differ (expr_type s.db (scopes_in s) e) (query_type s.db (scopes_in s) query) → ⊥)
       → are_comparable (value_type (bound_value s.db (scopes_in s) next e)) (column_type s.blocks k) ≡ true
   against next e query k v there good numbered single apart =
@@ -162,14 +162,14 @@ module _ (s : Setting) where
     pub test : (next : Next) (e : Expr) → IsReadyExpr next e → is_condition e ≡ true → IsTest (bound_condition s.db (scopes_in s) next e)
     test next (t.Line first others) h c =
         let right = both (same true (is_condition first)) (operands_are true others) (subst (λ l. same l (is_condition first) && operands_are l others ≡ true) c h.parts.0.itself.right) in
-        let r = ready_both next (parts first) (operand_parts others) (blocks_in s.db (scopes_in s) first) (operand_blocks s.db (scopes_in s) others) (ready_inside next (t.Line first others) _ _ refl h) in
+        let r = ready_both next (parts first) (operand_parts others) (placed_blocks_in s.db (scopes_in s) first) (placed_operand_blocks s.db (scopes_in s) others) (ready_inside next (t.Line first others) _ _ refl h) in
         let x = test next first r.0 right.0 in
         let y = tests (after s.db (scopes_in s) first next) others r.1 right.1 in
         connected_test others _ (record { values = joined IsBound (q.values_of (bound_condition s.db (scopes_in s) next first)) _ x.values y.values; sound = together _ _ x.sound y.sound; tested = joined (IsInner s) (q.tested_blocks (bound_condition s.db (scopes_in s) next first)) _ x.tested y.tested })
     test next (t.Not e) h c = let x = test next e (ready_inside next (t.Not e) _ _ refl h) h.parts.0.itself.right in record { values = x.values; sound = x.sound; tested = x.tested }
     test next (t.Compare op left right) h c =
         let places = both (not (is_condition left)) (not (is_condition right)) h.parts.0.itself.right in
-        let r = ready_both next (parts left) (parts right) (blocks_in s.db (scopes_in s) left) (blocks_in s.db (scopes_in s) right) (ready_inside next (t.Compare op left right) _ _ refl h) in
+        let r = ready_both next (parts left) (parts right) (placed_blocks_in s.db (scopes_in s) left) (placed_blocks_in s.db (scopes_in s) right) (ready_inside next (t.Compare op left right) _ _ refl h) in
         let x = value next left r.0 (negated (is_condition left) places.0) in
         let y = value (after s.db (scopes_in s) left next) right r.1 (negated (is_condition right) places.1) in
         record { values = (x.bound, (y.bound, tt)); sound = alike next (after s.db (scopes_in s) left next) left right x y h.parts.0.itself.kinds; tested = tt }
@@ -183,7 +183,7 @@ module _ (s : Setting) where
     test next (t.Between n e low high) h c =
         let places = both (not (is_condition e) && not (is_condition low)) (not (is_condition high)) h.parts.0.itself.right in
         let more = both (not (is_condition e)) (not (is_condition low)) places.0 in
-        let r = ready_three next (parts e) (parts low) (parts high) (blocks_in s.db (scopes_in s) e) (blocks_in s.db (scopes_in s) low) (blocks_in s.db (scopes_in s) high) (ready_inside next (t.Between n e low high) _ _ refl h) in
+        let r = ready_three next (parts e) (parts low) (parts high) (placed_blocks_in s.db (scopes_in s) e) (placed_blocks_in s.db (scopes_in s) low) (placed_blocks_in s.db (scopes_in s) high) (ready_inside next (t.Between n e low high) _ _ refl h) in
         let next' = after s.db (scopes_in s) e next in
         let next'' = after s.db (scopes_in s) low next' in
         let x = value next e r.0 (negated (is_condition e) more.0) in
@@ -199,7 +199,7 @@ module _ (s : Setting) where
         record { values = (x.bound, tt); sound = ap (is_of_kind Texts) x.known ∙ is_text x.type (λ k. h.parts.0.itself.kinds (x.type, x.typed, k)); tested = tt }
     test next (t.InList n e ms) h c =
         let places = both (not (is_condition e)) (members_are_values ms) h.parts.0.itself.right in
-        let r = ready_both next (parts e) (member_parts ms) (blocks_in s.db (scopes_in s) e) (member_blocks s.db (scopes_in s) ms) (ready_inside next (t.InList n e ms) _ _ refl h) in
+        let r = ready_both next (parts e) (member_parts ms) (placed_blocks_in s.db (scopes_in s) e) (member_blocks s.db (scopes_in s) ms) (ready_inside next (t.InList n e ms) _ _ refl h) in
         let x = value next e r.0 (negated (is_condition e) places.0) in
         let m = members (after s.db (scopes_in s) e next) x.type ms r.1 places.1 (λ d. h.parts.0.itself.kinds (subst (λ o. SomeMemberDiffers s.db (scopes_in s) o ms) (sym x.typed) d)) in
         record { values = (x.bound, m.values); sound = together _ _ x.bound.typed (ap (λ o. list_all (member_is_comparable o) (bound_members s.db (scopes_in s) (after s.db (scopes_in s) e next) ms)) x.known ∙ m.alike); tested = tt }
@@ -217,11 +217,11 @@ module _ (s : Setting) where
     test next t.CountRows h c = absurd cc
     test next (t.Function f d argument) h c = absurd cc
 
-    pub tests : (next : Next) (others : Operands) → IsReady next (operand_parts others) (operand_blocks s.db (scopes_in s) others) → operands_are true others ≡ true → AreTests (bound_parts s.db (scopes_in s) next others)
+    pub tests : (next : Next) (others : LineOperands) → IsReady next (operand_parts others) (placed_operand_blocks s.db (scopes_in s) others) → operands_are true others ≡ true → AreTests (bound_parts s.db (scopes_in s) next others)
     tests next t.NoOperand h c = record { values = tt; sound = refl; tested = tt }
     tests next (t.Operand o e others) h c =
         let right = both (same true (is_condition e)) (operands_are true others) c in
-        let r = ready_both next (parts e) (operand_parts others) (blocks_in s.db (scopes_in s) e) (operand_blocks s.db (scopes_in s) others) h in
+        let r = ready_both next (parts e) (operand_parts others) (placed_blocks_in s.db (scopes_in s) e) (placed_operand_blocks s.db (scopes_in s) others) h in
         let x = test next e r.0 right.0 in
         let y = tests (after s.db (scopes_in s) e next) others r.1 right.1 in
         record { values = joined IsBound (q.values_of (bound_condition s.db (scopes_in s) next e)) _ x.values y.values; sound = together _ _ x.sound y.sound; tested = joined (IsInner s) (q.tested_blocks (bound_condition s.db (scopes_in s) next e)) _ x.tested y.tested }

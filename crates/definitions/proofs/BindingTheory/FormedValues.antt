@@ -6,10 +6,10 @@ use Rattle.std.proofs.lemmas.Option.{slice_get-map}
 use Rattle.definitions.specs.Limits.{greatest_scale}
 use Rattle.definitions.specs.Table.{Database}
 use Rattle.definitions.specs.Statement as t
-use Rattle.definitions.specs.Statement.{Expr, Operands, Source}
+use Rattle.definitions.specs.Statement.{Expr, LineOperands, Source}
 use Rattle.definitions.specs.Binding.Scopes.{Scopes, Found, Resolution, NotThere, Ambiguous, Named, scope_of, are_there, resolve}
 use Rattle.definitions.specs.Binding.Types.{function_type, expr_type}
-use Rattle.definitions.specs.Binding.Parts.{PlacedBlock, is_function, parts, operand_parts, blocks_in, operand_blocks, block_blocks}
+use Rattle.definitions.specs.Binding.Parts.{PlacedBlock, is_function, parts, operand_parts, placed_blocks_in, placed_operand_blocks, block_blocks}
 use Rattle.definitions.specs.Binding.BoundForm.{Next, known_type, bound_column, after, bound_value, bound_operands, bound_function, select_items, bound_block}
 use Rattle.definitions.specs.Binding.Faults.{is_condition, same, operands_are, IsNoColumn, list_of}
 use Rattle.definitions.specs.Binding.Formed.{HasColumn, kind_type, only_type, column_type, IsFormedValue, AreFormedOperands}
@@ -52,7 +52,7 @@ IsAt functions k e = slice_get functions k ≡ Some e
 -- a number of an inner block, behind that of the block itself
 pub record IsInner (s : Setting) (k : ℕ) : Type 0 where
   pub later : s.number < k
-  pub query : t.Block
+  pub query : t.QuerySpecification
   pub numbered : Numbered (Later s.all s.number) k (block_blocks s.db (scopes_in s) query)
 
 pub record IsFormed (s : Setting) (v : ValueExpr) : Type 0 where
@@ -95,10 +95,10 @@ column_formed s reference (Named level f) e h = found_formed s level f (resolved
 
 -- ---- subqueries
 
-first_block : (db : Database) (scopes : Scopes) (query : t.Block) (S : ℕ → PlacedBlock → Type 0) (k : ℕ) → Numbered S k (block_blocks db scopes query) → S k (record { outer = scopes; block = query })
+first_block : (db : Database) (scopes : Scopes) (query : t.QuerySpecification) (S : ℕ → PlacedBlock → Type 0) (k : ℕ) → Numbered S k (block_blocks db scopes query) → S k (record { outer = scopes; block = query })
 first_block db scopes (t.Specification d list sources w g h) S k n = n.0
 
-items_of : (db : Database) (scopes : Scopes) (query : t.Block) (k : ℕ) → (bound_block db k scopes query []).items ≡ select_items db (scope_of db (t.block_sources query) ∷ scopes) (record { block = k + 1; function = 0 }) (list_of query)
+items_of : (db : Database) (scopes : Scopes) (query : t.QuerySpecification) (k : ℕ) → (bound_block db k scopes query []).items ≡ select_items db (scope_of db (t.block_sources query) ∷ scopes) (record { block = k + 1; function = 0 }) (list_of query)
 items_of db scopes (t.Specification d list sources w g h) k = refl
 
 type_at : (blocks : Blocks) (k : ℕ) (x : Block) → slice_get blocks k ≡ Some x → column_type blocks k ≡ only_type x.items
@@ -106,11 +106,11 @@ type_at [] k x e = absurd cc
 type_at (y ∷ ys) zero x e = ap (λ (z : Block). only_type z.items) (same_block y x e)
 type_at (y ∷ ys) (suc k) x e = type_at ys k x e
 
-pub inner_block : (s : Setting) (query : t.Block) (k : ℕ) → Numbered (Later s.all s.number) k (block_blocks s.db (scopes_in s) query) → IsInner s k
+pub inner_block : (s : Setting) (query : t.QuerySpecification) (k : ℕ) → Numbered (Later s.all s.number) k (block_blocks s.db (scopes_in s) query) → IsInner s k
 inner_block s query k h = record { later = (first_block s.db (scopes_in s) query (Later s.all s.number) k h).0; query = query; numbered = h }
 
 -- the type of the only column of an inner block
-pub query_is_typed : (s : Setting) (query : t.Block) (k : ℕ) (known : IsTypedQuery s.db (scopes_in s) query) → Numbered (Later s.all s.number) k (block_blocks s.db (scopes_in s) query) → column_type s.blocks k ≡ Some known.type
+pub query_is_typed : (s : Setting) (query : t.QuerySpecification) (k : ℕ) (known : IsTypedQuery s.db (scopes_in s) query) → Numbered (Later s.all s.number) k (block_blocks s.db (scopes_in s) query) → column_type s.blocks k ≡ Some known.type
 query_is_typed s query k known h =
     type_at s.blocks k _ (s.bound k (record { outer = scopes_in s; block = query }) (first_block s.db (scopes_in s) query (Later s.all s.number) k h))
     ∙ ap only_type (items_of s.db (scopes_in s) query k) ∙ known.bound (record { block = k + 1; function = 0 })
@@ -136,7 +136,7 @@ module _ (s : Setting) where
   functions_both k ps rs h = numbered_both (IsAt s.functions) k (filter is_function ps) (filter is_function rs) (subst (Numbered (IsAt s.functions) k) (filter_both is_function ps rs) h)
 
   mutual
-    pub formed : (next : Next) (e : Expr) → IsClean s.db (scopes_in s) e → is_condition e ≡ false → AreNumbered next.block (blocks_in s.db (scopes_in s) e) → FunctionsAt next.function (parts e) → IsFormed s (bound_value s.db (scopes_in s) next e)
+    pub formed : (next : Next) (e : Expr) → IsClean s.db (scopes_in s) e → is_condition e ≡ false → AreNumbered next.block (placed_blocks_in s.db (scopes_in s) e) → FunctionsAt next.function (parts e) → IsFormed s (bound_value s.db (scopes_in s) next e)
     formed next (t.Column reference) h c bs fs = column_formed s reference (resolve (scopes_in s) reference) refl h.parts.0.itself.named
     formed next (t.Numeral units digits scale) h c bs fs = record { formed = (h.parts.0.itself.written.0, h.parts.0.itself.written.1, few scale h.parts.0.itself.fine); inner = tt }
     formed next (t.String codes) h c bs fs = record { formed = h.parts.0.itself.written; inner = tt }
@@ -146,8 +146,8 @@ module _ (s : Setting) where
     formed next (t.Line first others) h c bs fs =
         let right = both (same false (is_condition first)) (operands_are false others) (subst (λ l. same l (is_condition first) && operands_are l others ≡ true) c h.parts.0.itself.right) in
         let ps = split (IsSoundPart s.db (scopes_in s)) (parts first) (operand_parts others) h.parts.1 in
-        let gs = split (IsGood s.db) (blocks_in s.db (scopes_in s) first) (operand_blocks s.db (scopes_in s) others) h.inner in
-        let ns = numbered_both (Later s.all s.number) next.block (blocks_in s.db (scopes_in s) first) (operand_blocks s.db (scopes_in s) others) bs in
+        let gs = split (IsGood s.db) (placed_blocks_in s.db (scopes_in s) first) (placed_operand_blocks s.db (scopes_in s) others) h.inner in
+        let ns = numbered_both (Later s.all s.number) next.block (placed_blocks_in s.db (scopes_in s) first) (placed_operand_blocks s.db (scopes_in s) others) bs in
         let ks = functions_both next.function (parts first) (operand_parts others) fs in
         let v = formed next first (record { there = h.there; parts = ps.0; inner = gs.0 }) (negated (is_condition first) right.0) ns.0 ks.0 in
         let o = formed_operands (after s.db (scopes_in s) first next) others h.there ps.1 gs.1 right.1 ns.1 ks.1 in
@@ -180,14 +180,14 @@ module _ (s : Setting) where
     formed next (t.InQuery n e query) h c bs fs = absurd cc
     formed next (t.Exists query) h c bs fs = absurd cc
 
-    pub formed_operands : (next : Next) (others : Operands) → IsTrue (are_there (scopes_in s)) → AllByRecursion (IsSoundPart s.db (scopes_in s)) (operand_parts others) → AllByRecursion (IsGood s.db) (operand_blocks s.db (scopes_in s) others)
-        → operands_are false others ≡ true → AreNumbered next.block (operand_blocks s.db (scopes_in s) others) → FunctionsAt next.function (operand_parts others) → AreAllFormed s (bound_operands s.db (scopes_in s) next others)
+    pub formed_operands : (next : Next) (others : LineOperands) → IsTrue (are_there (scopes_in s)) → AllByRecursion (IsSoundPart s.db (scopes_in s)) (operand_parts others) → AllByRecursion (IsGood s.db) (placed_operand_blocks s.db (scopes_in s) others)
+        → operands_are false others ≡ true → AreNumbered next.block (placed_operand_blocks s.db (scopes_in s) others) → FunctionsAt next.function (operand_parts others) → AreAllFormed s (bound_operands s.db (scopes_in s) next others)
     formed_operands next t.NoOperand there p i v bs fs = record { formed = tt; inner = tt }
     formed_operands next (t.Operand o e others) there p i v bs fs =
         let right = both (same false (is_condition e)) (operands_are false others) v in
         let ps = split (IsSoundPart s.db (scopes_in s)) (parts e) (operand_parts others) p in
-        let gs = split (IsGood s.db) (blocks_in s.db (scopes_in s) e) (operand_blocks s.db (scopes_in s) others) i in
-        let ns = numbered_both (Later s.all s.number) next.block (blocks_in s.db (scopes_in s) e) (operand_blocks s.db (scopes_in s) others) bs in
+        let gs = split (IsGood s.db) (placed_blocks_in s.db (scopes_in s) e) (placed_operand_blocks s.db (scopes_in s) others) i in
+        let ns = numbered_both (Later s.all s.number) next.block (placed_blocks_in s.db (scopes_in s) e) (placed_operand_blocks s.db (scopes_in s) others) bs in
         let ks = functions_both next.function (parts e) (operand_parts others) fs in
         let x = formed next e (record { there = there; parts = ps.0; inner = gs.0 }) (negated (is_condition e) right.0) ns.0 ks.0 in
         let y = formed_operands (after s.db (scopes_in s) e next) others there ps.1 gs.1 right.1 ns.1 ks.1 in

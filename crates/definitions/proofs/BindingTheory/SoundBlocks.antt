@@ -9,7 +9,7 @@ use Rattle.definitions.specs.Statement.{Expr, Source, Column, Numeral, String, S
 use Rattle.definitions.specs.Table.{Table, Database, table_named}
 use Rattle.definitions.specs.Binding.Scopes.{NamedTable, Scopes, scope_of, are_there, resolve}
 use Rattle.definitions.specs.Binding.Parts.{PlacedBlock, is_function, item_values, condition_values, scopes_at, list_blocks, condition_blocks}
-use Rattle.definitions.specs.Binding.Faults.{BlockFaulty, no_table, too_fine, no_column, group_not_own, mixed_kinds, wrong_operand, wrong_condition, wrong_value, function_in_where, function_in_function, many_tables, misplaced_query, IsTooFine, NamesNoColumn, IsNotOwn, MixesKinds, takes_right, is_condition, argument_parts, list_of, where_of, groups_of, having_of, where_parts, shown_parts, all_argument_parts, all_parts, conjunct_count, many_conjuncts}
+use Rattle.definitions.specs.Binding.Faults.{BlockFaulty, no_table, too_fine, no_column, group_not_own, mixed_kinds, wrong_operand, wrong_condition, wrong_value, function_in_where, function_in_function, many_tables, misplaced_query, IsTooFine, NamesNoColumn, IsNotOwn, MixesKinds, takes_right, is_condition, argument_parts, list_of, where_of, group_by_of, having_clause_of, where_parts, shown_parts, all_argument_parts, all_parts, conjunct_count, many_conjuncts}
 use Rattle.definitions.specs.Binding.Formed.{IsWritten, NamesTables}
 use Rattle.definitions.proofs.BindingTheory.ListFacts.{is_true, is_false, together, each, of_two, none_of, split}
 
@@ -76,12 +76,12 @@ pub record IsSoundBlock (db : Database) (p : PlacedBlock) : Type 0 where
   pub parts : AllByRecursion (IsSoundPart db (scopes_at db p)) (where_parts p.block)
   pub shown : AllByRecursion (IsSoundPart db (scopes_at db p)) (shown_parts p.block)
   pub no_functions : AllByRecursion (λ e. is_function e ≡ false) (where_parts p.block)
-  pub conditions : AllByRecursion (λ e. is_condition e ≡ true) (condition_values (where_of p.block) ++ condition_values (having_of p.block))
+  pub conditions : AllByRecursion (λ e. is_condition e ≡ true) (condition_values (where_of p.block) ++ condition_values (having_clause_of p.block))
   pub values : AllByRecursion (λ e. is_condition e ≡ false) (item_values (list_of p.block))
-  pub groups : AllByRecursion (λ reference. IsNotOwn db (scopes_at db p) (resolve (scopes_at db p) reference) → ⊥) (groups_of p.block)
+  pub groups : AllByRecursion (λ reference. IsNotOwn db (scopes_at db p) (resolve (scopes_at db p) reference) → ⊥) (group_by_of p.block)
   pub few : length (block_sources p.block) ≤ most_from_tables
   pub few_conjuncts : AllByRecursion (λ e. most_conjuncts < conjunct_count e → ⊥) (condition_values (where_of p.block))
-  pub no_blocks : list_blocks db (scopes_at db p) (list_of p.block) ++ condition_blocks db (scopes_at db p) (having_of p.block) ≡ []
+  pub no_blocks : list_blocks db (scopes_at db p) (list_of p.block) ++ condition_blocks db (scopes_at db p) (having_clause_of p.block) ≡ []
 
 is_there : (o : Option Table) → (o ≡ None → ⊥) → is_some o ≡ true
 is_there None h = absurd (h refl)
@@ -116,9 +116,9 @@ sound_block db p good outer =
       parts = places.0;
       shown = places.1;
       no_functions = each _ _ (λ e h. is_false (is_function e) h) (where_parts p.block) (none_of _ (where_parts p.block) (λ a. good.faultless _ (function_in_where a)));
-      conditions = each _ _ (λ e h. is_true (is_condition e) h) (condition_values (where_of p.block) ++ condition_values (having_of p.block)) (none_of _ _ (λ a. good.faultless _ (wrong_condition a)));
+      conditions = each _ _ (λ e h. is_true (is_condition e) h) (condition_values (where_of p.block) ++ condition_values (having_clause_of p.block)) (none_of _ _ (λ a. good.faultless _ (wrong_condition a)));
       values = each _ _ (λ e h. is_false (is_condition e) h) (item_values (list_of p.block)) (none_of _ _ (λ a. good.faultless _ (wrong_value a)));
-      groups = none_of _ (groups_of p.block) (λ a. good.faultless _ (group_not_own there a));
+      groups = none_of _ (group_by_of p.block) (λ a. good.faultless _ (group_not_own there a));
       few = not_more (length (block_sources p.block)) (λ m. good.faultless _ (many_tables m));
       few_conjuncts = none_of _ _ (λ a. good.faultless _ (many_conjuncts a));
       no_blocks = is_empty _ (λ n. good.faultless _ (misplaced_query n));

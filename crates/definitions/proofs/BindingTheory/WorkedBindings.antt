@@ -5,7 +5,7 @@ use Rattle.std.specs.Fmt.{digits}
 use Rattle.definitions.specs.Binding.Formed as g
 use Rattle.definitions.specs.Refusal as r
 use Rattle.definitions.specs.Binding.Faults as f
-use Rattle.definitions.specs.Binding.Faults.{Faulty}
+use Rattle.definitions.specs.Binding.Faults.{QueryFaulty}
 use Rattle.definitions.specs.Examples.Binding.{t_and_u, faultless, x_column, v_column, t_table, u_table, outer_block, inner_block, two_blocks, SubqueriesBind, FormsOfQueries, RefusedQueries}
 
 is_not : true ≡ false → ⊥
@@ -69,9 +69,9 @@ no_fault_of_block _ (f.star_of_groups (inr (inr (inr h))) k) = elim h [ ]
 no_fault_of_block _ (f.many_conjuncts (inr h)) = elim h [ ]
 no_fault_of_block _ (f.many_members (inr (inr (inr (inr h))))) = elim h [ ]
 
-pub faultless_is_accepted : f.IsAccepted t_and_u faultless
-faultless_is_accepted fault (f.Faulty.block fault' (inl h)) = no_fault_of_block fault' h
-faultless_is_accepted fault (f.Faulty.block fault' (inr h)) = elim h [ ]
+pub faultless_is_accepted : f.IsAcceptedQuery t_and_u faultless
+faultless_is_accepted fault (f.QueryFaulty.block fault' (inl h)) = no_fault_of_block fault' h
+faultless_is_accepted fault (f.QueryFaulty.block fault' (inr h)) = elim h [ ]
 faultless_is_accepted fault (f.many_blocks h) = omega (arith, h)
 faultless_is_accepted fault (f.many_keys h) = omega (arith, h)
 faultless_is_accepted fault (f.bad_key g h) = h
@@ -128,18 +128,18 @@ forms_of_queries = record {
 
 pub refused_queries : RefusedQueries
 refused_queries = record {
-  name_twice_in_from = f.Faulty.block r.NameTaken (inl (f.name_twice (λ h. cc)));
-  no_such_table = f.Faulty.block r.NotFound (inl (f.no_table (inl refl)));
-  nineteen_digits_behind_the_point = f.Faulty.block r.ScaleTooGreat (inl (f.too_fine refl (inl (lit< tt))));
-  unknown_column = f.Faulty.block r.UnknownColumn (inl (f.no_column refl (inl tt)));
-  ambiguous_column = f.Faulty.block r.UnknownColumn (inl (f.no_column refl (inr (inl tt))));
-  number_against_text = f.Faulty.block r.MixedKinds (inl (f.mixed_kinds refl (inl (λ h. cc))));
-  two_columns_for_values = f.Faulty.block r.MixedKinds (inl (f.mixed_kinds refl (inl (inl (refl, λ h. cc)))));
-  value_for_condition = f.Faulty.block r.MisplacedCondition (inl (f.wrong_condition (inl refl)));
-  count_in_where = f.Faulty.block r.MisplacedFunction (inl (f.function_in_where (inr (inl refl))));
-  column_beside_count = f.Faulty.block r.UngroupedColumn (inl (f.ungrouped refl (inr (inr (inr (inl refl)))) (inl (λ h. h))));
+  name_twice_in_from = f.QueryFaulty.block r.NameTaken (inl (f.name_twice (λ h. cc)));
+  no_such_table = f.QueryFaulty.block r.NotFound (inl (f.no_table (inl refl)));
+  nineteen_digits_behind_the_point = f.QueryFaulty.block r.ScaleTooGreat (inl (f.too_fine refl (inl (lit< tt))));
+  unknown_column = f.QueryFaulty.block r.UnknownColumn (inl (f.no_column refl (inl tt)));
+  ambiguous_column = f.QueryFaulty.block r.UnknownColumn (inl (f.no_column refl (inr (inl tt))));
+  number_against_text = f.QueryFaulty.block r.MixedKinds (inl (f.mixed_kinds refl (inl (λ h. cc))));
+  two_columns_for_values = f.QueryFaulty.block r.MixedKinds (inl (f.mixed_kinds refl (inl (inl (refl, λ h. cc)))));
+  value_for_condition = f.QueryFaulty.block r.MisplacedCondition (inl (f.wrong_condition (inl refl)));
+  count_in_where = f.QueryFaulty.block r.MisplacedFunction (inl (f.function_in_where (inr (inl refl))));
+  column_beside_count = f.QueryFaulty.block r.UngroupedColumn (inl (f.ungrouped refl (inr (inr (inr (inl refl)))) (inl (λ h. h))));
   no_such_position = f.bad_key refl (inl (inr (lit< tt)));
-  fifteen_tables = f.Faulty.block r.ManyTables (inl (f.many_tables (lit< tt)));
-  subquery_in_select_list = f.Faulty.block r.OverQueryLimit (inl (f.misplaced_query (λ h. cc)));
+  fifteen_tables = f.QueryFaulty.block r.ManyTables (inl (f.many_tables (lit< tt)));
+  subquery_in_select_list = f.QueryFaulty.block r.OverQueryLimit (inl (f.misplaced_query (λ h. cc)));
   faultless_is_accepted = faultless_is_accepted;
 }

@@ -1,6 +1,7 @@
 -- The worked texts.
 use Rattle.std.proofs.Common.{◌≡◌, refl, sym, subst, ℕ, List, [], ◌∷◌, ◌++◌, arith, inl, inr, true, false}
 use Rattle.std.specs.Prelude.{codes, decimal, ◌+◌, ◌^◌, ◌<◌, ◌≤◌}
+use Rattle.definitions.specs.Ended.{Ended, Well, Refused, both_ended}
 use Rattle.definitions.specs.Plans.Path.{SegmentScan, IndexScan, MatchingScan}
 use Rattle.definitions.specs.Plans.Plan.{Plan, Access, Loop, Merge, Sort}
 use Rattle.definitions.specs.Examples.Plans.{two_sorts, two_tables_certificate, two_tables, x_is_y, y_column, scan_of}
@@ -10,11 +11,12 @@ use Rattle.definitions.specs.Plans.Certificate.{Certificate, Precedes}
 use Rattle.definitions.specs.Estimates.Version.{Version, One, Two, Three}
 use Rattle.definitions.specs.Plans.Checking.{Accesses, Joins}
 use Rattle.definitions.specs.Certificates.File.{lines_of, own_text, lines_behind, version_of}
-use Rattle.definitions.specs.Certificates.Verdicts.{Told, Passes, FailsAt, IsFaulty, IsTold, CheckEnded, Well, Refused', ended_of, both_ended, block_line, AreTold}
+use Rattle.definitions.specs.Certificates.Verdicts.{TextVerdict, Passes, FailsAt, IsFaulty, IsTextVerdict, ended_of, block_line, AreTold}
 use Rattle.definitions.proofs.PlanTheory.TwoTables.{two_tables_valid, empty_refused, lower_refused}
 use Rattle.definitions.specs.Certificates.CertifiedBlock.{CertifiedBlock}
 use Rattle.definitions.specs.Certificates.Text.{Written, text_of}
-use Rattle.definitions.specs.Certificates.Spelling.{plan_written, written, Spells}
+use Rattle.definitions.specs.Certificates.Spelling.{Spells}
+use Rattle.definitions.specs.Certificates.Writing.{plan_written}
 use Rattle.definitions.proofs.CertificateTheory.Files.{broken_has_no_form}
 use Rattle.definitions.specs.Certificates.Fault.{BadForm, HasFault}
 use Rattle.definitions.specs.Examples.Certificates.{one_table_block, two_tables_block, claim, OneTableIsSpelled, TwoTablesAreSpelled, two_sorts_text, two_sorts_plan, state, sorts_text, sorted_times, two_columns, three_tables_block, ColumnIsNamed, OrderedIsSpelled, LoopIsSpelled, FaultsOfStates, FaultsOfNumbers, FaultsOfForm, BeginningsHaveNoForm, WordsAreCounted, LaterPathsAreSpelled, OtherPlansAreSpelled, VersionIsPartOfForm, ProductIsSpelled, FilesAreCut, VersionsOfTexts, two_tables_in, RestIsRefused, EarlierSpaceIsNamed, RulesAreNamed, NothingIsRefused}
@@ -157,7 +159,7 @@ faults_of_form = (
 )
 
 pub beginnings : BeginningsHaveNoForm
-beginnings n lt = broken_has_no_form two_tables_block two_sorts_text (written two_tables_block two_sorts two_tables_certificate) (two_tables_spelled.0.form, two_tables_spelled.1) n lt
+beginnings n lt = broken_has_no_form two_tables_block two_sorts_text two_tables_spelled.said two_tables_spelled.says n lt
 
 -- ---- words
 
@@ -219,21 +221,21 @@ versions = (rw d1 refl, rw (d1, d2) refl, rw d1 refl, refl, rw (d1, d2) refl, rw
 -- ---- what is told
 
 told_as : (current : Version) (block_in : Version → CertifiedBlock) (lines : List (List ℕ)) (version : Version) → version_of current lines ≡ version
-    → (told : Told) (rest : List ℕ) (later : CheckEnded) (text : List ℕ) (ended : CheckEnded) → IsTold (block_in version) (own_text lines) told
+    → (told : TextVerdict) (rest : List ℕ) (later : Ended) (text : List ℕ) (ended : Ended) → IsTextVerdict (block_in version) (own_text lines) told
     → AreTold current [] (lines_behind lines) rest later → block_line current (block_in version) told ++ rest ≡ text → both_ended (ended_of told) later ≡ ended
     → AreTold current (block_in ∷ []) lines text ended
 told_as current block_in lines version e told rest later text ended is behind t w = (
   told,
   rest,
   later,
-  subst (λ (v : Version). IsTold (block_in v) (own_text lines) told) (sym e) is,
+  subst (λ (v : Version). IsTextVerdict (block_in v) (own_text lines) told) (sym e) is,
   behind,
   subst (λ (v : Version). text ≡ block_line current (block_in v) told ++ rest) (sym e) (sym t),
   sym w,
 )
 
 pub rest_refused : RestIsRefused
-rest_refused = told_as One two_tables_in (lines_of (two_sorts_text ++ codes "X\n")) One refl Passes (codes "rest refused C1\n") Refused' (codes "block 1 pass\nrest refused C1\n") Refused'
+rest_refused = told_as One two_tables_in (lines_of (two_sorts_text ++ codes "X\n")) One refl Passes (codes "rest refused C1\n") Refused (codes "block 1 pass\nrest refused C1\n") Refused
     (two_sorts, two_tables_certificate, two_tables_spelled, two_tables_valid.0) (refl, refl) (rw d1 refl) refl
 
 is_first : version_of Three (lines_of two_sorts_text) ≡ One
@@ -257,12 +259,12 @@ lower_spelled = spelled_by two_tables_block lower_text two_sorts lower refl refl
 
 pub rules_named : RulesAreNamed
 rules_named = (
-  told_as One two_tables_in (lines_of (two_sorts_plan ++ codes "TARGET 13400\nEND\n")) One refl (FailsAt Accesses) [] Well (codes "block 1 refused K1\n") Refused'
+  told_as One two_tables_in (lines_of (two_sorts_plan ++ codes "TARGET 13400\nEND\n")) One refl (FailsAt Accesses) [] Well (codes "block 1 refused K1\n") Refused
       (two_sorts, claim 13400 [], empty_spelled, (1, 0, empty_refused)) (refl, refl) (rw d1 refl) refl,
-  told_as One two_tables_in (lines_of lower_text) One refl (FailsAt Joins) [] Well (codes "block 1 refused K2\n") Refused'
+  told_as One two_tables_in (lines_of lower_text) One refl (FailsAt Joins) [] Well (codes "block 1 refused K2\n") Refused
       (two_sorts, lower, lower_spelled, (2, 2, lower_refused)) (refl, refl) (rw d1 refl) refl,
 )
 
 pub nothing_refused : NothingIsRefused
-nothing_refused = told_as Three two_tables_in (lines_of []) Three refl (IsFaulty BadForm) [] Well (codes "block 1 refused C1\n") Refused'
+nothing_refused = told_as Three two_tables_in (lines_of []) Three refl (IsFaulty BadForm) [] Well (codes "block 1 refused C1\n") Refused
     (other_first (two_tables_in Three) [] refl) (refl, refl) (rw d1 refl) refl

@@ -1,11 +1,8 @@
 -- A text says one thing at most; it is the spelling of one plan and certificate, or has one fault.
-use Rattle.std.proofs.Common.{◌≡◌, ◌∙◌, refl, sym, ap, ap₂, subst, ℕ, ◌+◌, ◌-◌, ◌<◌, ◌≤◌, ◌⊎◌, inl, inr, List, [], ◌∷◌, true, Option, Some, None, arith, length, get_or}
-use Rattle.std.specs.Prelude.{IsTrue, bytes_eq, map, position, unwrap_or, IsSome}
-use Rattle.std.specs.List.{AllByRecursion}
+use Rattle.std.proofs.Common.{◌≡◌, ◌∙◌, refl, sym, ap, subst, ℕ, ◌-◌, ◌<◌, ◌≤◌, ◌⊎◌, inl, inr, List, [], ◌∷◌, true, arith, length}
+use Rattle.std.specs.Prelude.{bytes_eq, position}
 use Rattle.std.proofs.lemmas.Slice.Eq.{bytes_eq-Decides}
-use Rattle.std.proofs.lemmas.Bool.{eqb-true, leb-true}
-use Rattle.std.proofs.lemmas.List.Quantifiers.{position-Some}
-use Rattle.std.proofs.lemmas.List.Elements.{recursion_from_All}
+use Rattle.std.proofs.lemmas.Bool.{leb-true}
 use Rattle.definitions.specs.Plans.Order.{SortKey}
 use Rattle.definitions.specs.Plans.Path.{Path, SegmentScan, IndexScan, MatchingScan}
 use Rattle.definitions.specs.Plans.Plan.{Plan, Access, Loop, Merge, Sort}
@@ -14,11 +11,11 @@ use Rattle.definitions.specs.Plans.TableSet.{Has}
 use Rattle.definitions.specs.Plans.Certificate.{StateCost, Certificate, Precedes, AreRising, IsCertificate}
 use Rattle.definitions.specs.Plans.Cost.{limit}
 use Rattle.definitions.specs.Estimates.Version.{Version, One, Two, Three}
-use Rattle.definitions.specs.Certificates.CertifiedBlock.{CertifiedBlock, indexes_of, is_on_column}
+use Rattle.definitions.specs.Certificates.CertifiedBlock.{CertifiedBlock, is_on_column}
 use Rattle.definitions.specs.Certificates.Text.{Written, text_of}
-use Rattle.definitions.specs.Certificates.Form.{has_form, word_limit}
-use Rattle.definitions.specs.Certificates.Spelling.{index_written, path_written, plan_written, written, index_meant, path_meant, plan_meant, IsOneOf, IsIndex, IsConjunct, PathIsThere, PlanIsThere, StateIsThere, AreThere, AreBelow, Spells}
-use Rattle.definitions.specs.Certificates.Fault.{Fault, BadForm, NoSuchNumber, BadStates, Says, HasFault}
+use Rattle.definitions.specs.Certificates.Form.{has_form, word_limit, Says}
+use Rattle.definitions.specs.Certificates.Spelling.{plan_meant, IsOneOf, IndexIsThere, ConjunctIsThere, PathIsThere, PlanIsThere, StateIsThere, AreThere, AreBelow, Spells}
+use Rattle.definitions.specs.Certificates.Fault.{Fault, BadForm, NoSuchNumber, BadStates, HasFault}
 use Rattle.definitions.specs.Certificates.Laws.{IsSpelling}
 use Rattle.definitions.proofs.CertificateTheory.Reading.{and_left, and_right, read, read_back}
 use Rattle.definitions.proofs.CertificateTheory.Decisions.{Decided, both_decided, three_decided, either_decided, less_decided, at_most_decided, same_decided, true_decided, some_decided, all_decided}
@@ -46,7 +43,7 @@ says_something version bytes = of_cases (both_decided (true_decided (has_form ve
 one_of_decided : (count n : ℕ) → Decided (IsOneOf count n)
 one_of_decided count n = both_decided (less_decided 0 n) (at_most_decided n count)
 
-index_decided : (version : Version) (indexes : List (List ℕ)) (n : ℕ) → Decided (IsIndex version indexes n)
+index_decided : (version : Version) (indexes : List (List ℕ)) (n : ℕ) → Decided (IndexIsThere version indexes n)
 index_decided One indexes n = both_decided (less_decided 0 n) (some_decided (position (is_on_column (n - 1)) indexes))
 index_decided Two indexes n = one_of_decided (length indexes) n
 index_decided Three indexes n = one_of_decided (length indexes) n
@@ -55,7 +52,7 @@ module _ (block : CertifiedBlock) where
   path_decided : (path : Path) → Decided (PathIsThere block path)
   path_decided (SegmentScan t) = one_of_decided _ t
   path_decided (IndexScan t i backward) = both_decided (one_of_decided _ t) (index_decided _ _ i)
-  path_decided (MatchingScan t i gs backward) = three_decided (one_of_decided _ t) (index_decided _ _ i) (all_decided (IsConjunct block) (one_of_decided _) gs)
+  path_decided (MatchingScan t i gs backward) = three_decided (one_of_decided _ t) (index_decided _ _ i) (all_decided (ConjunctIsThere block) (one_of_decided _) gs)
 
   plan_decided : (plan : Plan) → Decided (PlanIsThere block plan)
   plan_decided (Access path) = path_decided path
@@ -76,93 +73,31 @@ rising_decided (s ∷ ss) = both_decided (all_decided (Precedes s) (λ t. either
 below_decided : (certificate : Certificate) → Decided (AreBelow certificate)
 below_decided c = both_decided (rising_decided c.states) (all_decided (λ (state : StateCost). state.cost < c.target) (λ state. less_decided _ _) c.states)
 
--- ---- numbers that are there are written as they stand
-
-named : (column : ℕ) (index : List ℕ) → is_on_column column index ≡ true → get_or index 0 0 ≡ column
-named column [] h = absurd (cc)
-named column (own ∷ []) h = eqb-true own column h
-named column (own ∷ other ∷ more) h = absurd (cc)
-
-found_written : (indexes : List (List ℕ)) (n : ℕ) (p : Option ℕ) → position (is_on_column (n - 1)) indexes ≡ p → 0 < n → IsSome p
-    → get_or (get_or indexes (unwrap_or p 0) []) 0 0 + 1 ≡ n
-found_written indexes n (Some i) e some is =
-    let k = position-Some (is_on_column (n - 1)) indexes i [] e in
-    omega (arith, named (n - 1) (get_or indexes i []) k.1, some)
-found_written indexes n None e some is = absurd (cc)
-
-index_again : (version : Version) (indexes : List (List ℕ)) (n : ℕ) → IsIndex version indexes n → index_written version indexes (index_meant version indexes n) ≡ n
-index_again One indexes n (some, is) = found_written indexes n (position (is_on_column (n - 1)) indexes) refl some is
-index_again Two indexes n (some, le) = omega (arith, some)
-index_again Three indexes n (some, le) = omega (arith, some)
-
-numbers_again : (count : ℕ) (ns : List ℕ) → AllByRecursion (IsOneOf count) ns → map (λ n. n + 1) (map (λ n. n - 1) ns) ≡ ns
-numbers_again count [] h = refl
-numbers_again count (n ∷ ns) (h, hs) =
-    let e : n - 1 + 1 ≡ n = omega (arith, h.0) in
-    ap₂ (λ (x : ℕ) (xs : List ℕ). x ∷ xs) e (numbers_again count ns hs)
+-- ---- spelled or faulty
 
 module _ (block : CertifiedBlock) where
-  path_again : (path : Path) → PathIsThere block path → path_written block (path_meant block path) ≡ path
-  path_again (SegmentScan t) h = let e : t - 1 + 1 ≡ t = omega (arith, h.0) in ap SegmentScan e
-  path_again (IndexScan t i backward) (h, k) =
-      let e : t - 1 + 1 ≡ t = omega (arith, h.0) in
-      ap₂ (λ (u j : ℕ). IndexScan u j backward) e (index_again block.version (indexes_of block (t - 1)) i k)
-  path_again (MatchingScan t i gs backward) (h, k, all) =
-      let e : t - 1 + 1 ≡ t = omega (arith, h.0) in
-      ap₂ (λ (u j : ℕ). MatchingScan u j (map (λ n. n + 1) (map (λ n. n - 1) gs)) backward) e (index_again block.version (indexes_of block (t - 1)) i k)
-      ∙ ap (λ (l : List ℕ). MatchingScan t i l backward) (numbers_again (length block.space.conjuncts) gs (recursion_from_All (IsConjunct block) gs all))
-
-  plan_again : (plan : Plan) → PlanIsThere block plan → plan_written block (plan_meant block plan) ≡ plan
-  plan_again (Access path) h = ap Access (path_again path h)
-  plan_again (Loop outer path) (h, k) = ap₂ Loop (plan_again outer h) (path_again path k)
-  plan_again (Merge outer g inner) (h, k, l) =
-      let e : g - 1 + 1 ≡ g = omega (arith, k.0) in
-      ap (λ (p : Plan). Merge p (g - 1 + 1) (record inner { path = path_written block (path_meant block inner.path) })) (plan_again outer h)
-      ∙ ap₂ (λ (x : ℕ) (p : Path). Merge outer x (record inner { path = p })) e (path_again inner.path l)
-  plan_again (Sort input k) (h, l) = ap (λ (p : Plan). Sort p k) (plan_again input h)
-
-  said_again : (said : Written) → AreThere block said → written block (plan_meant block said.plan) said.certificate ≡ said
-  said_again said (number, plan, states) = ap₂ (λ (b : ℕ) (p : Plan). record { block = b; plan = p; certificate = said.certificate }) (sym number) (plan_again said.plan plan)
-
-  -- ---- spelled or faulty
-
-  spelled : (bytes : List ℕ) (said : Written) → Says block.version bytes said → AreThere block said → AreBelow said.certificate
-      → Spells block bytes (plan_meant block said.plan) said.certificate
-  spelled bytes said (form, is) there below =
-      let e = sym (said_again said there) in (
-        record {
-          form = subst (λ (s : Written). IsTrue (has_form block.version s)) e form;
-          there = subst (AreThere block) e there;
-          meant = ap (plan_meant block) (plan_again said.plan there.1);
-          below = below;
-        },
-        is ∙ ap (text_of block.version) e,
-      )
-
-  says_spelled : (bytes : List ℕ) (plan : Plan) (certificate : Certificate) → Spells block bytes plan certificate → Says block.version bytes (written block plan certificate)
-  says_spelled bytes plan certificate (can, is) = (can.form, is)
-
   pub spells_once : (bytes : List ℕ) (p q : Plan) (c d : Certificate) → Spells block bytes p c → Spells block bytes q d → (p ≡ q) × (c ≡ d)
   spells_once bytes p q c d g h =
-      let e = says_once block.version bytes (written block p c) (written block q d) (says_spelled bytes p c g) (says_spelled bytes q d h) in
-      (sym g.0.meant ∙ ap (λ (s : Written). plan_meant block s.plan) e ∙ h.0.meant, ap (λ (s : Written). s.certificate) e)
+      let e = says_once block.version bytes g.said h.said g.says h.says in
+      (g.meant ∙ ap (λ (s : Written). plan_meant block s.plan) e ∙ sym h.meant, g.as_written ∙ ap (λ (s : Written). s.certificate) e ∙ sym h.as_written)
 
   pub spelled_certificate : (bytes : List ℕ) (plan : Plan) (certificate : Certificate) → Spells block bytes plan certificate → IsCertificate block.space certificate
-  spelled_certificate bytes plan certificate (can, is) = record {
-    target = leb-true certificate.target limit (and_right _ _ (and_left _ _ can.form));
-    costs = can.below.1;
+  spelled_certificate bytes plan certificate s = subst (IsCertificate block.space) (sym s.as_written) (record {
+    target = leb-true s.said.certificate.target limit (and_right _ _ (and_left _ _ s.says.0));
+    costs = s.below.1;
     states = record {
-      tables = λ i d l. let t = can.there.2 i d l in (t.0, t.1);
-      orders = λ i d l. (can.there.2 i d l).2;
-      rising = can.below.0;
+      tables = λ i d l. let t = s.there.2 i d l in (t.0, t.1);
+      orders = λ i d l. (s.there.2 i d l).2;
+      rising = s.below.0;
     };
-  }
+  })
 
   pub spelled_or_faulty : (bytes : List ℕ) → IsSpelling block bytes ⊎ ((fault : Fault) × HasFault block bytes fault)
   spelled_or_faulty bytes = of_said (says_something block.version bytes)
     where
       of_below : (said : Written) → Says block.version bytes said → AreThere block said → Decided (AreBelow said.certificate) → IsSpelling block bytes ⊎ ((fault : Fault) × HasFault block bytes fault)
-      of_below said says there (inl below) = inl (plan_meant block said.plan, said.certificate, spelled bytes said says there below)
+      of_below said says there (inl below) = inl
+          (plan_meant block said.plan, said.certificate, record { said = said; says = says; there = there; meant = refl; as_written = refl; below = below })
       of_below said says there (inr not) = inr (BadStates, (said, says, there, not))
 
       of_there : (said : Written) → Says block.version bytes said → Decided (AreThere block said) → IsSpelling block bytes ⊎ ((fault : Fault) × HasFault block bytes fault)
@@ -180,11 +115,9 @@ module _ (block : CertifiedBlock) where
   same_below bytes a b g h below = subst (λ (s : Written). AreBelow s.certificate) (says_once block.version bytes a b g h) below
 
   pub faultless : (bytes : List ℕ) (fault : Fault) → IsSpelling block bytes → HasFault block bytes fault → ⊥
-  faultless bytes BadForm (plan, certificate, s) none = none (written block plan certificate) (says_spelled bytes plan certificate s)
-  faultless bytes NoSuchNumber (plan, certificate, s) (said, says, not) =
-      not (same_there bytes (written block plan certificate) said (says_spelled bytes plan certificate s) says s.0.there)
-  faultless bytes BadStates (plan, certificate, s) (said, says, there, not) =
-      not (same_below bytes (written block plan certificate) said (says_spelled bytes plan certificate s) says s.0.below)
+  faultless bytes BadForm (plan, certificate, s) none = none s.said s.says
+  faultless bytes NoSuchNumber (plan, certificate, s) (said, says, not) = not (same_there bytes s.said said s.says says s.there)
+  faultless bytes BadStates (plan, certificate, s) (said, says, there, not) = not (same_below bytes s.said said s.says says s.below)
 
   pub one_fault : (bytes : List ℕ) (a b : Fault) → HasFault block bytes a → HasFault block bytes b → a ≡ b
   one_fault bytes BadForm BadForm g h = refl

@@ -16,8 +16,8 @@ use Rattle.definitions.specs.Plans.Certificate.{StateCost}
 use Rattle.definitions.specs.Estimates.Version.{Version, One, Two, Three}
 use Rattle.definitions.specs.Certificates.Text.{number_of_version}
 use Rattle.definitions.specs.Certificates.Text.{Written, conjuncts_text, direction_text, path_text, sorted_text, plan_text, state_line, first_line, end_line, text_of}
-use Rattle.definitions.specs.Certificates.Form.{is_number, is_match, is_path, is_plan, is_state, has_form}
-use Rattle.definitions.specs.Certificates.Fault.{BadForm, Says, HasFault}
+use Rattle.definitions.specs.Certificates.Form.{is_number, is_match, is_path, is_plan, is_state, has_form, Says}
+use Rattle.definitions.specs.Certificates.Fault.{BadForm, HasFault}
 use Rattle.definitions.specs.Certificates.CertifiedBlock.{CertifiedBlock}
 use Rattle.std.proofs.lemmas.List.{take-append-drop, length-take}
 use Rattle.definitions.specs.Certificates.File.{before_first, lines_of, own_text, lines_behind}

@@ -1,17 +1,17 @@
 -- What EXPLAIN prints passes the check.
 use Rattle.std.proofs.Common.{◌≡◌, ◌∙◌, refl, sym, ap, subst, ℕ, ◌+◌, List, [], ◌∷◌, ◌++◌}
 use Rattle.std.specs.Prelude.{codes, decimal}
+use Rattle.definitions.specs.Ended.{Well}
 use Rattle.definitions.specs.Table.{Database}
 use Rattle.definitions.specs.Queries.BoundBlock.{Blocks}
 use Rattle.definitions.specs.Estimates.Version.{Version, One, Two, Three}
 use Rattle.definitions.specs.Certificates.CertifiedBlock.{CertifiedBlock}
 use Rattle.definitions.specs.Certificates.Explaining.{certified, certified_from, AreExplained}
-use Rattle.definitions.specs.Certificates.Fault.{Says}
+use Rattle.definitions.specs.Certificates.Form.{Says}
 use Rattle.definitions.specs.Certificates.File.{earlier, lines_behind, lines_of, own_text, version_among, version_of}
 use Rattle.definitions.specs.Certificates.Laws.{ExplainedPasses}
-use Rattle.definitions.specs.Certificates.Spelling.{written}
 use Rattle.definitions.specs.Certificates.Text.{Written, first_line, text_of}
-use Rattle.definitions.specs.Certificates.Verdicts.{AreTold, IsTold, Passes, Well, block_line, rest_ended, rest_text}
+use Rattle.definitions.specs.Certificates.Verdicts.{AreTold, IsTextVerdict, Passes, block_line, rest_ended, rest_text}
 use Rattle.definitions.proofs.CertificateTheory.Files.{first_off, text_cut_off}
 use Rattle.definitions.proofs.CertificateTheory.Texts.{plain}
 use Rattle.definitions.proofs.CertificateTheory.Verdicts.{file_told_once}
@@ -40,15 +40,15 @@ passes current db number [] text h = ([], (subst (λ l. [] ≡ rest_text (lines_
 passes current db number (b ∷ bs) text (own, rest, (plan, certificate, spells, is_certified), behind, is) =
     let (printed, told) = passes current db (number + 1) bs rest behind in
     let block : CertifiedBlock = certified db number b current in
-    let said : Written = written block plan certificate in
-    let says : Says current own said = (spells.0.form, spells.1) in
+    let said : Written = spells.said in
+    let says : Says current own said = spells.says in
     let cut = text_cut_off current own rest said says in
-    let version : version_of current (lines_of text) ≡ current = ap (λ l. version_of current (lines_of l)) (is ∙ ap (λ l. l ++ rest) spells.1) ∙ own_version current said rest in
+    let version : version_of current (lines_of text) ≡ current = ap (λ l. version_of current (lines_of l)) (is ∙ ap (λ l. l ++ rest) says.1) ∙ own_version current said rest in
     let own_is : own_text (lines_of text) ≡ own = ap (λ l. own_text (lines_of l)) is ∙ cut.0 in
     let behind_is : lines_behind (lines_of text) ≡ lines_of rest = ap (λ l. lines_behind (lines_of l)) is ∙ cut.1 in
-    let passed : IsTold block own Passes = (plan, certificate, spells, is_certified.0) in
-    let seen : IsTold (certified db number b (version_of current (lines_of text))) (own_text (lines_of text)) Passes =
-    subst (λ v. IsTold (certified db number b v) (own_text (lines_of text)) Passes) (sym version) (subst (λ l. IsTold block l Passes) (sym own_is) passed) in
+    let passed : IsTextVerdict block own Passes = (plan, certificate, spells, is_certified.0) in
+    let seen : IsTextVerdict (certified db number b (version_of current (lines_of text))) (own_text (lines_of text)) Passes =
+    subst (λ v. IsTextVerdict (certified db number b v) (own_text (lines_of text)) Passes) (sym version) (subst (λ l. IsTextVerdict block l Passes) (sym own_is) passed) in
     let later : AreTold current (certified_from db (number + 1) bs) (lines_behind (lines_of text)) printed Well =
     subst (λ ls. AreTold current (certified_from db (number + 1) bs) ls printed Well) (sym behind_is) told in
     (block_line current (certified db number b (version_of current (lines_of text))) Passes ++ printed, (Passes, printed, Well, seen, later, refl, refl))

@@ -15,7 +15,7 @@ use Rattle.definitions.specs.Estimates.Version.{Three, directions}
 use Rattle.definitions.specs.Estimates.BlockTables.{index_columns}
 use Rattle.definitions.specs.Estimates.Orders as orders
 use Rattle.definitions.specs.Estimates.Paths.{equals_at, matches_at, matching, matching_lists, index_paths, paths_of}
-use Rattle.definitions.specs.Certificates.Explaining.{indexes_at}
+use Rattle.definitions.specs.Certificates.Explaining.{index_columns_at}
 use Rattle.definitions.proofs.PlanTheory.Elements.{first_or_rest, filter_had, not_in_empty}
 use Rattle.definitions.proofs.EstimateTheory.Members.{was_mapped, was_flattened}
 use Rattle.definitions.proofs.CertificateTheory.Few.{at_place}
@@ -31,7 +31,7 @@ was_in_range from (suc count) n there = of_cases (was_in_range (from + 1) count 
 -- ---- indexes
 
 abbrev pub indexes_in : Database → Block → ℕ → List (List ℕ)
-indexes_in db block table = get_or (map (indexes_at db) block.tables) table []
+indexes_in db block table = get_or (map (index_columns_at db) block.tables) table []
 
 at_number : (f : ℕ → List (List ℕ)) (xs : List ℕ) (table : ℕ) → get_or (map f xs) table [] ≡ unwrap_or (option_map f (slice_get xs table)) []
 at_number f [] table = refl
@@ -42,7 +42,7 @@ abbrev IsFew : List (List ℕ) → ℕ → Type 0
 IsFew indexes number = (number < length indexes) × (number < most_indexes)
 
 pub index_there : (db : Database) (block : Block) (table number : ℕ) → IsDatabase db → Contains (orders.indexes_at Three db block table) number → IsFew (indexes_in db block table) number
-index_there db block table number valid there = subst (λ indexes. IsFew indexes number) (sym (at_number (indexes_at db) block.tables table)) (of_place (slice_get block.tables table) there)
+index_there db block table number valid there = subst (λ indexes. IsFew indexes number) (sym (at_number (index_columns_at db) block.tables table)) (of_place (slice_get block.tables table) there)
   where
     of_table : (o : Option Table) → ((t : Table) → o ≡ Some t → IsTable t) → Contains (unwrap_or (option_map (orders.known_indexes Three) o) []) number
         → IsFew (unwrap_or (option_map (λ (t : Table). map (λ (i : Index). i.columns) t.indexes) o) []) number
@@ -54,7 +54,7 @@ index_there db block table number valid there = subst (λ indexes. IsFew indexes
         (omega (arith, lt, as_many), omega (arith, lt, few))
 
     of_place : (o : Option ℕ) → Contains (unwrap_or (option_map (orders.known_indexes Three) (option_and_then (slice_get db) o)) []) number
-        → IsFew (unwrap_or (option_map (indexes_at db) o) []) number
+        → IsFew (unwrap_or (option_map (index_columns_at db) o) []) number
     of_place None c = absurd (not_in_empty number c)
     of_place (Some n) c = of_table (slice_get db n) (λ t is. at_place IsTable db n t valid.each is) c
 

@@ -17,15 +17,17 @@ use Rattle.definitions.specs.Plans.Path.{Path, SegmentScan, IndexScan, MatchingS
 use Rattle.definitions.specs.Plans.Plan.{Plan, Access, Loop, Merge, Sort}
 use Rattle.definitions.specs.Plans.Space.{whole, IsOver}
 use Rattle.definitions.specs.Plans.PlanSpace as p
-use Rattle.definitions.specs.Plans.PlanSpace.{IsPath, IsPlan, CanMerge}
+use Rattle.definitions.specs.Plans.PlanSpace.{IsPlan}
 use Rattle.definitions.specs.Plans.Cost.{limit}
 use Rattle.definitions.specs.Plans.Certificate.{StateCost, Certificate, IsCertificate}
 use Rattle.definitions.specs.Estimates.Version.{Three}
 use Rattle.definitions.specs.Estimates.PlanConjuncts.{plan_conjunct}
 use Rattle.definitions.specs.Certificates.Form.{is_number, is_match, is_path, is_plan, is_state, word_count, word_limit}
 use Rattle.definitions.specs.Certificates.CertifiedBlock.{CertifiedBlock}
-use Rattle.definitions.specs.Certificates.Spelling.{IsOneOf, path_written, plan_written, path_meant, plan_meant, PathIsThere, PlanIsThere, IsConjunct, StateIsThere, IsSpellable}
+use Rattle.definitions.specs.Certificates.Spelling.{IsOneOf, path_meant, plan_meant, PathIsThere, PlanIsThere, ConjunctIsThere, StateIsThere, Spells}
+use Rattle.definitions.specs.Certificates.Writing.{path_written, plan_written, text_written, IsSpellable}
 use Rattle.definitions.specs.Certificates.Explaining.{certified}
+use Rattle.definitions.proofs.CertificateTheory.Writing.{is_spelled}
 use Rattle.definitions.proofs.CertificateTheory.Few.{orders_few}
 use Rattle.definitions.proofs.CertificateTheory.PathsThere.{AreMatched, NamesParts, parts_there}
 
@@ -74,8 +76,8 @@ module _ (db : Database) (number : ℕ) (block : Block) (valid : IsDatabase db) 
   match_form [] h = let some = h.0 in absurd (omega (arith, some))
   match_form (n ∷ ns) h = let lt = h.1.0 in rw (number_is (n + 1) (omega (arith, lt, few_conjuncts)), all_numbers (length (conjuncts block)) ns few_conjuncts h.1.1) refl
 
-  conjuncts_there : (ns : List ℕ) → AreMatched block ns → All (IsConjunct own) (map (λ n. n + 1) ns)
-  conjuncts_there ns h = All-from_recursion (IsConjunct own) (map (λ n. n + 1) ns) (subst (λ count. AllByRecursion (IsOneOf count) (map (λ n. n + 1) ns)) (sym as_many_conjuncts) (all_there (length (conjuncts block)) ns h.1))
+  conjuncts_there : (ns : List ℕ) → AreMatched block ns → All (ConjunctIsThere own) (map (λ n. n + 1) ns)
+  conjuncts_there ns h = All-from_recursion (ConjunctIsThere own) (map (λ n. n + 1) ns) (subst (λ count. AllByRecursion (IsOneOf count) (map (λ n. n + 1) ns)) (sym as_many_conjuncts) (all_there (length (conjuncts block)) ns h.1))
 
   -- a path's numbers are there, may be written, and mean the path
   record IsSpelledPath (path : Path) : Type 0 where
@@ -171,7 +173,8 @@ module _ (db : Database) (number : ℕ) (block : Block) (valid : IsDatabase db) 
         below = (is.states.rising, is.costs);
       }
 
-pub plans_are_spelled : (db : Database) (number : ℕ) (block : Block) (plan : Plan) (certificate : Certificate) → IsDatabase db → number < most_blocks → IsFormedSomewhere db block
+pub plans_are_spelled : (db : Database) (number : ℕ) (block : Block) (plan : Plan) (certificate : Certificate) (bytes : List ℕ) → IsDatabase db → number < most_blocks → IsFormedSomewhere db block
     → p.InSpace (certified db number block Three).space plan → word_count plan ≤ word_limit → IsCertificate (certified db number block Three).space certificate
-    → IsSpellable (certified db number block Three) plan certificate
-plans_are_spelled db number block plan certificate valid few formed inside words is = spellable db number block valid formed plan certificate few inside.0 words is
+    → bytes ≡ text_written (certified db number block Three) plan certificate → Spells (certified db number block Three) bytes plan certificate
+plans_are_spelled db number block plan certificate bytes valid few formed inside words certified_by is =
+    is_spelled (certified db number block Three) bytes plan certificate (spellable db number block valid formed plan certificate few inside.0 words certified_by) is

@@ -16,7 +16,8 @@ use Rattle.definitions.specs.Plans.Plan.{Plan, Access, Loop, Merge, Sort}
 use Rattle.definitions.specs.Plans.Space.{whole, order_at}
 use Rattle.definitions.specs.Plans.TableSet.{Has}
 use Rattle.definitions.specs.Plans.Certificate.{StateCost, Certificate, Precedes, AreRising}
-use Rattle.definitions.specs.Certificates.Spelling.{written, plan_written, plan_meant, spelling, IsOneOf, IsIndex, IsConjunct, PathIsThere, PlanIsThere, StateIsThere, AreThere, AreBelow, Spells}
+use Rattle.definitions.specs.Certificates.Spelling.{plan_meant, IsOneOf, IndexIsThere, ConjunctIsThere, PathIsThere, PlanIsThere, StateIsThere, AreThere, AreBelow, Spells}
+use Rattle.definitions.specs.Certificates.Writing.{written, plan_written, text_written}
 use Rattle.definitions.specs.Estimates.Version.{Version, One, Two, Three}
 use Rattle.definitions.specs.Certificates.CertifiedBlock.{CertifiedBlock, indexes_of, is_on_column}
 use Rattle.definitions.specs.Certificates.Text.{Written, text_of}
@@ -95,7 +96,7 @@ abbrev pub is_index : Version → List (List ℕ) → ℕ → Bool
 is_index One indexes n = nat_lt 0 n && is_some (position (is_on_column (n - 1)) indexes)
 is_index _ indexes n = is_one_of (length indexes) n
 
-index_passed : (version : Version) (indexes : List (List ℕ)) (n : ℕ) → is_index version indexes n ≡ true → IsIndex version indexes n
+index_passed : (version : Version) (indexes : List (List ℕ)) (n : ℕ) → is_index version indexes n ≡ true → IndexIsThere version indexes n
 index_passed One indexes n h = (ltb-true 0 n (and_left _ _ h), and_right _ _ h)
 index_passed Two indexes n h = one_of (length indexes) n h
 index_passed Three indexes n h = one_of (length indexes) n h
@@ -113,7 +114,7 @@ module _ (block : CertifiedBlock) where
   path_passed (MatchingScan t i gs backward) h = (
     one_of block.space.table_count t (and_left _ _ (and_left _ _ h)),
     index_passed block.version (indexes_of block (t - 1)) i (and_right _ _ (and_left _ _ h)),
-    all_passed (IsConjunct block) (is_one_of (length block.space.conjuncts)) (one_of (length block.space.conjuncts)) gs (and_right _ _ h),
+    all_passed (ConjunctIsThere block) (is_one_of (length block.space.conjuncts)) (one_of (length block.space.conjuncts)) gs (and_right _ _ h),
   )
 
   abbrev pub plan_is_there : Plan → Bool
@@ -182,10 +183,17 @@ below_passed c h =
 
 pub spelled_by : (block : CertifiedBlock) (bytes : List ℕ) (plan : Plan) (certificate : Certificate)
     → has_form block.version (written block plan certificate) ≡ true → are_there block (written block plan certificate) ≡ true
-    → plan_meant block (plan_written block plan) ≡ plan → are_below certificate ≡ true → spelling block plan certificate ≡ bytes
+    → plan_meant block (plan_written block plan) ≡ plan → are_below certificate ≡ true → text_written block plan certificate ≡ bytes
     → Spells block bytes plan certificate
 spelled_by block bytes plan certificate form there meant below is =
-    (record { form = form; there = there_passed block (written block plan certificate) there; meant = meant; below = below_passed certificate below }, sym is)
+    record {
+      said = written block plan certificate;
+      says = (form, sym is);
+      there = there_passed block (written block plan certificate) there;
+      meant = sym meant;
+      as_written = refl;
+      below = below_passed certificate below;
+    }
 
 -- ---- faults
 

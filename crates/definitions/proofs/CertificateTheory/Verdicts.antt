@@ -3,6 +3,7 @@ use Rattle.std.proofs.Common.{◌≡◌, ◌∙◌, refl, sym, ap, ap₂, subst,
 use Rattle.std.specs.Prelude.{bytes_eq, flat_map}
 use Rattle.std.proofs.lemmas.Bool.{eqb-true}
 use Rattle.std.proofs.lemmas.List.Concat.{flat_map-cons}
+use Rattle.definitions.specs.Ended.{Ended, Well, both_ended}
 use Rattle.definitions.specs.Plans.TableSet.{TableSet}
 use Rattle.definitions.specs.Plans.Order.{OrderNumber}
 use Rattle.definitions.specs.Plans.Plan.{Plan}
@@ -16,7 +17,7 @@ use Rattle.definitions.specs.Certificates.File.{before_first, lines_of, own_text
 use Rattle.definitions.specs.Estimates.Version.{Version}
 use Rattle.definitions.specs.Certificates.Laws.{AreLeast}
 use Rattle.definitions.proofs.PlanTheory.Bounds.{least}
-use Rattle.definitions.specs.Certificates.Verdicts.{Told, Passes, FailsAt, IsFaulty, IsTold, CheckEnded, Well, both_ended, ended_of, rest_ended, block_line, AreTold}
+use Rattle.definitions.specs.Certificates.Verdicts.{TextVerdict, Passes, FailsAt, IsFaulty, IsTextVerdict, ended_of, rest_ended, block_line, AreTold}
 use Rattle.definitions.proofs.CertificateTheory.Faults.{spells_once, faultless, one_fault}
 use Rattle.definitions.proofs.PlanTheory.Verdicts.{refused, agree}
 
@@ -32,15 +33,15 @@ module _ (block : CertifiedBlock) (bytes : List ℕ) where
       let e = spells_once block bytes p q c d g h in
       subst (λ (x : Certificate). IsVerdict block.space x q (Refused rule tables order)) e.1 (subst (λ (x : Plan). IsVerdict block.space c x (Refused rule tables order)) e.0 v)
 
-  pass_and_fail : (rule : Rule) → IsTold block bytes Passes → IsTold block bytes (FailsAt rule) → ⊥
+  pass_and_fail : (rule : Rule) → IsTextVerdict block bytes Passes → IsTextVerdict block bytes (FailsAt rule) → ⊥
   pass_and_fail rule (p, c, s, v) (q, d, t, (tables, order, w)) = refused block.space d q rule tables order w (valid_of_other p q c d s t v)
 
-  fails_once : (a b : Rule) → IsTold block bytes (FailsAt a) → IsTold block bytes (FailsAt b) → a ≡ b
+  fails_once : (a b : Rule) → IsTextVerdict block bytes (FailsAt a) → IsTextVerdict block bytes (FailsAt b) → a ≡ b
   fails_once a b (p, c, s, (tables, order, v)) (q, d, t, (tables', order', w)) =
       let e : Some a ≡ Some b = agree block.space d q (Refused a tables order) (Refused b tables' order') (refused_of_other p q c d a tables order s t v) w in
       search (rules, e)
 
-  pub told_once : (a b : Told) → IsTold block bytes a → IsTold block bytes b → a ≡ b
+  pub told_once : (a b : TextVerdict) → IsTextVerdict block bytes a → IsTextVerdict block bytes b → a ≡ b
   told_once Passes Passes g h = refl
   told_once Passes (FailsAt r) g h = absurd (pass_and_fail r g h)
   told_once Passes (IsFaulty f) g h = absurd (faultless block bytes f (g.0, g.1, g.2) h)
@@ -53,7 +54,7 @@ module _ (block : CertifiedBlock) (bytes : List ℕ) where
 
 -- ---- files
 
-well_first : (told : Told) (later : CheckEnded) → Well ≡ both_ended (ended_of told) later → (Passes ≡ told) × (Well ≡ later)
+well_first : (told : TextVerdict) (later : Ended) → Well ≡ both_ended (ended_of told) later → (Passes ≡ told) × (Well ≡ later)
 well_first Passes later e = (refl, e)
 well_first (FailsAt rule) later e = absurd (cc)
 well_first (IsFaulty fault) later e = absurd (cc)
@@ -68,18 +69,18 @@ well_is_least current [] lines text h = nothing_left lines h.1
 well_is_least current (block_in ∷ blocks) lines text (told, rest, later, is, behind, t, w) =
     let both = well_first told later w in
     let block = block_in (version_of current lines) in
-    let k : IsTold block (own_text lines) Passes = subst (IsTold block (own_text lines)) (sym both.0) is in
+    let k : IsTextVerdict block (own_text lines) Passes = subst (IsTextVerdict block (own_text lines)) (sym both.0) is in
     let more : AreTold current blocks (lines_behind lines) rest Well = subst (AreTold current blocks (lines_behind lines) rest) (sym both.1) behind in
     ((k.0, k.1, k.2, least block.space k.0 k.1 k.3), well_is_least current blocks (lines_behind lines) rest more)
 
-pub file_told_once : (current : Version) (blocks : List (Version → CertifiedBlock)) (lines : List (List ℕ)) (a b : List ℕ) (e f : CheckEnded)
+pub file_told_once : (current : Version) (blocks : List (Version → CertifiedBlock)) (lines : List (List ℕ)) (a b : List ℕ) (e f : Ended)
     → AreTold current blocks lines a e → AreTold current blocks lines b f → (a ≡ b) × (e ≡ f)
 file_told_once current [] lines a b e f g h = (g.0 ∙ sym h.0, g.1 ∙ sym h.1)
 file_told_once current (block_in ∷ blocks) lines a b e f (told, rest, later, is, behind, t, w) (told', rest', later', is', behind', t', w') =
     let block = block_in (version_of current lines) in
     let same : told ≡ told' = told_once block (own_text lines) told told' is is' in
     let more = file_told_once current blocks (lines_behind lines) rest rest' later later' behind behind' in
-    (t ∙ ap₂ (λ (x : Told) (l : List ℕ). block_line current block x ++ l) same more.0 ∙ sym t', w ∙ ap₂ (λ (x : Told) (l : CheckEnded). both_ended (ended_of x) l) same more.1 ∙ sym w')
+    (t ∙ ap₂ (λ (x : TextVerdict) (l : List ℕ). block_line current block x ++ l) same more.0 ∙ sym t', w ∙ ap₂ (λ (x : TextVerdict) (l : Ended). both_ended (ended_of x) l) same more.1 ∙ sym w')
 
 -- ---- cutting
 

@@ -8,7 +8,7 @@ use Rattle.definitions.specs.Value.{SqlType}
 use Rattle.definitions.specs.Table.{Database}
 use Rattle.definitions.specs.Plans.Order.{BlockColumn, SortKey, Order, ascending}
 use Rattle.definitions.specs.Queries.BoundBlock as b
-use Rattle.definitions.specs.Queries.BoundBlock.{ValueExpr, Item, Key, Block, Blocks}
+use Rattle.definitions.specs.Queries.BoundBlock.{ValueExpr, Item, OrderKey, Block, Blocks}
 use Rattle.definitions.specs.Queries.Answer.{is_grouped}
 use Rattle.definitions.specs.Binding.Formed.{HasColumn, IsTypedValue, IsFormedBlock}
 use Rattle.definitions.specs.Estimates.Sides.{column_of}
@@ -54,7 +54,7 @@ module _ (db : Database) (blocks around : Blocks) (n : ℕ) (block : Block) wher
   of_value descending (b.AggregateValue number type) t = tt
   of_value descending (b.Subquery number type) t = tt
 
-  key_own : (key : Key) → AreTyped block.items → IfOwn (sort_key block.items key)
+  key_own : (key : OrderKey) → AreTyped block.items → IfOwn (sort_key block.items key)
   key_own key typed = of_item (slice_get block.items key.item) refl
     where
       of_item : (o : Option Item) → slice_get block.items key.item ≡ o
@@ -62,7 +62,7 @@ module _ (db : Database) (blocks around : Blocks) (n : ℕ) (block : Block) wher
       of_item None e = tt
       of_item (Some i) e = of_value key.descending i.value (typed_at block.items key.item i typed e)
 
-  ordered : (keys : List Key) → AreTyped block.items → AllByRecursion IsOwn (filter_map (sort_key block.items) keys)
+  ordered : (keys : List OrderKey) → AreTyped block.items → AllByRecursion IsOwn (filter_map (sort_key block.items) keys)
   ordered [] typed = tt
   ordered (key ∷ keys) typed = of_key (sort_key block.items key) (key_own key typed) (ordered keys typed)
     where

@@ -7,7 +7,7 @@ use Rattle.std.proofs.lemmas.List.Sums.{sum_by-cons}
 use Rattle.std.proofs.lemmas.List.Sorted.{IsPermutation-refl, IsPermutation-cons, IsPermutation-middle, IsPermutation-append_right, IsPermutation-sym, IsPermutation-trans, list_any-IsPermutation}
 use Rattle.definitions.specs.Arithmetic.{Meaning, Is, Raises}
 use Rattle.definitions.specs.Truth.{Truth, False, Unknown, True, and, or, all_true, any_true, is_true}
-use Rattle.definitions.specs.Queries.BoundBlock.{Condition, Conditions, NoPart, Part, And, Key, Block, Blocks}
+use Rattle.definitions.specs.Queries.BoundBlock.{Condition, Conditions, NoPart, Part, And, Block, Blocks}
 use Rattle.definitions.specs.Queries.BoundBlock as b
 use Rattle.definitions.specs.Queries.Evaluation.{Combination, Environment, truth, truths, on_one, on_two}
 use Rattle.definitions.specs.Queries.Conjuncts.{late_conjuncts, early_conjuncts, conjuncts, conjuncts_of, conjuncts_of_option, conjuncts_of_parts, is_late}

@@ -8,7 +8,7 @@ use Rattle.std.proofs.lemmas.List.Sorted.{IsPermutation-refl, IsPermutation-tran
 use Rattle.definitions.specs.Value.{Null, rank}
 use Rattle.definitions.specs.Table.{Row}
 use Rattle.definitions.specs.Arithmetic.{Is, Raises}
-use Rattle.definitions.specs.Queries.BoundBlock.{Key}
+use Rattle.definitions.specs.Queries.BoundBlock.{OrderKey}
 use Rattle.definitions.specs.Queries.Outcomes.{Rows, Exception, directed, row_order}
 use Rattle.definitions.specs.Queries.Laws.{SomeOutcomeIsAllowed}
 use Rattle.definitions.proofs.Ranking.{rank_total}
@@ -24,7 +24,7 @@ directed_reversed : (d : Bool) (o : Ordering) → directed d (ordering_reverse o
 directed_reversed true o = refl
 directed_reversed false o = refl
 
-row_antisymm : (keys : List Key) (a b : Row) → row_order keys a b ≡ ordering_reverse (row_order keys b a)
+row_antisymm : (keys : List OrderKey) (a b : Row) → row_order keys a b ≡ ordering_reverse (row_order keys b a)
 row_antisymm [] a b = refl
 row_antisymm (key ∷ keys) a b =
     let d = key.descending in
@@ -39,7 +39,7 @@ not_both o Greater e h = refl
 
 -- ---- rows in order
 
-module _ (keys : List Key) where
+module _ (keys : List OrderKey) where
   abbrev before : Row → Row → Bool
   before a b = is_lt (row_order keys a b)
 

@@ -9,8 +9,7 @@ use Rattle.std.specs.List.{sum_by}
 use Rattle.definitions.specs.Value.{Value, Null, Text}
 use Rattle.definitions.specs.Table.{Row}
 use Rattle.definitions.specs.Arithmetic as a
-use Rattle.definitions.specs.Arithmetic.{over, plus, Meaning, Is, Raises, raised}
-use Rattle.definitions.specs.Queries.Outcomes.{row_order, order_of}
+use Rattle.definitions.specs.Queries.Outcomes.{row_order, order_keys}
 use Rattle.definitions.specs.Examples.Queries.{whole, joined, grouped, twenty, GuardedDivision, NoRows, NullsInLists, PaddedTexts, LargeNumbers, LongSums, Subqueries, JoinsAndGroups, FurtherRules, FurtherTexts}
 
 -- an exception is no other
@@ -101,10 +100,10 @@ pub joins_and_groups : JoinsAndGroups
 unfolding digits
 joins_and_groups = record {
   nulls_do_not_join = refl;
-  joined_in_order = (record { moves = (0, 1) ∷ []; below = (lit< tt, lit< tt, tt); is = refl }, two_sorted (row_order (order_of joined)) (whole 30 ∷ whole 5 ∷ []) (whole 10 ∷ whole 5 ∷ []) refl);
+  joined_in_order = (record { moves = (0, 1) ∷ []; below = (lit< tt, lit< tt, tt); is = refl }, two_sorted (row_order (order_keys joined)) (whole 30 ∷ whole 5 ∷ []) (whole 10 ∷ whole 5 ∷ []) refl);
   joined_out_of_order = λ h. let rises : true ≡ false = h.1 0 [] (lit≤ tt) (lit< tt) in cc;
   joined_shown = refl;
-  nulls_are_one_group = (record { moves = (0, 1) ∷ []; below = (lit< tt, lit< tt, tt); is = refl }, two_sorted (row_order (order_of grouped)) (Null ∷ whole 1 ∷ twenty ∷ []) (whole 1 ∷ whole 2 ∷ twenty ∷ []) refl);
+  nulls_are_one_group = (record { moves = (0, 1) ∷ []; below = (lit< tt, lit< tt, tt); is = refl }, two_sorted (row_order (order_keys grouped)) (Null ∷ whole 1 ∷ twenty ∷ []) (whole 1 ∷ whole 2 ∷ twenty ∷ []) refl);
   nulls_are_not_left_out = λ h. no_permutation (λ r. 1) ((whole 1 ∷ whole 2 ∷ twenty ∷ []) ∷ (Null ∷ whole 1 ∷ twenty ∷ []) ∷ []) ((whole 1 ∷ whole 2 ∷ twenty ∷ []) ∷ []) (λ e. omega (arith, e)) h.0;
   groups_shown = refl;
 }

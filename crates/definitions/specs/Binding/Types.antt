@@ -3,8 +3,12 @@ use Rattle.std.specs.Prelude.{◌+◌, max, List, [], ◌∷◌, Option, Some, N
 use Rattle.definitions.specs.ValueType.{ValueType, NumberType, TextType, type_of}
 use Rattle.definitions.specs.Table.{Database}
 use Rattle.definitions.specs.Arithmetic.{quotient_scale}
-use Rattle.definitions.specs.Binding.Scopes.{Scopes, Found, Resolution, Named, scope_of, are_there, all_columns, own_scope, resolve}
-use Rattle.definitions.specs.Statement.{LineOperator, Plus, Minus, Times, SetFunction, Count, Avg, Expr, Column, Numeral, String, Signed, Line, Scalar, CountRows, Function, Operands, NoOperand, Operand, AddItem, NoItem, SelectList, Asterisk, Listed, Block, Specification}
+use Rattle.definitions.specs.Binding.Scopes.{Scopes, Found, Resolution, Named, scope_of, are_there, all_columns}
+use Rattle.definitions.specs.Binding.Scopes.{own_scope, resolve}
+use Rattle.definitions.specs.Statement.{LineOperator, Plus, Minus, Times, SetFunction, Count, Avg, Expr, Column}
+use Rattle.definitions.specs.Statement.{Numeral, String, Signed, Line, Scalar, CountRows, Function, LineOperands}
+use Rattle.definitions.specs.Statement.{NoOperand, Operand, AddItem, NoItem, SelectList, Asterisk, Listed}
+use Rattle.definitions.specs.Statement.{QuerySpecification, Specification}
 
 abbrev pub found_type : Resolution → Option ValueType
 found_type (Named level f) = Some (type_of f.type)
@@ -28,7 +32,8 @@ abbrev pub single_type : List Found → Option ValueType
 single_type (f ∷ []) = Some (type_of f.type)
 single_type _ = None
 
--- the type of an expression's values; none where it is a condition, or where a name or a mixture of kinds leaves it open
+-- the type of an expression's values; none where it is a condition, or where a name or a mixture of kinds leaves it
+-- open
 abbrev mutual
   pub expr_type : Database → Scopes → Expr → Option ValueType
   expr_type db scopes (Column ref) = found_type (resolve scopes ref)
@@ -41,13 +46,15 @@ abbrev mutual
   expr_type db scopes (Function function distinct argument) = function_type function (expr_type db scopes argument)
   expr_type db scopes _ = None
 
-  pub chain_type : Database → Scopes → Option ValueType → Operands → Option ValueType
+  pub chain_type : Database → Scopes → Option ValueType → LineOperands → Option ValueType
   chain_type db scopes left NoOperand = left
-  chain_type db scopes left (Operand operator e others) = chain_type db scopes (joined_type operator left (expr_type db scopes e)) others
+  chain_type db scopes left (Operand operator e others) =
+      chain_type db scopes (joined_type operator left (expr_type db scopes e)) others
 
   -- of a query's only result column; none where its tables are not there
-  pub query_type : Database → Scopes → Block → Option ValueType
-  query_type db outer (Specification distinct list sources where' groups having) = if are_there (scope_of db sources ∷ []) then list_type db (scope_of db sources ∷ outer) list else None
+  pub query_type : Database → Scopes → QuerySpecification → Option ValueType
+  query_type db outer (Specification distinct list sources where' groups having) =
+      if are_there (scope_of db sources ∷ []) then list_type db (scope_of db sources ∷ outer) list else None
 
   pub list_type : Database → Scopes → SelectList → Option ValueType
   list_type db scopes Asterisk = single_type (all_columns (own_scope scopes))

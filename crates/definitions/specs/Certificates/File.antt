@@ -31,7 +31,8 @@ earlier Three = One ∷ Two ∷ []
 
 abbrev pub version_among : List Version → (current : Version) → (line : List ℕ) → Version
 version_among [] current line = current
-version_among (version ∷ versions) current line = if bytes_eq line (first_line version) then version else version_among versions current line
+version_among (version ∷ versions) current line =
+    if bytes_eq line (first_line version) then version else version_among versions current line
 
 -- an earlier one if its first line is the text's, else the current one
 abbrev pub version_of : (current : Version) → (lines : List (List ℕ)) → Version

@@ -1,12 +1,12 @@
 -- What can be written in a certificate, whatever block it is of (own).
-use Rattle.std.specs.Prelude.{ℕ, ◌+◌, List, [], ◌∷◌, Bool, true, false, not, ◌&&◌, nat_le}
+use Rattle.std.specs.Prelude.{ℕ, ◌+◌, ◌≡◌, List, [], ◌∷◌, Bool, true, false, not, ◌&&◌, nat_le, IsTrue}
 use Rattle.std.specs.List.{list_all}
 use Rattle.definitions.specs.Plans.Path.{Path, SegmentScan, IndexScan, MatchingScan}
 use Rattle.definitions.specs.Plans.Plan.{Plan, Access, Loop, Merge, Sort}
 use Rattle.definitions.specs.Plans.Cost.{limit}
 use Rattle.definitions.specs.Plans.Certificate.{StateCost}
 use Rattle.definitions.specs.Estimates.Version.{Version, One}
-use Rattle.definitions.specs.Certificates.Text.{Written}
+use Rattle.definitions.specs.Certificates.Text.{Written, text_of}
 
 -- no number is above 10^18
 abbrev pub is_number : ℕ → Bool
@@ -51,3 +51,7 @@ abbrev pub has_form : Version → Written → Bool
 has_form version written =
     is_number written.block && is_plan version written.plan && nat_le (word_count written.plan) word_limit
     && is_number written.certificate.target && list_all is_state written.certificate.states
+
+-- the bytes say that, in the form of a version
+abbrev pub Says : Version → List ℕ → Written → Type 0
+Says version bytes said = IsTrue (has_form version said) × (bytes ≡ text_of version said)

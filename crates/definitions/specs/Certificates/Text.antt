@@ -22,7 +22,8 @@ direction_text true = codes " BACK"
 
 abbrev pub path_text : Path → List ℕ
 path_text (SegmentScan table) = codes "SEG " ++ decimal table
-path_text (IndexScan table index backward) = codes "IDX " ++ decimal table ++ codes "." ++ decimal index ++ direction_text backward
+path_text (IndexScan table index backward) =
+    codes "IDX " ++ decimal table ++ codes "." ++ decimal index ++ direction_text backward
 path_text (MatchingScan table index conjuncts backward) =
     codes "MATCH " ++ decimal table ++ codes "." ++ decimal index ++ conjuncts_text conjuncts ++ direction_text backward
 
@@ -34,11 +35,13 @@ abbrev pub plan_text : Plan → List ℕ
 plan_text (Access path) = codes "ACCESS(" ++ path_text path ++ codes ")"
 plan_text (Loop outer path) = codes "LOOP(" ++ plan_text outer ++ codes "," ++ path_text path ++ codes ")"
 plan_text (Merge outer conjunct inner) =
-    codes "MERGE(" ++ plan_text outer ++ codes "," ++ decimal conjunct ++ codes "," ++ sorted_text inner.sorted ++ path_text inner.path ++ codes ")"
+    codes "MERGE(" ++ plan_text outer ++ codes "," ++ decimal conjunct ++ codes ","
+    ++ sorted_text inner.sorted ++ path_text inner.path ++ codes ")"
 plan_text (Sort input order) = codes "SORT(" ++ plan_text input ++ codes "," ++ decimal order ++ codes ")"
 
 abbrev pub state_line : StateCost → List ℕ
-state_line state = line (codes "STATE " ++ decimal state.tables ++ codes " " ++ decimal state.order ++ codes " " ++ decimal state.cost)
+state_line state =
+    line (codes "STATE " ++ decimal state.tables ++ codes " " ++ decimal state.order ++ codes " " ++ decimal state.cost)
 
 -- a text names the version of the plan space that it speaks of
 abbrev pub number_of_version : Version → ℕ

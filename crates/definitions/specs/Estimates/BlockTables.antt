@@ -1,5 +1,6 @@
 -- The tables of a bound block: sets of them, their statistics and their indexes.
-use Rattle.std.specs.Prelude.{ℕ, Bool, ◌==◌, bit_or, List, [], length, filter, Option, option_map, option_and_then, unwrap_or, slice_get}
+use Rattle.std.specs.Prelude.{ℕ, Bool, ◌==◌, bit_or, List, [], length, filter, Option, option_map, option_and_then}
+use Rattle.std.specs.Prelude.{unwrap_or, slice_get}
 use Rattle.std.specs.List.{range_with_len}
 use Rattle.std.specs.Int.{bit_at}
 use Rattle.definitions.specs.Table.{Index, Table, Database}

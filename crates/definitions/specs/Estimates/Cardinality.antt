@@ -1,5 +1,5 @@
--- How many rows a set of tables is taken to give, and what it costs to sort them (own, after Selinger et al. 1979, sections 4 and 5: QCARD
--- and RSICARD are the cardinalities times the selectivities of the boolean factors).
+-- How many rows a set of tables is taken to give, and what it costs to sort them (own, after Selinger et al. 1979,
+-- sections 4 and 5: QCARD and RSICARD are the cardinalities times the selectivities of the boolean factors).
 use Rattle.std.specs.Prelude.{ℕ, ◌+◌, ◌*◌, Bool, not, ◌&&◌, List, [], ◌∷◌, filter, fold, sum_by}
 use Rattle.std.specs.Int.{div_ceil}
 use Rattle.definitions.specs.Table.{Table, Database}
@@ -13,7 +13,8 @@ use Rattle.definitions.specs.Estimates.PlanConjuncts.{plan_conjuncts}
 
 -- what the early conjuncts of some kind leave of some rows: in the order of the text, each its share
 abbrev pub left_by : (Conjunct → Bool) → List Conjunct → ℕ → ℕ
-left_by kind conjuncts rows = fold (λ left (c : Conjunct). share left c.selectivity) rows (filter (λ (c : Conjunct). c.early && kind c) conjuncts)
+left_by kind conjuncts rows =
+    fold (λ left (c : Conjunct). share left c.selectivity) rows (filter (λ (c : Conjunct). c.early && kind c) conjuncts)
 
 -- its tables are all there once one more is taken, and were not before
 abbrev pub is_completed : TableSet → ℕ → Conjunct → Bool
@@ -22,7 +23,8 @@ is_completed taken table c = is_within c.tables (with_table taken table) && not 
 module _ (db : Database) (block : Block) where
   -- of the product of some rows with those of one more table, what the conjuncts leave that it completes
   abbrev pub joined_with : TableSet → ℕ → ℕ → ℕ
-  joined_with taken rows table = left_by (is_completed taken table) (plan_conjuncts db block) (saturated (rows * rows_at db block table))
+  joined_with taken rows table =
+      left_by (is_completed taken table) (plan_conjuncts db block) (saturated (rows * rows_at db block table))
 
   -- from the rows of the tables taken to those of the further ones, too
   abbrev pub taking : TableSet → ℕ → List ℕ → ℕ
@@ -36,7 +38,8 @@ module _ (db : Database) (block : Block) where
   -- the rows that a scan of a table hands on where the rows of a set of tables are known (RSICARD)
   abbrev pub path_rows : TableSet → ℕ → ℕ
   path_rows tables table =
-      left_by (λ c. has c.tables table && is_within c.tables (with_table tables table)) (plan_conjuncts db block) (rows_at db block table)
+      left_by (λ c. has c.tables table
+      && is_within c.tables (with_table tables table)) (plan_conjuncts db block) (rows_at db block table)
 
   -- the bytes of a row of a set of tables, and the pages that its rows fill
   abbrev pub width : TableSet → ℕ

@@ -1,4 +1,5 @@
--- Parts of the range of an index's keys (Selinger et al. 1979, table 1: linear interpolation of the value within the range of key values).
+-- Parts of the range of an index's keys (Selinger et al. 1979, table 1: linear interpolation of the value within the
+-- range of key values).
 use Rattle.std.specs.Prelude.{ℕ, ℤ, pos, ◌^◌, ◌*ℤ◌, ◌-ℤ◌, nat_abs, int_lt, int_div, Option, Some, None, if◌then◌else◌}
 use Rattle.std.specs.Ordering.{is_lt, is_gt}
 use Rattle.definitions.specs.Value.{number_cmp}

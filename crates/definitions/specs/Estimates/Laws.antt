@@ -34,7 +34,8 @@ pub record HasPlans (block : Block) : Type 0 where
 
 -- in each version the space of such a block is complete: what the theory of plans says of complete spaces holds of it
 abbrev pub SpaceIsComplete : Type 0
-SpaceIsComplete = (version : Version) (db : Database) (block : Block) → HasPlans block → IsComplete (space_of version db block)
+SpaceIsComplete =
+    (version : Version) (db : Database) (block : Block) → HasPlans block → IsComplete (space_of version db block)
 
 -- and each well-formed block is one, whatever the blocks around it
 abbrev pub FormedBlocksHavePlans : Type 0
@@ -43,7 +44,9 @@ FormedBlocksHavePlans = (db : Database) (blocks around : Blocks) (n : ℕ) (bloc
 
 -- a path's order has a number, which stands for that order
 abbrev pub PathOrderIsNumbered : Type 0
-PathOrderIsNumbered = (version : Version) (db : Database) (block : Block) (tables : TableSet) (table : ℕ) (path : Path) → table < length block.tables
+PathOrderIsNumbered =
+    (version : Version) (db : Database) (block : Block) (tables : TableSet) (table : ℕ) (path : Path)
+    → table < length block.tables
     → Contains (paths_of version db block tables table) path
     → HasNumber (orders_of version db block) (order_of_path db block path) ((space_of version db block).path_order path)
 
@@ -52,7 +55,8 @@ PathOrderIsNumbered = (version : Version) (db : Database) (block : Block) (table
 -- a share is at most the whole; a scan hands on no more rows than its table has; and no estimate passes the limit
 abbrev pub EstimatesStayBelow : Type 0
 EstimatesStayBelow = (db : Database) (block : Block) → ((c : Condition) → selectivity db block c ≤ million)
-    × ((tables : TableSet) → cardinality db block tables ≤ limit) × ((tables : TableSet) → sort_cost db block tables ≤ limit)
+    × ((tables : TableSet) → cardinality db block tables ≤ limit)
+    × ((tables : TableSet) → sort_cost db block tables ≤ limit)
     × ((tables : TableSet) (path : Path) → path_cost db block tables path ≤ limit)
     × ((tables : TableSet) (table : ℕ) → path_rows db block tables table ≤ rows_at db block table)
 
@@ -65,10 +69,12 @@ bare target = record { target = target; states = [] }
 -- no access costs less
 abbrev pub NoAccessBelow : Space → ℕ → Type 0
 NoAccessBelow space cost =
-    AllByRecursion (λ table. AllByRecursion (λ (path : Path). cost ≤ space.path_cost no_tables path) (space.paths no_tables table))
+    AllByRecursion (λ table. AllByRecursion (λ (path : Path). cost ≤ space.path_cost no_tables path)
+    (space.paths no_tables table))
     (range_with_len 0 space.table_count)
 
 -- where no access costs less than a plan does, its cost alone certifies it
 abbrev pub TargetSuffices : Type 0
-TargetSuffices = (space : Space) (plan : Plan) (target : ℕ) → target ≤ limit → InSpace space plan → GivesRequired space plan
+TargetSuffices =
+    (space : Space) (plan : Plan) (target : ℕ) → target ≤ limit → InSpace space plan → GivesRequired space plan
     → cost_of space plan ≡ target → NoAccessBelow space target → IsCertified space plan (bare target)

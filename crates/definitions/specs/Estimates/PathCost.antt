@@ -1,12 +1,13 @@
--- What one scan of a path costs (Selinger et al. 1979, table 2; the numbers are own): 10 for each page that is fetched, and 1 for each row that
--- is handed on (RSICARD). The pages:
---   unique index, all its columns matched by `=`                 one of the index, one of the table: 21 with its row
---   clustered index, matched by conjuncts                        F * (NINDX + TCARD)
---   index that isn't clustered, matched by conjuncts             F * (NINDX + NCARD), or F * (NINDX + TCARD) if that fits into the buffer
---   clustered index, all of it                                   NINDX + TCARD
---   index that isn't clustered, all of it                        NINDX + NCARD, or NINDX + TCARD if that fits into the buffer
---   segment scan                                                 TCARD
-use Rattle.std.specs.Prelude.{ℕ, ◌+◌, ◌*◌, max, nat_le, Bool, true, false, ◌&&◌, ◌||◌, if◌then◌else◌, List, [], ◌∷◌, Option, Some, None, length, fold, map, slice_get}
+-- What one scan of a path costs (Selinger et al. 1979, table 2; the numbers are own): 10 for each page that is fetched,
+-- and 1 for each row that is handed on (RSICARD). The pages:
+--   unique index, all its columns matched by `=`   one of the index, one of the table: 21 with its row
+--   clustered index, matched by conjuncts          F * (NINDX + TCARD)
+--   one that isn't clustered, matched              F * (NINDX + NCARD), or F * (NINDX + TCARD) if that fits the buffer
+--   clustered index, all of it                     NINDX + TCARD
+--   one that isn't clustered, all of it            NINDX + NCARD, or NINDX + TCARD if that fits the buffer
+--   segment scan                                   TCARD
+use Rattle.std.specs.Prelude.{ℕ, ◌+◌, ◌*◌, max, nat_le, Bool, true, false, ◌&&◌, ◌||◌, if◌then◌else◌, List, [], ◌∷◌}
+use Rattle.std.specs.Prelude.{Option, Some, None, length, fold, map, slice_get}
 use Rattle.definitions.specs.Table.{Index, Database}
 use Rattle.definitions.specs.Plans.TableSet.{TableSet}
 use Rattle.definitions.specs.Plans.Path.{Path, SegmentScan, IndexScan, MatchingScan}
@@ -34,7 +35,8 @@ one_row = 21
 abbrev pub equals_each : Block → TableSet → ℕ → List ℕ → List ℕ → Bool
 equals_each block tables table [] [] = true
 equals_each block tables table (number ∷ numbers) (conjunct ∷ conjuncts) =
-    equals_at block tables (record { table = table; number = number }) conjunct && equals_each block tables table numbers conjuncts
+    equals_at block tables (record { table = table; number = number }) conjunct
+    && equals_each block tables table numbers conjuncts
 equals_each block tables table _ _ = false
 
 module _ (db : Database) (block : Block) where
@@ -49,32 +51,39 @@ module _ (db : Database) (block : Block) where
   -- what is fetched of them where a share of the index is read
   abbrev pub pages_fetched : Index → ℕ → (ℕ → ℕ) → ℕ
   pages_fetched i table share_of =
-      if i.statistics.clustered || nat_le (share_of (pages_once i table)) buffer_pages then share_of (pages_once i table)
+      if i.statistics.clustered || nat_le (share_of (pages_once i table)) buffer_pages
+      then share_of (pages_once i table)
       else share_of (pages_by_row i table)
 
   -- the share of pages that conjuncts leave, each its own of what those before it left
   abbrev pub shares : List ℕ → ℕ → ℕ
-  shares conjuncts pages = fold share pages (map (λ number. selectivity_of (slice_get (plan_conjuncts db block) number)) conjuncts)
+  shares conjuncts pages =
+      fold share pages (map (λ number. selectivity_of (slice_get (plan_conjuncts db block) number)) conjuncts)
 
-  -- the share of a matching scan: one key where two columns or more are all equal to a value, else what its conjuncts leave
+  -- the share of a matching scan: one key where two columns or more are all equal to a value, else what its conjuncts
+  -- leave
   abbrev pub matched : Index → Bool → List ℕ → ℕ → ℕ
   matched i all_equal conjuncts pages =
-      if nat_le 2 (length i.columns) && all_equal then share pages (fraction 1 (max 1 i.statistics.keys)) else shares conjuncts pages
+      if nat_le 2 (length i.columns) && all_equal then share pages (fraction 1 (max 1 i.statistics.keys))
+      else shares conjuncts pages
 
   -- all of an index
   abbrev pub whole_index_cost : TableSet → ℕ → Option Index → ℕ
   whole_index_cost tables table None = 0
-  whole_index_cost tables table (Some i) = weighted (pages_fetched i table (λ pages. pages)) (path_rows db block tables table)
+  whole_index_cost tables table (Some i) =
+      weighted (pages_fetched i table (λ pages. pages)) (path_rows db block tables table)
 
   -- what conjuncts match of it
   abbrev pub match_cost : TableSet → ℕ → List ℕ → Option Index → ℕ
   match_cost tables table conjuncts None = 0
   match_cost tables table conjuncts (Some i) =
       let all_equal : Bool = equals_each block tables table i.columns conjuncts in
-      if i.unique && all_equal then one_row else weighted (pages_fetched i table (matched i all_equal conjuncts)) (path_rows db block tables table)
+      if i.unique && all_equal then one_row
+      else weighted (pages_fetched i table (matched i all_equal conjuncts)) (path_rows db block tables table)
 
   -- one scan of a path where the rows of a set of tables are known; backward it costs as much as forward
   abbrev pub path_cost : TableSet → Path → ℕ
   path_cost tables (SegmentScan table) = weighted (pages_at db block table) (path_rows db block tables table)
   path_cost tables (IndexScan table number backward) = whole_index_cost tables table (index_at db block table number)
-  path_cost tables (MatchingScan table number conjuncts backward) = match_cost tables table conjuncts (index_at db block table number)
+  path_cost tables (MatchingScan table number conjuncts backward) =
+      match_cost tables table conjuncts (index_at db block table number)

@@ -1,6 +1,8 @@
--- The paths of a table where the rows of a set of tables are known (Selinger et al. 1979, section 4: a boolean factor matches an index if
--- its column is the next one of the index and the value that it is compared with is known; several columns match as an initial substring).
-use Rattle.std.specs.Prelude.{ℕ, nat_eq, Bool, false, not, ◌&&◌, ◌||◌, if◌then◌else◌, List, [], ◌∷◌, length, map, filter, flat_map, option_map, unwrap_or, slice_get}
+-- The paths of a table where the rows of a set of tables are known (Selinger et al. 1979, section 4: a boolean factor
+-- matches an index if its column is the next one of the index and the value that it is compared with is known; several
+-- columns match as an initial substring).
+use Rattle.std.specs.Prelude.{ℕ, nat_eq, Bool, false, not, ◌&&◌, ◌||◌, if◌then◌else◌, List, [], ◌∷◌, length, map}
+use Rattle.std.specs.Prelude.{filter, flat_map, option_map, unwrap_or, slice_get}
 use Rattle.std.specs.List.{range_with_len}
 use Rattle.definitions.specs.Table.{Database}
 use Rattle.definitions.specs.Statement.{Equals, LessThan, GreaterThan, LessOrEquals, GreaterOrEquals}
@@ -29,7 +31,8 @@ is_known tables table e = is_within (tables_named e) tables && not (has (tables_
 module _ (tables : TableSet) (column : BlockColumn) where
   -- one side is the column, the other is known
   abbrev pub bounds_column : ValueExpr → ValueExpr → Bool
-  bounds_column a b = (is_column column a && is_known tables column.table b) || (is_column column b && is_known tables column.table a)
+  bounds_column a b =
+      (is_column column a && is_known tables column.table b) || (is_column column b && is_known tables column.table a)
 
   -- column = value
   abbrev pub equals_column : Condition → Bool
@@ -42,20 +45,23 @@ module _ (tables : TableSet) (column : BlockColumn) where
   limits_column (Compare GreaterThan a b) = bounds_column a b
   limits_column (Compare LessOrEquals a b) = bounds_column a b
   limits_column (Compare GreaterOrEquals a b) = bounds_column a b
-  limits_column (Between false e low high) = is_column column e && is_known tables column.table low && is_known tables column.table high
+  limits_column (Between false e low high) =
+      is_column column e && is_known tables column.table low && is_known tables column.table high
   limits_column _ = false
 
 module _ (block : Block) where
   -- the conjunct of a number is early and passes a test
   abbrev pub is_early_and : (Condition → Bool) → ℕ → Bool
-  is_early_and test number = unwrap_or (option_map (λ c. not (is_late c) && test c) (slice_get (conjuncts block) number)) false
+  is_early_and test number =
+      unwrap_or (option_map (λ c. not (is_late c) && test c) (slice_get (conjuncts block) number)) false
 
   -- it says what the column equals, or in any form what it matches
   abbrev pub equals_at : TableSet → BlockColumn → ℕ → Bool
   equals_at tables column number = is_early_and (equals_column tables column) number
 
   abbrev pub matches_at : TableSet → BlockColumn → ℕ → Bool
-  matches_at tables column number = is_early_and (λ c. equals_column tables column c || limits_column tables column c) number
+  matches_at tables column number =
+      is_early_and (λ c. equals_column tables column c || limits_column tables column c) number
 
   -- the numbers of the conjuncts that match a column
   abbrev pub matching : TableSet → BlockColumn → List ℕ
@@ -74,7 +80,8 @@ module _ (version : Version) (db : Database) (block : Block) where
   abbrev pub index_paths : TableSet → ℕ → ℕ → List Path
   index_paths tables table number =
       flat_map (λ backward. IndexScan table number backward
-      ∷ map (λ conjuncts. MatchingScan table number conjuncts backward) (matching_lists block tables table (index_columns db block table number)))
+      ∷ map (λ conjuncts. MatchingScan table number conjuncts backward)
+      (matching_lists block tables table (index_columns db block table number)))
       (directions version)
 
   -- the whole table, and its indexes

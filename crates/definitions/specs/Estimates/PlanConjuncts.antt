@@ -15,7 +15,13 @@ equated_columns _ = None
 
 module _ (db : Database) (block : Block) where
   abbrev pub plan_conjunct : Condition → Conjunct
-  plan_conjunct c = record { early = not (is_late c); tables = condition_tables c; equated = equated_columns c; selectivity = selectivity db block c }
+  plan_conjunct c =
+      record {
+        early = not (is_late c);
+        tables = condition_tables c;
+        equated = equated_columns c;
+        selectivity = selectivity db block c;
+      }
 
   -- all of them in the order of the text, by which they are numbered
   abbrev pub plan_conjuncts : List Conjunct

@@ -1,12 +1,17 @@
--- Selectivity: the share of rows on which a condition is taken to be true, in millionths (Selinger et al. 1979, table 1; some numbers are own).
-use Rattle.std.specs.Prelude.{ℕ, ◌*◌, min, max, List, [], ◌∷◌, Option, Some, None, length, fold, option_map, option_and_then, unwrap_or}
-use Rattle.definitions.specs.Statement.{ComparisonOperator, Equals, NotEquals, LessThan, GreaterThan, LessOrEquals, GreaterOrEquals}
+-- Selectivity: the share of rows on which a condition is taken to be true, in millionths (Selinger et al. 1979, table
+-- 1; some numbers are own).
+use Rattle.std.specs.Prelude.{ℕ, ◌*◌, min, max, List, [], ◌∷◌, Option, Some, None, length, fold, option_map}
+use Rattle.std.specs.Prelude.{option_and_then, unwrap_or}
+use Rattle.definitions.specs.Statement.{ComparisonOperator, Equals, NotEquals, LessThan, GreaterThan, LessOrEquals}
+use Rattle.definitions.specs.Statement.{GreaterOrEquals}
 use Rattle.definitions.specs.Table.{KeyRange, Index, Table, Database, index_on}
 use Rattle.definitions.specs.Plans.Order.{BlockColumn}
 use Rattle.definitions.specs.Plans.Cost.{share}
-use Rattle.definitions.specs.Queries.BoundBlock.{Condition, Conditions, NoPart, Part, Compare, IsNull, Between, Like, InList, InQuery, Not, And, Or, Block}
+use Rattle.definitions.specs.Queries.BoundBlock.{Condition, Conditions, NoPart, Part, Compare, IsNull, Between, Like}
+use Rattle.definitions.specs.Queries.BoundBlock.{InList, InQuery, Not, And, Or, Block}
 use Rattle.definitions.specs.Estimates.BlockTables.{table_at}
-use Rattle.definitions.specs.Estimates.Fractions.{million, fraction, rest_of, negated_if, either_of, one_tenth, one_quarter, one_third, one_half}
+use Rattle.definitions.specs.Estimates.Fractions.{million, fraction, rest_of, negated_if, either_of, one_tenth}
+use Rattle.definitions.specs.Estimates.Fractions.{one_quarter, one_third, one_half}
 use Rattle.definitions.specs.Estimates.Sides.{Side, PlainColumn, KnownNumber, side_of}
 use Rattle.definitions.specs.Estimates.KeyRanges.{extent, drawn, part_above, part_below, part_between}
 
@@ -25,7 +30,8 @@ module _ (db : Database) (block : Block) where
 
   -- the index on it alone
   abbrev pub own_index : BlockColumn → Option Index
-  own_index column = option_and_then (λ (t : Table). index_on t.indexes (column.number ∷ [])) (table_at db block column.table)
+  own_index column =
+      option_and_then (λ (t : Table). index_on t.indexes (column.number ∷ [])) (table_at db block column.table)
 
   -- how many keys that has, if it is there; one at least (ICARD)
   abbrev pub keys_of : BlockColumn → Option ℕ
@@ -53,8 +59,10 @@ module _ (db : Database) (block : Block) where
   -- value > column        the part below it
   -- any other >           a third
   abbrev pub greater_share : Side → Side → ℕ
-  greater_share (PlainColumn x key_scale) (KnownNumber v scale) = part_or x (λ range. part_above range (drawn range key_scale v scale)) one_third
-  greater_share (KnownNumber v scale) (PlainColumn x key_scale) = part_or x (λ range. part_below range (drawn range key_scale v scale)) one_third
+  greater_share (PlainColumn x key_scale) (KnownNumber v scale) =
+      part_or x (λ range. part_above range (drawn range key_scale v scale)) one_third
+  greater_share (KnownNumber v scale) (PlainColumn x key_scale) =
+      part_or x (λ range. part_below range (drawn range key_scale v scale)) one_third
   greater_share _ _ = one_third
 
   -- a >= b is as a > b, a < b as b > a, and a <> b as NOT a = b
@@ -70,7 +78,8 @@ module _ (db : Database) (block : Block) where
   -- column BETWEEN any other             a quarter
   abbrev pub between_share : Side → Side → Side → ℕ
   between_share (PlainColumn x key_scale) (KnownNumber v v_scale) (KnownNumber w w_scale) =
-      part_or x (λ range. part_between range (drawn range key_scale v v_scale) (drawn range key_scale w w_scale)) one_quarter
+      part_or x (λ range. part_between range (drawn range key_scale v v_scale)
+      (drawn range key_scale w w_scale)) one_quarter
   between_share (PlainColumn x _) _ _ = one_quarter
   between_share _ _ _ = one_third
 
@@ -84,11 +93,13 @@ module _ (db : Database) (block : Block) where
   null_share (PlainColumn x _) = one_tenth
   null_share _ = one_third
 
-  -- LIKE is a tenth, NOT and what is negated leave the rest, and any other shape is a third; OR and AND take their parts to be independent
+  -- LIKE is a tenth, NOT and what is negated leave the rest, and any other shape is a third; OR and AND take their
+  -- parts to be independent
   abbrev mutual
     pub selectivity : Condition → ℕ
     selectivity (Compare op a b) = comparison_share op (side_of a) (side_of b)
-    selectivity (Between negated e low high) = negated_if negated (between_share (side_of e) (side_of low) (side_of high))
+    selectivity (Between negated e low high) =
+        negated_if negated (between_share (side_of e) (side_of low) (side_of high))
     selectivity (InList negated e members) = negated_if negated (list_share (side_of e) (length members))
     selectivity (IsNull negated e) = negated_if negated (null_share (side_of e))
     selectivity (Like negated e pattern) = negated_if negated one_tenth

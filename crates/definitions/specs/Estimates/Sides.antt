@@ -10,15 +10,15 @@ pub data Side : Type 0 where
   KnownNumber : (units : ℤ) (scale : ℕ) → Side
   OtherValue : Side
 
-abbrev pub signed : Bool → Side → Side
-signed minus (KnownNumber units scale) = KnownNumber (if minus then neg_ℤ units else units) scale
-signed minus _ = OtherValue
+abbrev pub signed_side : Bool → Side → Side
+signed_side minus (KnownNumber units scale) = KnownNumber (if minus then neg_ℤ units else units) scale
+signed_side minus _ = OtherValue
 
 -- a known number is a numeral, with signs before it
 abbrev pub side_of : ValueExpr → Side
 side_of (Column column type) = PlainColumn column (scale_of type)
 side_of (Numeral units digits scale) = KnownNumber (pos units) scale
-side_of (Signed minus operand) = signed minus (side_of operand)
+side_of (Signed minus operand) = signed_side minus (side_of operand)
 side_of _ = OtherValue
 
 -- the column that a value is, if it is one

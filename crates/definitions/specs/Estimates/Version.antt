@@ -1,12 +1,10 @@
 -- The three versions of the plan space (own). A certificate names the one that it speaks of.
 use Rattle.std.specs.Prelude.{Bool, true, false, List, [], ◌∷◌}
 
--- the first: indexes on one column, read forward, products of tables last; the second: indexes on several columns too, also read
--- backward; the third: products at any point
+-- the first: indexes on one column, read forward, products of tables last; the second: indexes on several columns too,
+-- also read backward; the third: products at any point
 pub data Version : Type 0 where
-  One : Version
-  Two : Version
-  Three : Version
+  One Two Three : Version
 
 abbrev pub has_free_products : Version → Bool
 has_free_products Three = true

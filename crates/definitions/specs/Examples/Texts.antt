@@ -31,24 +31,63 @@ pub record ValuesCompare : Type 0 where
 pub record TextsRead : Type 0 where
   pub open_string_at_7 : LexFails (codes "SELECT 'ab") (record { refusal = OpenString; at = 7 })
   -- a keyword in lower case, a name, a comment and a semicolon
-  pub short_script : Lexes (codes "load T;--x") (record { at = 0; text = codes "load"; kind = Reserved w.Load } ∷ record { at = 5; text = codes "T"; kind = Name (codes "T") } ∷ record { at = 6; text = codes ";"; kind = Mark Semicolon } ∷ [])
+  pub short_script : Lexes (codes "load T;--x") (record {
+    at = 0;
+    text = codes "load";
+    kind = Reserved w.Load;
+  } ∷ record { at = 5; text = codes "T"; kind = Name (codes "T") } ∷ record {
+    at = 6;
+    text =
+        codes ";";
+    kind = Mark Semicolon;
+  } ∷ [])
   pub empty_script : Lexes [] []
   pub comment_alone : Lexes (codes "--'A") []
   -- the longest match
-  pub symbols_touch : Lexes (codes "<>=") (record { at = 0; text = codes "<>"; kind = Mark NotEquals } ∷ record { at = 2; text = codes "="; kind = Mark Equals } ∷ [])
-  pub doubled_quote : Lexes (codes "'it''s'") (record { at = 0; text = codes "'it''s'"; kind = String (codes "it's") } ∷ [])
-  pub number_at_scale_2 : Lexes (codes "1.50") (record { at = 0; text = codes "1.50"; kind = Numeral 150 3 (Some 2) } ∷ [])
+  pub symbols_touch : Lexes (codes "<>=") (record {
+    at = 0;
+    text = codes "<>";
+    kind = Mark NotEquals;
+  } ∷ record { at = 2; text = codes "="; kind = Mark Equals } ∷ [])
+  pub doubled_quote : Lexes (codes "'it''s'") (record {
+    at = 0;
+    text = codes "'it''s'";
+    kind = String (codes "it's");
+  } ∷ [])
+  pub number_at_scale_2 : Lexes (codes "1.50") (record {
+    at = 0;
+    text = codes "1.50";
+    kind = Numeral 150 3 (Some 2);
+  } ∷ [])
   pub stray_at_2 : LexFails (codes "A ?") (record { refusal = StrayCharacter; at = 2 })
   pub letter_behind_number : LexFails (codes "1x") (record { refusal = StrayCharacter; at = 1 })
   pub name_of_19 : LexFails (codes "ABCDEFGHIJKLMNOPQRS") (record { refusal = LongName; at = 0 })
-  pub number_of_39 : LexFails (codes "100000000000000000000000000000000000000") (record { refusal = LongLiteral; at = 0 })
+  pub number_of_39 : LexFails (codes "100000000000000000000000000000000000000") (record {
+    refusal = LongLiteral;
+    at = 0;
+  })
 
 -- statements that tokens derive, and a fault
 pub record TokensDerive : Type 0 where
   -- LOAD T FROM 'f';
-  pub load_derives : Derives (Reserved w.Load ∷ Name (codes "T") ∷ Reserved w.From ∷ String (codes "f") ∷ Mark Semicolon ∷ []) (Load (codes "T") (codes "f") ∷ [])
+  pub load_derives : Derives (Reserved w.Load ∷ Name (codes "T") ∷ Reserved w.From ∷ String (codes "f") ∷
+      Mark Semicolon ∷ []) (Load (codes "T") (codes "f") ∷ [])
   -- so the fault of LOAD FROM T; stands at byte 5
-  pub load_from_fails_at_5 : SyntaxFails (record { at = 0; text = codes "LOAD"; kind = Reserved w.Load } ∷ record { at = 5; text = codes "FROM"; kind = Reserved w.From } ∷ record { at = 10; text = codes "T"; kind = Name (codes "T") } ∷ record { at = 11; text = codes ";"; kind = Mark Semicolon } ∷ []) 12 Unexpected 5
+  pub load_from_fails_at_5 : SyntaxFails (record {
+    at = 0;
+    text = codes "LOAD";
+    kind = Reserved w.Load;
+  } ∷ record { at = 5; text = codes "FROM"; kind = Reserved w.From } ∷ record {
+    at =
+        10;
+    text = codes "T";
+    kind = Name (codes "T");
+  } ∷ record {
+    at = 11;
+    text = codes ";";
+    kind =
+        Mark Semicolon;
+  } ∷ []) 12 Unexpected 5
 
 -- a field that is no INTEGER, and the line of a row
 pub record FieldsAndRows : Type 0 where

@@ -1,4 +1,5 @@
--- Queries whose names are bound: tables, columns and inner blocks go by number. (All numbers count from 0; the form is own.)
+-- Queries whose names are bound: tables, columns and inner blocks go by number. (All numbers count from 0; the form is
+-- own.)
 use Rattle.std.specs.Prelude.{ℕ, Bool, List, Option}
 use Rattle.definitions.specs.Value.{SqlType}
 use Rattle.definitions.specs.ValueType.{ValueType}
@@ -7,15 +8,13 @@ use Rattle.definitions.specs.Plans.Order.{BlockColumn}
 
 -- what stands between the operands of arithmetic (ISO/IEC 9075:1992, 6.12)
 pub data Operator : Type 0 where
-  Plus : Operator
-  Minus : Operator
-  Times : Operator
-  Over : Operator
+  Plus Minus Times Over : Operator
 
 mutual
-  -- a value. A column is one of the block's own tables. A parameter is a column of a block around it: how many blocks lie between (0: none),
-  -- and which column of that block. A numeral has its units, the number of digits that it is written with, and its scale. A set function
-  -- goes by its number in the block, a subquery by its block's number. What stands for values of elsewhere has their type (6.2 to 6.5, 6.11, 6.12)
+  -- a value. A column is one of the block's own tables. A parameter is a column of a block around it: how many blocks
+  -- lie between (0: none), and which column of that block. A numeral has its units, the number of digits that it is
+  -- written with, and its scale. A set function goes by its number in the block, a subquery by its block's number. What
+  -- stands for values of elsewhere has their type (6.2 to 6.5, 6.11, 6.12)
   pub data ValueExpr : Type 0 where
     Column : (column : BlockColumn) (type : SqlType) → ValueExpr
     Parameter : (between : ℕ) (column : BlockColumn) (type : SqlType) → ValueExpr
@@ -62,12 +61,13 @@ pub record Item : Type 0 where
   pub value : ValueExpr
 
 -- a key of ORDER BY: a result column and a direction (13.1)
-pub record Key : Type 0 where
+pub record OrderKey : Type 0 where
   pub item : ℕ
   pub descending : Bool
 
--- a query block: the numbers of its tables in the database, its result columns, WHERE, GROUP BY, HAVING, the set functions of the result
--- columns and of HAVING in text order, and ORDER BY, which only the outermost block has (7.9, 7.4 to 7.8, 13.1)
+-- a query block: the numbers of its tables in the database, its result columns, WHERE, GROUP BY, HAVING, the set
+-- functions of the result columns and of HAVING in text order, and ORDER BY, which only the outermost block has (7.9,
+-- 7.4 to 7.8, 13.1)
 pub record Block : Type 0 where
   pub tables : List ℕ
   pub distinct : Bool
@@ -76,8 +76,9 @@ pub record Block : Type 0 where
   pub groups : List BlockColumn
   pub having : Option Condition
   pub functions : List Aggregate
-  pub order : List Key
+  pub order : List OrderKey
 
--- the blocks of a statement in text order, the outermost first; so the number of an inner block is greater than that of the block around it
+-- the blocks of a statement in text order, the outermost first; so the number of an inner block is greater than that of
+-- the block around it
 abbrev pub Blocks : Type 0
 Blocks = List Block

@@ -1,12 +1,18 @@
--- The types of bound values, and which bound expressions are sound: those that binding makes of queries without a fault.
+-- The types of bound values, and which bound expressions are sound: those that binding makes of queries without a
+-- fault.
 use Rattle.std.specs.Prelude.{ℕ, ◌+◌, max, nat_le, Bool, true, false, ◌&&◌, Option, Some, None, if◌then◌else◌, is_some}
 use Rattle.std.specs.List.{list_all}
 use Rattle.definitions.specs.Value.{Kind, Numbers, Texts}
 use Rattle.definitions.specs.ValueType.{ValueType, NumberType, TextType, type_of, type_kind}
 use Rattle.definitions.specs.Arithmetic.{quotient_scale}
-use Rattle.definitions.specs.Queries.BoundBlock.{Operator, Plus, Minus, Times, Over, ValueExpr, Column, Parameter, Numeral, String, Signed, Chain, AggregateValue, Subquery, Operands, NoOperand, Operand, Condition, Conditions, NoPart, Part, Compare, Quantified, IsNull, Between, Like, InList, InQuery, Exists, Not, And, Or}
+use Rattle.definitions.specs.Queries.BoundBlock.{Operator, Plus, Minus, Times, Over, ValueExpr, Column, Parameter}
+use Rattle.definitions.specs.Queries.BoundBlock.{Numeral, String, Signed, Chain, AggregateValue, Subquery, Operands}
+use Rattle.definitions.specs.Queries.BoundBlock.{NoOperand, Operand, Condition, Conditions, NoPart, Part, Compare}
+use Rattle.definitions.specs.Queries.BoundBlock.{Quantified, IsNull, Between, Like, InList, InQuery, Exists, Not, And}
+use Rattle.definitions.specs.Queries.BoundBlock.{Or}
 
--- two operands of arithmetic: numbers both, and no product of a scale over 18 (ISO/IEC 9075:1992, 6.12, syntax rule 1; the limit is own)
+-- two operands of arithmetic: numbers both, and no product of a scale over 18 (ISO/IEC 9075:1992, 6.12, syntax rule 1;
+-- the limit is own)
 abbrev pub arithmetic_type : Operator → ValueType → ValueType → Option ValueType
 arithmetic_type Plus (NumberType m) (NumberType n) = Some (NumberType (max m n))
 arithmetic_type Minus (NumberType m) (NumberType n) = Some (NumberType (max m n))
@@ -36,7 +42,8 @@ abbrev mutual
 
   pub operands_type : Option ValueType → Operands → Option ValueType
   operands_type left NoOperand = left
-  operands_type left (Operand operator operand others) = operands_type (type_of_two operator left (value_type operand)) others
+  operands_type left (Operand operator operand others) =
+      operands_type (type_of_two operator left (value_type operand)) others
 
 abbrev pub is_of_kind : Kind → Option ValueType → Bool
 is_of_kind Numbers (Some (NumberType scale)) = true
@@ -52,15 +59,18 @@ abbrev pub member_is_comparable : Option ValueType → Option ValueExpr → Bool
 member_is_comparable type (Some e) = are_comparable type (value_type e)
 member_is_comparable type None = true
 
--- a condition all of whose values have types, those that are compared of one kind; the types of a subquery's columns by its block's number
+-- a condition all of whose values have types, those that are compared of one kind; the types of a subquery's columns by
+-- its block's number
 abbrev mutual
   pub is_sound : (ℕ → Option ValueType) → Condition → Bool
   is_sound column (Compare op left right) = are_comparable (value_type left) (value_type right)
   is_sound column (Quantified op quantifier e block) = are_comparable (value_type e) (column block)
   is_sound column (IsNull negated e) = is_some (value_type e)
-  is_sound column (Between negated e low high) = are_comparable (value_type e) (value_type low) && are_comparable (value_type e) (value_type high)
+  is_sound column (Between negated e low high) =
+      are_comparable (value_type e) (value_type low) && are_comparable (value_type e) (value_type high)
   is_sound column (Like negated e pattern) = is_of_kind Texts (value_type e)
-  is_sound column (InList negated e members) = is_some (value_type e) && list_all (member_is_comparable (value_type e)) members
+  is_sound column (InList negated e members) =
+      is_some (value_type e) && list_all (member_is_comparable (value_type e)) members
   is_sound column (InQuery negated e block) = are_comparable (value_type e) (column block)
   is_sound column (Exists block) = true
   is_sound column (Not operand) = is_sound column operand

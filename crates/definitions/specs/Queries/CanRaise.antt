@@ -3,10 +3,12 @@ use Rattle.std.specs.Prelude.{ℕ, ◌+◌, ◌-◌, max, Bool, true, false, ◌
 use Rattle.definitions.specs.Value.{SqlType, Smallint, Integer, Numeric, Char, scale_of}
 use Rattle.definitions.specs.ValueType.{type_scale}
 use Rattle.definitions.specs.Arithmetic.{quotient_scale}
-use Rattle.definitions.specs.Queries.BoundBlock.{Operator, Plus, Minus, Times, Over, ValueExpr, Column, Parameter, Numeral, String, Signed, Chain, AggregateValue, Subquery, Operands, NoOperand, Operand}
+use Rattle.definitions.specs.Queries.BoundBlock.{Operator, Plus, Minus, Times, Over, ValueExpr, Column, Parameter}
+use Rattle.definitions.specs.Queries.BoundBlock.{Numeral, String, Signed, Chain, AggregateValue, Subquery, Operands}
+use Rattle.definitions.specs.Queries.BoundBlock.{NoOperand, Operand}
 
--- the size of an expression's numbers, known before any row is read: how many digits they have at most, and how many of them stand
--- behind the point
+-- the size of an expression's numbers, known before any row is read: how many digits they have at most, and how many of
+-- them stand behind the point
 pub record Size : Type 0 where
   pub digits : ℕ
   pub scale : ℕ
@@ -22,7 +24,11 @@ type_size type = record { digits = type_digits type; scale = scale_of type }
 
 -- a sum has as many digits before the point as the operand with more of them, and one for the carry
 abbrev pub sum_size : Size → Size → Size
-sum_size a b = record { digits = max (a.digits - a.scale) (b.digits - b.scale) + 1 + max a.scale b.scale; scale = max a.scale b.scale }
+sum_size a b =
+    record {
+      digits = max (a.digits - a.scale) (b.digits - b.scale) + 1 + max a.scale b.scale;
+      scale = max a.scale b.scale;
+    }
 
 abbrev pub joined_size : Operator → Size → Size → Size
 joined_size Plus a b = sum_size a b

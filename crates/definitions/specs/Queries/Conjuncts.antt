@@ -1,9 +1,13 @@
--- The conjuncts of WHERE: early ones, and late ones, which are evaluated only where the early ones let a combination pass (own).
-use Rattle.std.specs.Prelude.{ℕ, Bool, true, false, ◌||◌, not, ◌==◌, bit_or, List, [], ◌∷◌, ◌++◌, flat_map, Option, Some, None, filter}
+-- The conjuncts of WHERE: early ones, and late ones, which are evaluated only where the early ones let a combination
+-- pass (own).
+use Rattle.std.specs.Prelude.{ℕ, Bool, true, false, ◌||◌, not, ◌==◌, bit_or, List, [], ◌∷◌, ◌++◌, flat_map, Option}
+use Rattle.std.specs.Prelude.{Some, None, filter}
 use Rattle.definitions.specs.Queries.CanRaise.{can_raise}
 use Rattle.std.specs.List.{list_any}
 use Rattle.definitions.specs.Plans.TableSet.{TableSet, no_tables, only}
-use Rattle.definitions.specs.Queries.BoundBlock.{ValueExpr, Column, Signed, Chain, Subquery, Operands, NoOperand, Operand, Condition, Conditions, NoPart, Part, Compare, Quantified, IsNull, Between, Like, InList, InQuery, Exists, Not, And, Or, Block}
+use Rattle.definitions.specs.Queries.BoundBlock.{ValueExpr, Column, Signed, Chain, Subquery, Operands, NoOperand}
+use Rattle.definitions.specs.Queries.BoundBlock.{Operand, Condition, Conditions, NoPart, Part, Compare, Quantified}
+use Rattle.definitions.specs.Queries.BoundBlock.{IsNull, Between, Like, InList, InQuery, Exists, Not, And, Or, Block}
 
 -- the values that a condition speaks of, in text order; a member NULL of an IN list is none
 abbrev pub member_values : List (Option ValueExpr) → List ValueExpr
@@ -29,7 +33,8 @@ abbrev mutual
   values_of_parts NoPart = []
   values_of_parts (Part part others) = values_of part ++ values_of_parts others
 
--- the inner blocks that a value holds, those that a condition itself tests, by a quantifier, IN or EXISTS, and all that a condition holds
+-- the inner blocks that a value holds, those that a condition itself tests, by a quantifier, IN or EXISTS, and all that
+-- a condition holds
 abbrev mutual
   pub blocks_in : ValueExpr → List ℕ
   blocks_in (Signed minus operand) = blocks_in operand

@@ -4,26 +4,31 @@ use Rattle.definitions.specs.Value.{Value, Null, Number, Text, is_null}
 use Rattle.definitions.specs.Table.{Row}
 use Rattle.definitions.specs.Statement.{ComparisonOperator, Equals, GreaterOrEquals, LessOrEquals}
 use Rattle.definitions.specs.Arithmetic.{Meaning, Is, Raises, raised, Cardinality, negative, plus, minus, times, over}
-use Rattle.definitions.specs.Truth.{Truth, and, known, unless, opposite, all_true, any_true, compared, compared_with_all, compared_with_any, has_row}
+use Rattle.definitions.specs.Truth.{Truth, and, known, unless, opposite, all_true, any_true, compared}
+use Rattle.definitions.specs.Truth.{compared_with_all, compared_with_any, has_row}
 use Rattle.definitions.specs.Pattern.{like}
 use Rattle.definitions.specs.Plans.Order.{BlockColumn}
-use Rattle.definitions.specs.Queries.BoundBlock.{Operator, Plus, Minus, Times, Over, ValueExpr, Column, Parameter, Numeral, String, Signed, Chain, AggregateValue, Subquery, Operands, NoOperand, Operand, Condition, Conditions, NoPart, Part, Compare, Quantified, IsNull, Between, Like, InList, InQuery, Exists, Not, And, Or}
+use Rattle.definitions.specs.Queries.BoundBlock.{Operator, Plus, Minus, Times, Over, ValueExpr, Column, Parameter}
+use Rattle.definitions.specs.Queries.BoundBlock.{Numeral, String, Signed, Chain, AggregateValue, Subquery, Operands}
+use Rattle.definitions.specs.Queries.BoundBlock.{NoOperand, Operand, Condition, Conditions, NoPart, Part, Compare}
+use Rattle.definitions.specs.Queries.BoundBlock.{Quantified, IsNull, Between, Like, InList, InQuery, Exists, Not, And}
+use Rattle.definitions.specs.Queries.BoundBlock.{Or}
 use Rattle.definitions.specs.Statement.{Quantifier, All, Any}
 
 -- one row of each table of a block
 abbrev pub Combination : Type 0
 Combination = List Row
 
--- what an expression is evaluated in: the block's combination of rows, those of the blocks around it, the nearest first, the values of
--- the set functions over a group, and the rows of each inner block
+-- what an expression is evaluated in: the block's combination of rows, those of the blocks around it, the nearest
+-- first, the values of the set functions over a group, and the rows of each inner block
 pub record Environment : Type 0 where
   pub combination : Combination
   pub outer : List Combination
   pub functions : List (Meaning Value)
   pub inner : ℕ → Meaning (List Row)
 
--- ---- evaluation is strict: all operands are evaluated, in text order, and the first that raises decides what is raised (own; the
--- standard leaves the order open, ISO/IEC 9075:1992, 3.3.4.4)
+-- ---- evaluation is strict: all operands are evaluated, in text order, and the first that raises decides what is
+-- raised (own; the standard leaves the order open, ISO/IEC 9075:1992, 3.3.4.4)
 
 -- what is made of one operand's result, where the making may raise (and_then), and where it can't (on_one)
 abbrev pub and_then : {X Y : Type 0} → (X → Meaning Y) → Meaning X → Meaning Y
@@ -82,7 +87,8 @@ abbrev mutual
 
   pub chained : Environment → Meaning Value → Operands → Meaning Value
   chained env left NoOperand = left
-  chained env left (Operand operator operand others) = chained env (and_then_two (operation operator) left (value env operand)) others
+  chained env left (Operand operator operand others) =
+      chained env (and_then_two (operation operator) left (value env operand)) others
 
 -- ---- conditions
 
@@ -103,13 +109,17 @@ quantified Any = compared_with_any
 abbrev mutual
   pub truth : Environment → Condition → Meaning Truth
   truth env (Compare op left right) = on_two (compared op) (value env left) (value env right)
-  truth env (Quantified op quantifier e block) = on_two (quantified quantifier op) (value env e) (on_one column_values (env.inner block))
+  truth env (Quantified op quantifier e block) =
+      on_two (quantified quantifier op) (value env e) (on_one column_values (env.inner block))
   truth env (IsNull negated e) = on_one (λ v. unless negated (known (is_null v))) (value env e)
   truth env (Between negated e low high) =
-      on_one (unless negated) (on_two and (on_two (compared GreaterOrEquals) (value env e) (value env low)) (on_two (compared LessOrEquals) (value env e) (value env high)))
+      on_one (unless negated) (on_two and (on_two (compared GreaterOrEquals) (value env e) (value env low))
+      (on_two (compared LessOrEquals) (value env e) (value env high)))
   truth env (Like negated e pattern) = on_one (λ v. unless negated (like pattern v)) (value env e)
-  truth env (InList negated e members) = on_one (unless negated) (on_two (compared_with_any Equals) (value env e) (in_order (map (member env) members)))
-  truth env (InQuery negated e block) = on_one (unless negated) (on_two (compared_with_any Equals) (value env e) (on_one column_values (env.inner block)))
+  truth env (InList negated e members) =
+      on_one (unless negated) (on_two (compared_with_any Equals) (value env e) (in_order (map (member env) members)))
+  truth env (InQuery negated e block) =
+      on_one (unless negated) (on_two (compared_with_any Equals) (value env e) (on_one column_values (env.inner block)))
   truth env (Exists block) = on_one has_row (env.inner block)
   truth env (Not operand) = on_one opposite (truth env operand)
   truth env (And parts) = on_one all_true (truths env parts)

@@ -1,5 +1,6 @@
 -- Groups and set functions.
-use Rattle.std.specs.Prelude.{pos, ◌+ℤ◌, max, Bool, true, false, ◌&&◌, not, List, [], ◌∷◌, if◌then◌else◌, length, map, filter, flat_map}
+use Rattle.std.specs.Prelude.{pos, ◌+ℤ◌, max, Bool, true, false, ◌&&◌, not, List, [], ◌∷◌, if◌then◌else◌, length, map}
+use Rattle.std.specs.Prelude.{filter, flat_map}
 use Rattle.std.specs.List.{list_any}
 use Rattle.std.specs.Ordering.{is_eq, is_lt}
 use Rattle.definitions.specs.Lists.{without_repeats}
@@ -25,7 +26,8 @@ same_values _ _ = false
 -- an element joins the class of those that are the same
 abbrev pub with_element : {X : Type 0} → (X → X → Bool) → X → List (List X) → List (List X)
 with_element same x [] = (x ∷ []) ∷ []
-with_element same x (class ∷ classes) = if list_any (same x) class then (x ∷ class) ∷ classes else class ∷ with_element same x classes
+with_element same x (class ∷ classes) =
+    if list_any (same x) class then (x ∷ class) ∷ classes else class ∷ with_element same x classes
 
 abbrev pub classes_of : {X : Type 0} → (X → X → Bool) → List X → List (List X)
 classes_of same [] = []
@@ -103,7 +105,8 @@ unless_raised (r ∷ rs) x = Raises r rs
 abbrev pub all_results : {X : Type 0} → List (Meaning X) → Meaning (List X)
 all_results ms = unless_raised (flat_map raises_of ms) (results ms)
 
--- a set function over a group: the exceptions of its argument on the group's combinations, and only if there are none its own
+-- a set function over a group: the exceptions of its argument on the group's combinations, and only if there are none
+-- its own
 abbrev pub function_value : Context → List Combination → Aggregate → Meaning Value
 function_value context group CountRows = Is (counted group)
 function_value context group (OfValues kind distinct argument) =

@@ -21,7 +21,8 @@ StandsFor Alike m n = ⊥
 abbrev pub InnerStandsFor : (ℕ → Meaning (List Row)) → (ℕ → Meaning (List Row)) → Type 0
 InnerStandsFor inner inner' = (block : ℕ) → StandsFor IsPermutation (inner block) (inner' block)
 
--- what expressions mean doesn't hang on the order of a subquery's rows, and where a subquery raises it may stand for one of its exceptions
+-- what expressions mean doesn't hang on the order of a subquery's rows, and where a subquery raises it may stand for
+-- one of its exceptions
 abbrev pub SubqueriesStandInAnyOrder : Type 0
 SubqueriesStandInAnyOrder =
     (env : Environment) (inner : ℕ → Meaning (List Row)) → InnerStandsFor env.inner inner

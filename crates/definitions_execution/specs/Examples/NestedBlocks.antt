@@ -19,10 +19,14 @@ abbrev pub single : Table
 single = filled (codes "T") (codes "X" ∷ []) [] ((number 1 ∷ []) ∷ [])
 
 abbrev pub keyed : Table
-keyed = filled (codes "U") (codes "V" ∷ []) (index_with true (0 ∷ []) 2 1 None ∷ []) ((number 1 ∷ []) ∷ (number 2 ∷ []) ∷ [])
+keyed =
+    filled (codes "U") (codes "V" ∷ []) (index_with true (0 ∷ []) 2 1 None ∷ []) ((number 1 ∷ []) ∷ (number 2 ∷ []) ∷
+    [])
 
 abbrev pub nested : Blocks
-nested = select_from [] (0 ∷ []) (Some (Exists 1)) [] ∷ select_from [] (1 ∷ []) (Some (equals (col 0 0) (Parameter 0 (column_at 0 0) Integer))) [] ∷ []
+nested =
+    select_from [] (0 ∷ []) (Some (Exists 1)) [] ∷
+    select_from [] (1 ∷ []) (Some (equals (col 0 0) (Parameter 0 (column_at 0 0) Integer))) [] ∷ []
 
 abbrev pub total_with : Path → ℕ
 total_with path = total_of One (single ∷ keyed ∷ []) nested (scan_of 0 ∷ Access path ∷ [])

@@ -31,8 +31,11 @@ abbrev pub alone_in : Database → Context
 alone_in db = record { database = db; outer = []; inner = λ number outer. Is [] }
 
 abbrev pub two : Database
-two = filled (codes "T1") (codes "X" ∷ codes "P" ∷ []) [] ((number 1 ∷ number 10 ∷ []) ∷ (Null ∷ number 20 ∷ []) ∷ (number 1 ∷ number 30 ∷ []) ∷ [])
-    ∷ filled (codes "T2") (codes "Y" ∷ codes "Q" ∷ []) [] ((number 1 ∷ number 5 ∷ []) ∷ (Null ∷ number 6 ∷ []) ∷ []) ∷ []
+two =
+    filled (codes "T1") (codes "X" ∷ codes "P" ∷ []) [] ((number 1 ∷ number 10 ∷ []) ∷ (Null ∷ number 20 ∷ []) ∷
+    (number 1 ∷ number 30 ∷ []) ∷ [])
+    ∷ filled (codes "T2") (codes "Y" ∷ codes "Q" ∷ []) [] ((number 1 ∷ number 5 ∷ []) ∷ (Null ∷ number 6 ∷ []) ∷ []) ∷
+    []
 
 abbrev pub joined : Block
 joined = select_from [] (0 ∷ 1 ∷ []) (Some (equals (col 0 0) (col 1 0))) []
@@ -68,17 +71,22 @@ two_composites = (0 ∷ 0 ∷ []) ∷ (2 ∷ 0 ∷ []) ∷ []
 
 -- a plan, and it under a sort by each numbered order, gives both; and so many rows are opened
 abbrev pub Gives : Plan → ℕ → Type 0
-Gives plan rows = (delivered joined_space joined_stored plan ≡ two_composites) × (opened joined_space joined_stored plan ≡ rows)
+Gives plan rows =
+    (delivered joined_space joined_stored plan ≡ two_composites) × (opened joined_space joined_stored plan ≡ rows)
 
 abbrev pub GivesAlsoSorted : Plan → ℕ → Type 0
 GivesAlsoSorted plan rows = Gives plan rows × Gives (Sort plan 1) rows × Gives (Sort plan 2) rows
 
 abbrev pub EachPlanGivesTheSame : Type 0
-EachPlanGivesTheSame = GivesAlsoSorted loop_from_first 9 × GivesAlsoSorted loop_from_second 8 × GivesAlsoSorted merge_from_first 5 × GivesAlsoSorted merge_from_second 5
+EachPlanGivesTheSame =
+    GivesAlsoSorted loop_from_first 9 × GivesAlsoSorted loop_from_second 8 × GivesAlsoSorted merge_from_first 5
+    × GivesAlsoSorted merge_from_second 5
 
 -- these plans are of the block's space, so the laws speak of them
 abbrev pub PlansAreInSpace : Type 0
-PlansAreInSpace = InSpace joined_space loop_from_first × InSpace joined_space loop_from_second × InSpace joined_space merge_from_first × InSpace joined_space merge_from_second
+PlansAreInSpace =
+    InSpace joined_space loop_from_first × InSpace joined_space loop_from_second
+    × InSpace joined_space merge_from_first × InSpace joined_space merge_from_second
     × InSpace joined_space (Sort loop_from_second 1)
 
 abbrev pub LawsSpeakOfThem : Type 0

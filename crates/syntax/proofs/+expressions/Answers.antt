@@ -82,7 +82,7 @@ pub expr::line-returns-in_err-first-clause-reads : goal.expr::line-returns-in_er
 expr::line-returns-in_err-first-clause-reads i c = answers _ _ (search rules) (no_memory refl)
 
 pub expr::line-returns-clause-reads : goal.expr::line-returns-clause-reads
-expr::line-returns-clause-reads i c = subst (λ z. Outcome (LineAt (line_kind c.args.kind)) c.args.levels c.args.levels c.args.cursor.now c.take_line_operator.new.self (Ok z)) (ap (λ e. g.line (expr_of e) (g.operands (map operand_of c.operands.others.items))) (sym c.in_ok-first.ensures.ok) ∙ several _ c.operands.others _ c.is_empty.ensures c.if-is_empty.false ∙ sym (of_line _ _)) (line_ends (line_kind c.args.kind) c.args.levels c.args.levels c.args.cursor.now c.operands.cursor c.take_line_operator.new.self (expr_of c.operands.head-1) (map operand_of c.operands.others.items) c.operands.invariant.reads c.in_default.ensures)
+expr::line-returns-clause-reads i c = subst (λ z. Outcome (LineAt (line_kind c.args.kind)) c.args.levels c.args.levels c.args.cursor.now c.take_line_operator.new.self (Ok z)) (ap (λ e. g.operator_line (expr_of e) (g.operands (map operand_of c.operands.others.items))) (sym c.in_ok-first.ensures.ok) ∙ several _ c.operands.others _ c.is_empty.ensures c.if-is_empty.false ∙ sym (of_line _ _)) (line_ends (line_kind c.args.kind) c.args.levels c.args.levels c.args.cursor.now c.operands.cursor c.take_line_operator.new.self (expr_of c.operands.head-1) (map operand_of c.operands.others.items) c.operands.invariant.reads c.in_default.ensures)
 
 pub expr::line-returns-clause-placed : goal.expr::line-returns-clause-placed
 expr::line-returns-clause-placed i c = seen_as (leaves.of_line _ _ ∙ ap (λ z. expr_leaves z ++ all operand_leaves c.operands.others.items) c.in_ok-first.ensures.ok) (stays c.operands.invariant.placed c.in_default.ensures.1)
@@ -291,7 +291,7 @@ expr::in_list-returns-in_err-expect_symbol-clause-reads i c = answers _ _ (searc
 
 pub expr::in_list-returns-clause-reads : goal.expr::in_list-returns-clause-reads
 unfolding g.InListOf
-expr::in_list-returns-clause-reads i c = misses_on ((λ h. absurd (different (c.sees_word.ensures.stands.1 h) c.if-sees_word.false)), c.sees_word.ensures.same) (then_on {k = c.args.levels} (λ m. closed_alike (list_alike (member_alike (within_alike c.args.levels m)))) (then_on (λ m. list_alike (member_alike (within_alike c.args.levels m))) c.in_ok-members.ensures.reads (past_on c.in_ok-expect_symbol.ensures gives)) (gives_as (of_in_list _ _ _ _ ∙ ap (λ x. tree.InList c.args.negated (expr_of x) (g.members (map member_of c.in_ok-members.members.items))) c.in_ok-value.ensures.ok)))
+expr::in_list-returns-clause-reads i c = misses_on ((λ h. absurd (different (c.sees_word.ensures.stands.1 h) c.if-sees_word.false)), c.sees_word.ensures.same) (then_on {k = c.args.levels} (λ m. closed_alike (list_alike (member_alike (within_alike c.args.levels m)))) (then_on (λ m. list_alike (member_alike (within_alike c.args.levels m))) c.in_ok-members.ensures.reads (past_on c.in_ok-expect_symbol.ensures gives)) (gives_as (of_in_list _ _ _ _ ∙ ap (λ x. tree.InList c.args.negated (expr_of x) (g.member_list (map member_of c.in_ok-members.members.items))) c.in_ok-value.ensures.ok)))
 
 pub expr::in_list-returns-clause-placed : goal.expr::in_list-returns-clause-placed
 expr::in_list-returns-clause-placed i c = λ from d. seen_as (leaves.of_in_list _ _ _ _ ∙ ap (λ x. (expr_leaves x ++ one (Reserved words.In) c.args.start) ++ all (if_there expr_leaves) c.in_ok-members.members.items) c.in_ok-value.ensures.ok) (past refl (on (stays d c.sees_word.ensures.same) c.in_ok-members.ensures.placed) c.in_ok-expect_symbol.ensures)

@@ -2,8 +2,8 @@ use Rattle.std.proofs.Common.{◌∙◌, sym, ap}
 use Rattle.std.specs.Prelude.{option_map}
 use Rattle.definitions.specs.Queries.Conjuncts.{conjuncts}
 use Rattle.query_tree.specs.Bound.{block_of, column_of}
-use Rattle.estimate.specs.PlanConjuncts.{condition_told}
-use Rattle.access_paths.specs.Views.{bound_told, match_told}
+use Rattle.estimate.specs.PlanConjuncts.{condition_of_conjunct}
+use Rattle.access_paths.specs.Views.{sargable_term_of, matching_term_of}
 use Rattle.access_paths.proofs.Early.{same_count, condition_at, early_at, few_at, late_matches_none, early_matches, match_of}
 use Rattle.access_paths.proofs.matching_terms.match_at.Goals as goal
 
@@ -17,10 +17,10 @@ returns-then-not-conjunct c =
     let within = same_count b items c.args.number known.conditions c.requires.there in
     let there = condition_at e.database b items c.args.number x known.exact known.conditions within c.index-conjuncts-number.is in
     let early = early_at e.database b items c.args.number x known.exact known.conditions within c.index-conjuncts-number.is in
-    record { exact = sym (late_matches_none b (column_of c.args.column) c.args.number (condition_told x) there x.early early c.if-not-conjunct.true) }
+    record { exact = sym (late_matches_none b (column_of c.args.column) c.args.number (condition_of_conjunct x) there x.early early c.if-not-conjunct.true) }
 
-pub bound_of-requires : goal.bound_of-requires
-bound_of-requires c =
+pub sargable_term-requires : goal.sargable_term-requires
+sargable_term-requires c =
     let e = c.args.estimate.now in
     let b = block_of e.block in
     let items = c.conjuncts.result.now in
@@ -38,9 +38,9 @@ returns-in_err-bound c =
     let within = same_count b items c.args.number known.conditions c.requires.there in
     let there = condition_at e.database b items c.args.number x known.exact known.conditions within c.index-conjuncts-number.is in
     let early = early_at e.database b items c.args.number x known.exact known.conditions within c.index-conjuncts-number.is in
-    let is = early_matches b (column_of c.args.column) c.args.number (condition_told x) there x.early early c.if-not-conjunct.false in
-    let none = sym c.bound_of.ensures.exact ∙ ap (option_map bound_told) c.in_err-bound.was in
-    record { exact = ap (option_map match_told) c.from_residual.ensures ∙ sym (is ∙ ap (match_of b (column_of c.args.column) c.args.number (condition_told x) there) none) }
+    let is = early_matches b (column_of c.args.column) c.args.number (condition_of_conjunct x) there x.early early c.if-not-conjunct.false in
+    let none = sym c.sargable_term.ensures.exact ∙ ap (option_map sargable_term_of) c.in_err-bound.was in
+    record { exact = ap (option_map matching_term_of) c.from_residual.ensures ∙ sym (is ∙ ap (match_of b (column_of c.args.column) c.args.number (condition_of_conjunct x) there) none) }
 
 pub returns : goal.returns
 returns c =
@@ -52,6 +52,6 @@ returns c =
     let within = same_count b items c.args.number known.conditions c.requires.there in
     let there = condition_at e.database b items c.args.number x known.exact known.conditions within c.index-conjuncts-number.is in
     let early = early_at e.database b items c.args.number x known.exact known.conditions within c.index-conjuncts-number.is in
-    let is = early_matches b (column_of c.args.column) c.args.number (condition_told x) there x.early early c.if-not-conjunct.false in
-    let found = sym c.bound_of.ensures.exact ∙ ap (option_map bound_told) c.in_ok-bound.was in
-    record { exact = sym (is ∙ ap (match_of b (column_of c.args.column) c.args.number (condition_told x) there) found) }
+    let is = early_matches b (column_of c.args.column) c.args.number (condition_of_conjunct x) there x.early early c.if-not-conjunct.false in
+    let found = sym c.sargable_term.ensures.exact ∙ ap (option_map sargable_term_of) c.in_ok-bound.was in
+    record { exact = sym (is ∙ ap (match_of b (column_of c.args.column) c.args.number (condition_of_conjunct x) there) found) }

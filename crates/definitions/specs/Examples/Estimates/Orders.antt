@@ -14,23 +14,32 @@ use Rattle.definitions.specs.Examples.Estimates.TwoColumns.{by_two}
 
 -- SELECT A, A + B FROM T ORDER BY A DESC
 abbrev pub ordered : Block
-ordered = s.select_from (s.item (codes "A") a ∷ s.item (codes "COL2") (s.plus a b) ∷ []) (0 ∷ []) None (record { item = 0; descending = true } ∷ [])
+ordered =
+    s.select_from (s.item (codes "A") a ∷ s.item (codes "COL2") (s.plus a b) ∷ []) (0 ∷ []) None (record {
+      item = 0;
+      descending = true;
+    } ∷ [])
 
 -- the same ORDER BY A DESC, 2
 abbrev pub ordered_by_sum : Block
-ordered_by_sum = record ordered { order = record { item = 0; descending = true } ∷ record { item = 1; descending = false } ∷ [] }
+ordered_by_sum =
+    record ordered { order = record { item = 0; descending = true } ∷ record { item = 1; descending = false } ∷ [] }
 
 -- SELECT B, A FROM T GROUP BY B, A ORDER BY A DESC
 abbrev pub grouped : Block
 grouped =
-    record (s.select_from (s.item (codes "B") b ∷ s.item (codes "A") a ∷ []) (0 ∷ []) None (record { item = 1; descending = true } ∷ [])) {
+    record (s.select_from (s.item (codes "B") b ∷ s.item (codes "A") a ∷ []) (0 ∷ []) None (record {
+      item = 1;
+      descending = true;
+    } ∷ [])) {
       groups = s.column_at 0 1 ∷ s.column_at 0 0 ∷ [];
     }
 
 -- SELECT COUNT(*) AS N FROM T ORDER BY N
 abbrev pub counted : Block
 counted =
-    record (s.select_from (s.item (codes "N") (bound.AggregateValue 0 (NumberType 0)) ∷ []) (0 ∷ []) None (record { item = 0; descending = false } ∷ [])) {
+    record (s.select_from (s.item (codes "N") (bound.AggregateValue 0 (NumberType 0)) ∷ []) (0 ∷
+    []) None (record { item = 0; descending = false } ∷ [])) {
       functions = bound.CountRows ∷ [];
     }
 
@@ -40,12 +49,16 @@ by_a descending = record { column = s.column_at 0 0; descending = descending }
 abbrev pub by_b : Bool → SortKey
 by_b descending = record { column = s.column_at 0 1; descending = descending }
 
--- ORDER BY asks for an order where all its keys are columns; a block that is grouped asks for the columns of GROUP BY, or for none
+-- ORDER BY asks for an order where all its keys are columns; a block that is grouped asks for the columns of GROUP BY,
+-- or for none
 abbrev pub RequiredOrders : Type 0
-RequiredOrders = (required_of ordered ≡ by_a true ∷ []) × (required_of ordered_by_sum ≡ []) × (required_of grouped ≡ by_b false ∷ by_a false ∷ [])
+RequiredOrders =
+    (required_of ordered ≡ by_a true ∷ []) × (required_of ordered_by_sum ≡ [])
+    × (required_of grouped ≡ by_b false ∷ by_a false ∷ [])
     × (required_of counted ≡ [])
 
 -- the second version numbers both directions of the index, the first doesn't know it
 abbrev pub IndexOrders : Type 0
 IndexOrders = (orders_of One by_two ordered ≡ [] ∷ (by_a true ∷ []) ∷ [])
-    × (orders_of Two by_two ordered ≡ [] ∷ (by_a true ∷ []) ∷ (by_a false ∷ by_b false ∷ []) ∷ (by_a true ∷ by_b true ∷ []) ∷ [])
+    × (orders_of Two by_two ordered ≡ [] ∷ (by_a true ∷ []) ∷ (by_a false ∷ by_b false ∷ []) ∷
+    (by_a true ∷ by_b true ∷ []) ∷ [])

@@ -18,7 +18,7 @@ use Rattle.definitions.specs.Estimates.BlockSpace.{space_of}
 use Rattle.definitions.specs.Plans.Exact.{IsCertified}
 use Rattle.definitions.specs.Estimates.Laws.{bare}
 use Rattle.definitions.specs.Examples.Estimates.Setups as s
-use Rattle.definitions.specs.Examples.Estimates.Setups.{one_index, select_b, path_costs, scan_of, match_of}
+use Rattle.definitions.specs.Examples.Estimates.Setups.{one_index, select_b, path_costs, match_of}
 
 -- ---- one table: T (A, B) of 1000 rows on 50 pages, an index on A of 100 keys on 5 pages, not clustered
 
@@ -28,14 +28,15 @@ a = s.col 0 0
 abbrev pub b : ValueExpr
 b = s.col 0 1
 
--- A = 7 is true of one row in a hundred: 50 pages and 10 rows cost 510 by a scan of the table, 55 pages 560 by one of the index, and of
--- these a hundredth, one page, costs 20
+-- A = 7 is true of one row in a hundred: 50 pages and 10 rows cost 510 by a scan of the table, 55 pages 560 by one of
+-- the index, and of these a hundredth, one page, costs 20
 abbrev pub a_is_seven : Condition
 a_is_seven = s.equals a (s.whole 7 1)
 
 abbrev pub MatchIsCheapest : Type 0
 MatchIsCheapest = (selectivity (one_index None) (select_b a_is_seven) a_is_seven ≡ 10000)
-    × (paths_of One (one_index None) (select_b a_is_seven) 0 0 ≡ SegmentScan 0 ∷ IndexScan 0 0 false ∷ match_of (0 ∷ []) false ∷ [])
+    × (paths_of One (one_index None) (select_b a_is_seven) 0 0 ≡ SegmentScan 0 ∷ IndexScan 0 0 false ∷
+    match_of (0 ∷ []) false ∷ [])
     × (path_costs One (one_index None) (select_b a_is_seven) 0 0 ≡ 510 ∷ 560 ∷ 20 ∷ [])
 
 -- a match by `=` in a unique index costs 21, whatever its statistics
@@ -45,8 +46,8 @@ unique_index = s.indexed_table true None ∷ []
 abbrev pub UniqueMatchCosts : Type 0
 UniqueMatchCosts = path_costs One unique_index (select_b a_is_seven) 0 0 ≡ 510 ∷ 560 ∷ 21 ∷ []
 
--- and so it is no better than a scan of T (A INTEGER NOT NULL UNIQUE) once the rows 1, 2, 3 are loaded: they have a page, and A = 2 is
--- taken to leave 2 of them
+-- and so it is no better than a scan of T (A INTEGER NOT NULL UNIQUE) once the rows 1, 2, 3 are loaded: they have a
+-- page, and A = 2 is taken to leave 2 of them
 abbrev pub loaded : Database
 loaded =
     with_rows (new_table (codes "T") (record { name = codes "A"; type = Integer; constraint = Unique } ∷ []))
@@ -59,7 +60,8 @@ abbrev pub select_a : Condition → Block
 select_a condition = s.select_from (s.item (codes "A") a ∷ []) (0 ∷ []) (Some condition) []
 
 abbrev pub UniqueMatchLoses : Type 0
-UniqueMatchLoses = (selectivity loaded (select_a a_is_two) a_is_two ≡ 333334) × (path_rows loaded (select_a a_is_two) 0 0 ≡ 2)
+UniqueMatchLoses =
+    (selectivity loaded (select_a a_is_two) a_is_two ≡ 333334) × (path_rows loaded (select_a a_is_two) 0 0 ≡ 2)
     × (path_costs One loaded (select_a a_is_two) 0 0 ≡ 12 ∷ 22 ∷ 21 ∷ [])
 
 -- A <> 7 is true of all but one row in a hundred, and matches no index
@@ -113,15 +115,17 @@ LateLeavesAll = (is_late quotient ≡ true) × (ranged_costs quotient ≡ 1500 �
 
 -- ---- what would be wrong
 
--- whether the pages fit into the buffer is judged of those that are fetched: a match of a hundredth of 1005 pages fetches 11, and so does
--- not take a page for each row, though 1005 pages are more than the buffer holds
+-- whether the pages fit into the buffer is judged of those that are fetched: a match of a hundredth of 1005 pages
+-- fetches 11, and so does not take a page for each row, though 1005 pages are more than the buffer holds
 abbrev pub many_pages : Database
-many_pages = s.table_with (codes "T") (codes "A" ∷ codes "B" ∷ []) 100000 1000 (s.index_with false (0 ∷ []) 100 5 None ∷ []) ∷ []
+many_pages =
+    s.table_with (codes "T") (codes "A" ∷ codes "B" ∷ []) 100000 1000 (s.index_with false (0 ∷ []) 100 5 None ∷ []) ∷ []
 
 abbrev pub BufferHoldsTheShare : Type 0
 BufferHoldsTheShare = path_costs One many_pages (select_b a_is_seven) 0 0 ≡ 11000 ∷ 1001050 ∷ 1110 ∷ []
 
--- ---- targets: of these blocks no access costs less than the path named, so that its target alone shows that it is least
+-- ---- targets: of these blocks no access costs less than the path named, so that its target alone shows that it is
+-- least
 
 abbrev pub IsTarget : Version → Database → Block → Path → ℕ → Type 0
 IsTarget version db block path target = IsCertified (space_of version db block) (Access path) (bare target)
@@ -135,13 +139,18 @@ match_of_a = match_of (0 ∷ []) false
 -- the index on A, in each version
 abbrev pub TargetsOfOneIndex : Type 0
 TargetsOfOneIndex = (version : Version)
-    → IsTarget version (one_index None) (select_b a_is_seven) match_of_a 20 × IsTarget version unique_index (select_b a_is_seven) match_of_a 21
-    × IsTarget version loaded (select_a a_is_two) scan 12 × IsTarget version (one_index None) (select_b a_is_not_seven) scan 1490
-    × IsTarget version ranged (select_b above_75) match_of_a 390 × IsTarget version ranged (select_b between_10_and_20) match_of_a 160
+    → IsTarget version (one_index None) (select_b a_is_seven) match_of_a 20
+    × IsTarget version unique_index (select_b a_is_seven) match_of_a 21
+    × IsTarget version loaded (select_a a_is_two) scan 12
+    × IsTarget version (one_index None) (select_b a_is_not_seven) scan 1490
+    × IsTarget version ranged (select_b above_75) match_of_a 390
+    × IsTarget version ranged (select_b between_10_and_20) match_of_a 160
     × IsTarget version ranged (select_b a_or_b) scan 609 × IsTarget version ranged (select_b quotient) scan 1500
 
 -- another plan's cost as the target is refused, and so is a target that the plan doesn't cost
 abbrev pub OtherTargetsAreRefused : Type 0
 OtherTargetsAreRefused = (version : Version)
-    → IsVerdict (space_of version (one_index None) (select_b a_is_seven)) (bare 510) (Access scan) (Refused Accesses 1 0)
-    × IsVerdict (space_of version (one_index None) (select_b a_is_seven)) (bare 19) (Access match_of_a) (Refused Target 1 0)
+    → IsVerdict (space_of version (one_index None) (select_b a_is_seven)) (bare 510) (Access scan)
+    (Refused Accesses 1 0)
+    × IsVerdict (space_of version (one_index None) (select_b a_is_seven)) (bare 19) (Access match_of_a)
+    (Refused Target 1 0)

@@ -1,4 +1,5 @@
--- The tables and blocks of the worked examples. Their statistics stand as SET STATISTICS writes them; no row is looked at.
+-- The tables and blocks of the worked examples. Their statistics stand as SET STATISTICS writes them; no row is looked
+-- at.
 use Rattle.std.specs.Prelude.{ℕ, pos, Bool, false, List, [], ◌∷◌, Option, Some, None, map, codes}
 use Rattle.definitions.specs.Value.{Integer}
 use Rattle.definitions.specs.Statement.{Name, Equals, Nullable}
@@ -8,7 +9,7 @@ use Rattle.definitions.specs.Plans.Path.{Path, SegmentScan, MatchingScan}
 use Rattle.definitions.specs.Plans.Plan.{Plan, Access}
 use Rattle.definitions.specs.Plans.Certificate.{StateCost, Certificate}
 use Rattle.definitions.specs.Queries.BoundBlock as bound
-use Rattle.definitions.specs.Queries.BoundBlock.{ValueExpr, Condition, Item, Key, Block}
+use Rattle.definitions.specs.Queries.BoundBlock.{ValueExpr, Condition, Item, OrderKey, Block}
 use Rattle.definitions.specs.Estimates.Version.{Version}
 use Rattle.definitions.specs.Estimates.Paths.{paths_of}
 use Rattle.definitions.specs.Estimates.PathCost.{path_cost}
@@ -21,19 +22,30 @@ integer name = record { name = name; type = Integer; constraint = Nullable }
 -- a table of INTEGER columns, of so many rows on so many pages
 abbrev pub table_with : Name → List Name → ℕ → ℕ → List Index → Table
 table_with name names rows pages indexes =
-    record { name = name; columns = map integer names; indexes = indexes; rows = []; statistics = record { rows = rows; pages = pages } }
+    record {
+      name = name;
+      columns = map integer names;
+      indexes = indexes;
+      rows = [];
+      statistics = record { rows = rows; pages = pages };
+    }
 
 -- an index that isn't clustered, of so many keys on so many pages
 abbrev pub index_with : Bool → List ℕ → ℕ → ℕ → Option KeyRange → Index
 index_with unique columns keys pages range =
-    record { columns = columns; unique = unique; statistics = record { keys = keys; pages = pages; clustered = false; range = range } }
+    record {
+      columns = columns;
+      unique = unique;
+      statistics = record { keys = keys; pages = pages; clustered = false; range = range };
+    }
 
 abbrev pub from_to : ℕ → ℕ → Option KeyRange
 from_to low high = Some (record { low = pos low; high = pos high })
 
 -- T (A, B) of 1000 rows on 50 pages, an index on A of 100 keys on 5 pages
 abbrev pub indexed_table : Bool → Option KeyRange → Table
-indexed_table unique range = table_with (codes "T") (codes "A" ∷ codes "B" ∷ []) 1000 50 (index_with unique (0 ∷ []) 100 5 range ∷ [])
+indexed_table unique range =
+    table_with (codes "T") (codes "A" ∷ codes "B" ∷ []) 1000 50 (index_with unique (0 ∷ []) 100 5 range ∷ [])
 
 -- the database of it, not unique
 abbrev pub one_index : Option KeyRange → Database
@@ -86,9 +98,18 @@ abbrev pub item : Name → ValueExpr → Item
 item name value = record { name = name; value = value }
 
 -- SELECT .. FROM .. WHERE .. ORDER BY ..
-abbrev pub select_from : List Item → List ℕ → Option Condition → List Key → Block
+abbrev pub select_from : List Item → List ℕ → Option Condition → List OrderKey → Block
 select_from items tables condition order =
-    record { tables = tables; distinct = false; items = items; condition = condition; groups = []; having = None; functions = []; order = order }
+    record {
+      tables = tables;
+      distinct = false;
+      items = items;
+      condition = condition;
+      groups = [];
+      having = None;
+      functions = [];
+      order = order;
+    }
 
 -- SELECT B FROM T WHERE ..
 abbrev pub select_b : Condition → Block

@@ -8,7 +8,7 @@ use Rattle.definitions.specs.Plans.Cost.{cost_of}
 use Rattle.definitions.specs.Plans.Certificate.{Certificate}
 use Rattle.definitions.specs.Plans.Checking.{Accesses, Refused, IsVerdict}
 use Rattle.definitions.specs.Queries.BoundBlock as bound
-use Rattle.definitions.specs.Queries.BoundBlock.{Condition, Key, Block}
+use Rattle.definitions.specs.Queries.BoundBlock.{Condition, Block}
 use Rattle.definitions.specs.Estimates.Version.{One, Two}
 use Rattle.definitions.specs.Estimates.Paths.{paths_of}
 use Rattle.definitions.specs.Estimates.BlockSpace.{space_of}
@@ -21,7 +21,8 @@ use Rattle.definitions.specs.Examples.Estimates.Paths.{a, b, a_is_seven, IsTarge
 
 abbrev pub indexed_by_two : ℕ → Database
 indexed_by_two keys =
-    s.table_with (codes "T") (codes "A" ∷ codes "B" ∷ codes "C" ∷ []) 1000 50 (s.index_with false (0 ∷ 1 ∷ []) keys 5 None ∷ []) ∷ []
+    s.table_with (codes "T") (codes "A" ∷ codes "B" ∷ codes "C" ∷
+    []) 1000 50 (s.index_with false (0 ∷ 1 ∷ []) keys 5 None ∷ []) ∷ []
 
 abbrev pub by_two : Database
 by_two = indexed_by_two 500
@@ -46,7 +47,8 @@ TwoColumnsMatch = (paths_of Two by_two both_equal 0 0
 
 -- B = 3 alone matches nothing, as A comes first
 abbrev pub SecondNeedsFirst : Type 0
-SecondNeedsFirst = paths_of Two by_two (select_c (b_is_three ∷ [])) 0 0 ≡ SegmentScan 0 ∷ IndexScan 0 0 false ∷ IndexScan 0 0 true ∷ []
+SecondNeedsFirst =
+    paths_of Two by_two (select_c (b_is_three ∷ [])) 0 0 ≡ SegmentScan 0 ∷ IndexScan 0 0 false ∷ IndexScan 0 0 true ∷ []
 
 -- and with A > 7 before it neither: all but the last are by `=`
 abbrev pub a_above_seven : Condition
@@ -56,13 +58,16 @@ abbrev pub RangeEndsMatch : Type 0
 RangeEndsMatch = paths_of Two by_two (select_c (a_above_seven ∷ b_is_three ∷ [])) 0 0
     ≡ SegmentScan 0 ∷ IndexScan 0 0 false ∷ match_of (0 ∷ []) false ∷ IndexScan 0 0 true ∷ match_of (0 ∷ []) true ∷ []
 
--- what is matched by both columns is one of the keys, however few they are: of 2 keys half of the 55 pages, and not a hundredth
+-- what is matched by both columns is one of the keys, however few they are: of 2 keys half of the 55 pages, and not a
+-- hundredth
 abbrev pub KeysDecideShare : Type 0
 KeysDecideShare = path_costs Two (indexed_by_two 2) both_equal 0 0 ≡ 510 ∷ 560 ∷ 70 ∷ 290 ∷ 560 ∷ 70 ∷ 290 ∷ []
 
 -- both by `=`, forward or backward, are least
 abbrev pub TargetsOfTwoColumns : Type 0
-TargetsOfTwoColumns = IsTarget Two by_two both_equal (match_of (0 ∷ 1 ∷ []) false) 20 × IsTarget Two by_two both_equal (match_of (0 ∷ 1 ∷ []) true) 20
+TargetsOfTwoColumns =
+    IsTarget Two by_two both_equal (match_of (0 ∷ 1 ∷ []) false) 20
+    × IsTarget Two by_two both_equal (match_of (0 ∷ 1 ∷ []) true) 20
 
 -- ---- SELECT A, B FROM T WHERE A = 7 ORDER BY A DESC, B DESC
 
@@ -75,8 +80,8 @@ descending =
 abbrev pub BackwardGivesDescending : Type 0
 BackwardGivesDescending = IsTarget Two by_two descending (match_of (0 ∷ []) true) 160
 
--- the first version doesn't know the index: a scan and a sort are least there, at 720. In the second the same text is refused, as the
--- match costs less than the state that it reaches is said to
+-- the first version doesn't know the index: a scan and a sort are least there, at 720. In the second the same text is
+-- refused, as the match costs less than the state that it reaches is said to
 abbrev pub sorted_scan : Plan
 sorted_scan = Sort (scan_of 0) 1
 

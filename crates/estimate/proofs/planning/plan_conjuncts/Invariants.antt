@@ -5,12 +5,12 @@ use Rattle.definitions.specs.Estimates.PlanConjuncts.{plan_conjunct}
 use Rattle.conjuncts.specs.Parts.{condition_in}
 use Rattle.conjuncts.specs.declared.split.Conjunct.{Conjunct}
 use Rattle.estimate.specs.Tables.{tables_of, AreTablesOf}
-use Rattle.estimate.specs.PlanConjuncts.{condition_told, conjunct_of}
+use Rattle.estimate.specs.PlanConjuncts.{condition_of_conjunct, conjunct_of}
 use Rattle.estimate.proofs.planning.plan_conjuncts.Given as goal
 
 abbrev pub invariant-parts : goal.invariant-parts
 invariant-parts l = record {
-  conditions : map condition_told l.planned.items ++ map condition_in (drop l.part-index l.part-items) ≡ map condition_in l.part-items;
+  conditions : map condition_of_conjunct l.planned.items ++ map condition_in (drop l.part-index l.part-items) ≡ map condition_in l.part-items;
   exact : (db : Database) (block : Block) → AreTablesOf db block (tables_of l.tables)
       → map conjunct_of l.planned.items ++ map (λ (c : Conjunct). plan_conjunct db block (condition_in c)) (drop l.part-index l.part-items) ≡ map (λ (c : Conjunct). plan_conjunct db block (condition_in c)) l.part-items;
 }

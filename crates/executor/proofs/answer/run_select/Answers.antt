@@ -14,14 +14,15 @@ use Rattle.definitions_execution.specs.OfBlock.{combination_of}
 use Rattle.definitions_execution.specs.Running.{work}
 use Rattle.definitions_execution.specs.Stored.{Composite}
 use Rattle.definitions_execution.specs.Total.{subqueries}
-use Rattle.grouping.specs.declared.fault.AnswerFault.TheVariants as f
-use Rattle.operators.specs.Running.{left_of, opened_of, width_of, IsLine}
+use Rattle.result_rows.specs.declared.fault.AnswerFault.TheVariants as f
+use Rattle.operators.specs.Running.{left_of, opened_of, width_of, IsPipeline}
 use Rattle.plan_tree.specs.Plans.{plan_of}
 use Rattle.query_tree.specs.Bound.{block_of, key_of}
 use Rattle.scans.specs.Composites.{numbers_in}
 use Rattle.scans.specs.Sources.{block_in, stored_in, IsSurrounded}
 use Rattle.subqueries.specs.Found.{said_in}
 use Rattle.subqueries.specs.Framed.{combination_in, combinations_in}
+use Rattle.result_rows.specs.Stores.{printing, StoreKind}
 use Rattle.block_answers.specs.BlockRows.{comes_in_order, HaveTaken, IsWellFor, TellsOf}
 use Rattle.block_answers.specs.Groups.{AreTyped}
 use Rattle.block_answers.specs.Ready.{CanAnswer}
@@ -65,17 +66,16 @@ composites-init g c =
     record {
       taken = ([], refl, record { quiet = refl; told = c.in_ok-rows.ensures.told r.source [] (sym ready.block) }, refl);
       good = c.in_ok-rows.ensures.well r.source [] (sym ready.block);
-      order = refl;
-      distinct = refl;
+      kind = refl;
       right = rw c.as_mut_slice-results.ensures.value c.in_ok-kept.ensures;
       frames_are = c.new-frames.ensures;
-      line = subst (IsLine c.in_ok-line.line) c.new-frames.ensures c.in_ok-line.ensures.well;
-      width = c.in_ok-line.ensures.width;
+      pipeline = subst (IsPipeline c.in_ok-pipeline.pipeline) c.new-frames.ensures c.in_ok-pipeline.ensures.well;
+      width = c.in_ok-pipeline.ensures.width;
       opened = refl;
     }
 
 pub next-requires : goal.next-requires
-next-requires g c = subst (IsLine c.composites.line) (sym c.composites.invariant.frames_are) c.composites.invariant.line
+next-requires g c = subst (IsPipeline c.composites.pipeline) (sym c.composites.invariant.frames_are) c.composites.invariant.pipeline
 
 pub returns-in_err-late-2-clause-raised : goal.returns-in_err-late-2-clause-raised
 returns-in_err-late-2-clause-raised g c =
@@ -85,21 +85,21 @@ returns-in_err-late-2-clause-raised g c =
     let ready : IsReady query 0 r = c.requires.query 0 r at_block in
     let same = c.composites.invariant.frames_are in
     let (done, split, have, counted) = c.composites.invariant.taken in
-    let line = c.composites.line in
+    let pipeline = c.composites.pipeline in
     let composite = c.in-Some.composite in
     let width = length (block_in r.source).tables in
-    let first : left_of line [] ≡ numbers_in (width_of line) composite ∷ left_of c.next.new.self [] =
-    subst (λ o. left_of line o ≡ numbers_in (width_of line) composite ∷ left_of c.next.new.self o) same c.in-Some.ensures.taken in
-    let is : left_of line [] ≡ numbers_in width composite ∷ left_of c.next.new.self [] = first_at (width_of line) width composite (left_of line []) (left_of c.next.new.self []) c.composites.invariant.width first in
+    let first : left_of pipeline [] ≡ numbers_in (width_of pipeline) composite ∷ left_of c.next.new.self [] =
+    subst (λ o. left_of pipeline o ≡ numbers_in (width_of pipeline) composite ∷ left_of c.next.new.self o) same c.in-Some.ensures.taken in
+    let is : left_of pipeline [] ≡ numbers_in width composite ∷ left_of c.next.new.self [] = first_at (width_of pipeline) width composite (left_of pipeline []) (left_of c.next.new.self []) c.composites.invariant.width first in
     let said : Says (context_among (database_in query) (blocks_in query) []) (block_in r.source) (combination_in r.source composite) (said_in c.in_ok-late.late) =
     subst (λ o. Says (context_among (database_in query) (blocks_in query) o) (block_in r.source) (combination_in r.source composite) (said_in c.in_ok-late.late)) same (c.in_ok-late.ensures.says r at_block) in
-    let arranged = subst (λ o. ArrangePassing r.source o (left_of c.in_ok-line.line o)) c.new-frames.ensures c.in_ok-line.ensures.arranged in
-    let ordered = subst (λ o. AreRequired (block_in r.source) (map (combination_of r.source.database (block_in r.source)) (left_of c.in_ok-line.line o))) c.new-frames.ensures (c.in_ok-line.ensures.required ready.required) in
+    let arranged = subst (λ o. ArrangePassing r.source o (left_of c.in_ok-pipeline.pipeline o)) c.new-frames.ensures c.in_ok-pipeline.ensures.arranged in
+    let ordered = subst (λ o. AreRequired (block_in r.source) (map (combination_of r.source.database (block_in r.source)) (left_of c.in_ok-pipeline.pipeline o))) c.new-frames.ensures (c.in_ok-pipeline.ensures.required ready.required) in
     let raise = c.in_err-late-2.field-0.0 in
     let e = err_from_is_err_and c.from_residual-in_err-late-2.result c.from_residual-in_err-late-2.ensures.1 in
     rw (e.1, e.2)
-    (late_allowed query c.requires.query r at_block c.requires.stands (left_of c.in_ok-line.line []) arranged ordered (f.Raised raise)
-    (raises query c.requires.query r at_block c.requires.stands composite c.in_ok-late.late said raise (left_of c.in_ok-line.line []) done (left_of line []) (left_of c.next.new.self []) c.in_err-late-2.was split is))
+    (late_allowed query c.requires.query r at_block c.requires.stands (left_of c.in_ok-pipeline.pipeline []) arranged ordered (f.Raised raise)
+    (raises query c.requires.query r at_block c.requires.stands composite c.in_ok-late.late said raise (left_of c.in_ok-pipeline.pipeline []) done (left_of pipeline []) (left_of c.next.new.self []) c.in_err-late-2.was split is))
 
 pub add-requires-clause-block : goal.add-requires-clause-block
 add-requires-clause-block g c =
@@ -124,12 +124,12 @@ composites-preserved-in-Continue-branch-6 g c =
     let ready : IsReady query 0 r = c.requires.query 0 r at_block in
     let same = c.composites.invariant.frames_are in
     let (done, split, have, counted) = c.composites.invariant.taken in
-    let line = c.composites.line in
+    let pipeline = c.composites.pipeline in
     let composite = c.in-Some.composite in
     let width = length (block_in r.source).tables in
-    let first : left_of line [] ≡ numbers_in (width_of line) composite ∷ left_of c.next.new.self [] =
-    subst (λ o. left_of line o ≡ numbers_in (width_of line) composite ∷ left_of c.next.new.self o) same c.in-Some.ensures.taken in
-    let is : left_of line [] ≡ numbers_in width composite ∷ left_of c.next.new.self [] = first_at (width_of line) width composite (left_of line []) (left_of c.next.new.self []) c.composites.invariant.width first in
+    let first : left_of pipeline [] ≡ numbers_in (width_of pipeline) composite ∷ left_of c.next.new.self [] =
+    subst (λ o. left_of pipeline o ≡ numbers_in (width_of pipeline) composite ∷ left_of c.next.new.self o) same c.in-Some.ensures.taken in
+    let is : left_of pipeline [] ≡ numbers_in width composite ∷ left_of c.next.new.self [] = first_at (width_of pipeline) width composite (left_of pipeline []) (left_of c.next.new.self []) c.composites.invariant.width first in
     let said : Says (context_among (database_in query) (blocks_in query) []) (block_in r.source) (combination_in r.source composite) (said_in c.in_ok-late.late) =
     subst (λ o. Says (context_among (database_in query) (blocks_in query) o) (block_in r.source) (combination_in r.source composite) (said_in c.in_ok-late.late)) same (c.in_ok-late.ensures.says r at_block) in
     let frames : combinations_in c.try_late.new.frames ≡ [] = c.in_ok-late.ensures.frames ∙ same in
@@ -139,18 +139,17 @@ composites-preserved-in-Continue-branch-6 g c =
     record {
       taken = (
         done ++ numbers_in width composite ∷ [],
-        split_later (left_of c.in_ok-line.line []) done (left_of c.next.new.self []) (left_of line []) (numbers_in width composite) split is,
+        split_later (left_of c.in_ok-pipeline.pipeline []) done (left_of c.next.new.self []) (left_of pipeline []) (numbers_in width composite) split is,
         taken query c.requires.query r at_block c.requires.stands composite c.in_ok-late.late said done c.composites.rows have c.add.new.self (c.in_ok-late-2.was ∙ ap (λ b. Ok b) c.if-branch.true) grows,
         c.sum_of-inner.ensures ∙ costs query c.requires.query 0 r at_block [] c.requires.stands c.composites.inner c.in_ok-late.work composite done counted worth,
       );
       good = subst (λ o. IsWellFor r.source o c.add.new.self) frames c.in_ok-add.ensures.well;
-      order = c.add.ensures.order ∙ c.composites.invariant.order;
-      distinct = c.add.ensures.distinct ∙ c.composites.invariant.distinct;
+      kind = c.add.ensures.kind ∙ c.composites.invariant.kind;
       right = c.in_ok-late.ensures.right;
       frames_are = frames;
-      line = subst (IsLine c.next.new.self) same c.in-Some.ensures.well;
+      pipeline = subst (IsPipeline c.next.new.self) same c.in-Some.ensures.well;
       width = c.in-Some.ensures.width ∙ c.composites.invariant.width;
-      opened = subst (λ o. opened_of c.next.new.self o ≡ opened_of line o) same c.in-Some.ensures.work ∙ c.composites.invariant.opened;
+      opened = subst (λ o. opened_of c.next.new.self o ≡ opened_of pipeline o) same c.in-Some.ensures.work ∙ c.composites.invariant.opened;
     }
 
 pub composites-preserved : goal.composites-preserved
@@ -161,12 +160,12 @@ composites-preserved g c =
     let ready : IsReady query 0 r = c.requires.query 0 r at_block in
     let same = c.composites.invariant.frames_are in
     let (done, split, have, counted) = c.composites.invariant.taken in
-    let line = c.composites.line in
+    let pipeline = c.composites.pipeline in
     let composite = c.in-Some.composite in
     let width = length (block_in r.source).tables in
-    let first : left_of line [] ≡ numbers_in (width_of line) composite ∷ left_of c.next.new.self [] =
-    subst (λ o. left_of line o ≡ numbers_in (width_of line) composite ∷ left_of c.next.new.self o) same c.in-Some.ensures.taken in
-    let is : left_of line [] ≡ numbers_in width composite ∷ left_of c.next.new.self [] = first_at (width_of line) width composite (left_of line []) (left_of c.next.new.self []) c.composites.invariant.width first in
+    let first : left_of pipeline [] ≡ numbers_in (width_of pipeline) composite ∷ left_of c.next.new.self [] =
+    subst (λ o. left_of pipeline o ≡ numbers_in (width_of pipeline) composite ∷ left_of c.next.new.self o) same c.in-Some.ensures.taken in
+    let is : left_of pipeline [] ≡ numbers_in width composite ∷ left_of c.next.new.self [] = first_at (width_of pipeline) width composite (left_of pipeline []) (left_of c.next.new.self []) c.composites.invariant.width first in
     let said : Says (context_among (database_in query) (blocks_in query) []) (block_in r.source) (combination_in r.source composite) (said_in c.in_ok-late.late) =
     subst (λ o. Says (context_among (database_in query) (blocks_in query) o) (block_in r.source) (combination_in r.source composite) (said_in c.in_ok-late.late)) same (c.in_ok-late.ensures.says r at_block) in
     let frames : combinations_in c.try_late.new.frames ≡ [] = c.in_ok-late.ensures.frames ∙ same in
@@ -175,18 +174,17 @@ composites-preserved g c =
     record {
       taken = (
         done ++ numbers_in width composite ∷ [],
-        split_later (left_of c.in_ok-line.line []) done (left_of c.next.new.self []) (left_of line []) (numbers_in width composite) split is,
+        split_later (left_of c.in_ok-pipeline.pipeline []) done (left_of c.next.new.self []) (left_of pipeline []) (numbers_in width composite) split is,
         passed_over query c.requires.query r at_block c.requires.stands composite c.in_ok-late.late said done c.composites.rows have (c.in_ok-late-2.was ∙ ap (λ b. Ok b) c.if-branch.false),
         c.sum_of-inner.ensures ∙ costs query c.requires.query 0 r at_block [] c.requires.stands c.composites.inner c.in_ok-late.work composite done counted worth,
       );
       good = c.composites.invariant.good;
-      order = c.composites.invariant.order;
-      distinct = c.composites.invariant.distinct;
+      kind = c.composites.invariant.kind;
       right = c.in_ok-late.ensures.right;
       frames_are = frames;
-      line = subst (IsLine c.next.new.self) same c.in-Some.ensures.well;
+      pipeline = subst (IsPipeline c.next.new.self) same c.in-Some.ensures.well;
       width = c.in-Some.ensures.width ∙ c.composites.invariant.width;
-      opened = subst (λ o. opened_of c.next.new.self o ≡ opened_of line o) same c.in-Some.ensures.work ∙ c.composites.invariant.opened;
+      opened = subst (λ o. opened_of c.next.new.self o ≡ opened_of pipeline o) same c.in-Some.ensures.work ∙ c.composites.invariant.opened;
     }
 
 pub finish-requires-clause-block : goal.finish-requires-clause-block
@@ -212,15 +210,15 @@ returns-in_err-store-clause-raised g c =
     let ready : IsReady query 0 r = c.requires.query 0 r at_block in
     let same = c.composites.invariant.frames_are in
     let (done, split, have, counted) = c.composites.invariant.taken in
-    let whole_line : List Composite = left_of c.in_ok-line.line [] in
-    let none : left_of c.composites.line [] ≡ [] = ap (left_of c.composites.line) (sym same) ∙ c.in_default.ensures.taken.0 in
-    let all : done ≡ whole_line = all_done whole_line done (left_of c.composites.line []) split none in
-    let arranged = subst (λ o. ArrangePassing r.source o (left_of c.in_ok-line.line o)) c.new-frames.ensures c.in_ok-line.ensures.arranged in
-    let ordered = subst (λ o. AreRequired (block_in r.source) (map (combination_of r.source.database (block_in r.source)) (left_of c.in_ok-line.line o))) c.new-frames.ensures (c.in_ok-line.ensures.required ready.required) in
-    let kept : HaveTaken r.source [] (meanings_in query) (map (combination_of r.source.database (block_in r.source)) whole_line) c.composites.rows =
+    let whole_list : List Composite = left_of c.in_ok-pipeline.pipeline [] in
+    let none : left_of c.composites.pipeline [] ≡ [] = ap (left_of c.composites.pipeline) (sym same) ∙ c.in_default.ensures.taken.0 in
+    let all : done ≡ whole_list = all_done whole_list done (left_of c.composites.pipeline []) split none in
+    let arranged = subst (λ o. ArrangePassing r.source o (left_of c.in_ok-pipeline.pipeline o)) c.new-frames.ensures c.in_ok-pipeline.ensures.arranged in
+    let ordered = subst (λ o. AreRequired (block_in r.source) (map (combination_of r.source.database (block_in r.source)) (left_of c.in_ok-pipeline.pipeline o))) c.new-frames.ensures (c.in_ok-pipeline.ensures.required ready.required) in
+    let kept : HaveTaken r.source [] (meanings_in query) (map (combination_of r.source.database (block_in r.source)) whole_list) c.composites.rows =
     subst (λ cs. HaveTaken r.source [] (meanings_in query) (map (combination_of r.source.database (block_in r.source)) cs) c.composites.rows) all have in
     let e = err_from_is_err_and c.from_residual-in_err-store.result c.from_residual-in_err-store.ensures.1 in
-    rw (e.1, e.2) (raise_allowed query c.requires.query r at_block c.requires.stands whole_line arranged ordered c.composites.rows kept (combinations_in c.composites.frames) same c.in_err-store.field-0.0 c.in_err-store.ensures.raised)
+    rw (e.1, e.2) (raise_allowed query c.requires.query r at_block c.requires.stands whole_list arranged ordered c.composites.rows kept (combinations_in c.composites.frames) same c.in_err-store.field-0.0 c.in_err-store.ensures.raised)
 
 pub returns-clause-rows : goal.returns-clause-rows
 returns-clause-rows g c =
@@ -230,17 +228,19 @@ returns-clause-rows g c =
     let ready : IsReady query 0 r = c.requires.query 0 r at_block in
     let same = c.composites.invariant.frames_are in
     let (done, split, have, counted) = c.composites.invariant.taken in
-    let whole_line : List Composite = left_of c.in_ok-line.line [] in
-    let none : left_of c.composites.line [] ≡ [] = ap (left_of c.composites.line) (sym same) ∙ c.in_default.ensures.taken.0 in
-    let all : done ≡ whole_line = all_done whole_line done (left_of c.composites.line []) split none in
-    let arranged = subst (λ o. ArrangePassing r.source o (left_of c.in_ok-line.line o)) c.new-frames.ensures c.in_ok-line.ensures.arranged in
-    let ordered = subst (λ o. AreRequired (block_in r.source) (map (combination_of r.source.database (block_in r.source)) (left_of c.in_ok-line.line o))) c.new-frames.ensures (c.in_ok-line.ensures.required ready.required) in
-    let kept : HaveTaken r.source [] (meanings_in query) (map (combination_of r.source.database (block_in r.source)) whole_line) c.composites.rows =
+    let whole_list : List Composite = left_of c.in_ok-pipeline.pipeline [] in
+    let none : left_of c.composites.pipeline [] ≡ [] = ap (left_of c.composites.pipeline) (sym same) ∙ c.in_default.ensures.taken.0 in
+    let all : done ≡ whole_list = all_done whole_list done (left_of c.composites.pipeline []) split none in
+    let arranged = subst (λ o. ArrangePassing r.source o (left_of c.in_ok-pipeline.pipeline o)) c.new-frames.ensures c.in_ok-pipeline.ensures.arranged in
+    let ordered = subst (λ o. AreRequired (block_in r.source) (map (combination_of r.source.database (block_in r.source)) (left_of c.in_ok-pipeline.pipeline o))) c.new-frames.ensures (c.in_ok-pipeline.ensures.required ready.required) in
+    let kept : HaveTaken r.source [] (meanings_in query) (map (combination_of r.source.database (block_in r.source)) whole_list) c.composites.rows =
     subst (λ cs. HaveTaken r.source [] (meanings_in query) (map (combination_of r.source.database (block_in r.source)) cs) c.composites.rows) all have in
-    let order = c.in_ok-store.ensures.order ∙ c.composites.invariant.order ∙ c.in_ok-rows.ensures.order ∙ ap (λ b. not (comes_in_order (block_of b))) ready.block in
-    let distinct = c.in_ok-store.ensures.distinct ∙ c.composites.invariant.distinct ∙ c.in_ok-rows.ensures.distinct ∙ ap (λ b. (block_of b).distinct) ready.block in
+    let kind = c.in_ok-store.ensures.kind ∙ c.composites.invariant.kind ∙ c.in_ok-rows.ensures.kind ∙ ap (λ b. printing (not (comes_in_order (block_of b))) (block_of b).distinct) ready.block in
     let keys = ap (map key_of) (c.deref.ensures.value ∙ ap (λ b. b.order.items) ready.block) in
-    text_allowed query c.requires.query r at_block c.requires.stands whole_line arranged ordered c.composites.rows kept (combinations_in c.composites.frames) same c.in_ok-store.store _ c.in_ok-text.text.items c.in_ok-store.ensures.rows order distinct keys c.in_ok-text.ensures
+    text_allowed query c.requires.query r at_block c.requires.stands whole_list arranged ordered c.composites.rows kept (combinations_in c.composites.frames) same c.in_ok-store.store _ c.in_ok-text.text.items c.in_ok-store.ensures.rows kind keys c.in_ok-text.ensures
+
+pub end-requires : goal.end-requires
+end-requires g c = record { prints = ap (λ (k : StoreKind). k.prints) (c.in_ok-store.ensures.kind ∙ c.composites.invariant.kind ∙ c.in_ok-rows.ensures.kind) }
 
 pub returns-clause-total : goal.returns-clause-total
 returns-clause-total g c =
@@ -249,14 +249,14 @@ returns-clause-total g c =
     let at_block : slice_get query 0 ≡ Some r = slice_get-get_or query 0 r c.requires.outermost ∙ ap Some (sym c.index-query-0.is) in
     let same = c.composites.invariant.frames_are in
     let (done, split, have, counted) = c.composites.invariant.taken in
-    let whole_line : List Composite = left_of c.in_ok-line.line [] in
-    let none : left_of c.composites.line [] ≡ [] = ap (left_of c.composites.line) (sym same) ∙ c.in_default.ensures.taken.0 in
-    let all : done ≡ whole_line = all_done whole_line done (left_of c.composites.line []) split none in
-    let work_is : opened_of c.in_ok-line.line [] ≡ work (space_of current_version r.source.database (block_in r.source)) (stored_in r.source []) (plan_of r.plan) =
-    subst (λ o. opened_of c.in_ok-line.line o ≡ work (space_of current_version r.source.database (block_in r.source)) (stored_in r.source o) (plan_of r.plan)) c.new-frames.ensures c.in_ok-line.ensures.work in
+    let whole_list : List Composite = left_of c.in_ok-pipeline.pipeline [] in
+    let none : left_of c.composites.pipeline [] ≡ [] = ap (left_of c.composites.pipeline) (sym same) ∙ c.in_default.ensures.taken.0 in
+    let all : done ≡ whole_list = all_done whole_list done (left_of c.composites.pipeline []) split none in
+    let work_is : opened_of c.in_ok-pipeline.pipeline [] ≡ work (space_of current_version r.source.database (block_in r.source)) (stored_in r.source []) (plan_of r.plan) =
+    subst (λ o. opened_of c.in_ok-pipeline.pipeline o ≡ work (space_of current_version r.source.database (block_in r.source)) (stored_in r.source o) (plan_of r.plan)) c.new-frames.ensures c.in_ok-pipeline.ensures.work in
     let opened : c.opened_rows.result ≡ work (space_of current_version r.source.database (block_in r.source)) (stored_in r.source []) (plan_of r.plan) =
-    c.opened_rows.ensures ∙ c.in_default.ensures.spent refl ∙ c.in_default.ensures.work ∙ ap (opened_of c.composites.line) same ∙ c.composites.invariant.opened ∙ work_is in
-    let asked : c.composites.inner ≡ saturated (sum_by (totals_in query [] r) (map (combination_of r.source.database (block_in r.source)) whole_line)) =
+    c.opened_rows.ensures ∙ c.in_default.ensures.spent refl ∙ c.in_default.ensures.work ∙ ap (opened_of c.composites.pipeline) same ∙ c.composites.invariant.opened ∙ work_is in
+    let asked : c.composites.inner ≡ saturated (sum_by (totals_in query [] r) (map (combination_of r.source.database (block_in r.source)) whole_list)) =
     counted ∙ ap (λ cs. saturated (sum_by (totals_in query [] r) (map (combination_of r.source.database (block_in r.source)) cs))) all in
-    let arranged = subst (λ o. ArrangePassing r.source o (left_of c.in_ok-line.line o)) c.new-frames.ensures c.in_ok-line.ensures.arranged in
-    c.sum_of.ensures ∙ whole query c.requires.query 0 r at_block [] c.requires.stands c.opened_rows.result c.composites.inner whole_line arranged opened asked
+    let arranged = subst (λ o. ArrangePassing r.source o (left_of c.in_ok-pipeline.pipeline o)) c.new-frames.ensures c.in_ok-pipeline.ensures.arranged in
+    c.sum_of.ensures ∙ whole query c.requires.query 0 r at_block [] c.requires.stands c.opened_rows.result c.composites.inner whole_list arranged opened asked

@@ -42,7 +42,7 @@ use Rattle.definitions.specs.Queries.Answer.{block_answer}
 use Rattle.definitions_execution.specs.OfBlock.{combination_of}
 use Rattle.definitions_execution.specs.Running.{work}
 use Rattle.definitions_execution.specs.Stored.{Composite}
-use Rattle.operators.specs.Running.{left_of, opened_of, width_of, IsLine}
+use Rattle.operators.specs.Running.{left_of, opened_of, width_of, IsPipeline}
 use Rattle.plan_tree.specs.Plans.{plan_of}
 use Rattle.query_tree.specs.Bound.{block_of}
 use Rattle.scans.specs.Composites.{numbers_in}
@@ -50,10 +50,11 @@ use Rattle.block_answers.specs.BlockRows.{IsWellFor}
 use Rattle.block_answers.specs.KeptRows.{rows_in, TellsKept}
 use Rattle.block_answers.specs.Ready as before
 use Rattle.block_answers.specs.Ready.{CanAnswer}
+use Rattle.result_rows.specs.Stores.{keeping}
 use Rattle.block_answers.specs.Telling.{context_with}
 use Rattle.block_answers.proofs.Ending.{all_done, first_at, split_later}
 use Rattle.executor.proofs.InnerRows.{can, costs, grows, means, surrounded, whole, TakesOne}
-use Rattle.executor.proofs.InnerTelling.{code_says, inside_listed, late_can_told, same_block, says}
+use Rattle.executor.proofs.InnerTelling.{code_says, inside_listed, late_can_evaluate, same_block, says}
 use Rattle.executor.proofs.nested.+nested.Goals as goal
 
 -- ---- a result that is kept
@@ -285,8 +286,8 @@ try_late-ask_subqueries-requires g t c =
     let less : 4 * (length query - number) < 4 * (length query - number) + 1 = omega arith in
     search (rules, inside, less)
 
-pub try_late-try_told-late-requires : goal.try_late-try_told-late-requires
-try_late-try_told-late-requires g t c =
+pub try_late-try_conjuncts-late-requires : goal.try_late-try_conjuncts-late-requires
+try_late-try_conjuncts-late-requires g t c =
     let query = c.args.query.now in
     let number = c.args.number in
     let outer = combinations_in c.args.frames.now in
@@ -301,7 +302,7 @@ try_late-try_told-late-requires g t c =
     (subst (λ o. AllByRecursion (IsToldLast query o results) (subqueries_at query number)) entered c.in_ok-work.ensures.told) in
     let ready : IsReady query number r = c.requires.query number r at_block in
     let late : conditions_of c.deref.result.now ≡ late_conjuncts (block_in r.source) = ap conditions_of c.deref.ensures.value ∙ ready.late in
-    let can = late_can_told query c.requires.query number r at_block outer c.requires.stands c.args.composite.now results listed in
+    let can = late_can_evaluate query c.requires.query number r at_block outer c.requires.stands c.args.composite.now results listed in
     subst (λ o. AllByRecursion (CanEvaluate (told_environment (at (context_in r.source o) (combination_in r.source c.args.composite.now)) (told_by results))) (conditions_of c.deref.result.now)) (sym back)
     (subst (AllByRecursion (CanEvaluate (told_environment (at (context_in r.source outer) (combination_in r.source c.args.composite.now)) (told_by results)))) (sym late) can)
 
@@ -322,7 +323,7 @@ try_late-returns-clause-says g t c r' at' =
     let ready : IsReady query number r = c.requires.query number r at_block in
     let late : conditions_of c.deref.result.now ≡ late_conjuncts (block_in r.source) = ap conditions_of c.deref.ensures.value ∙ ready.late in
     let env : List Combination → Environment = λ o. told_environment (at (context_in r.source o) (combination_in r.source c.args.composite.now)) (told_by results) in
-    let said = c.try_told-late in
+    let said = c.try_conjuncts-late in
     let truth : IfOk said.result (λ all. all ≡ are_true_in (env outer) (late_conjuncts (block_in r.source))) =
     subst (λ o. IfOk said.result (λ all. all ≡ are_true_in (env o) (late_conjuncts (block_in r.source)))) back (subst (λ ds. IfOk said.result (λ all. all ≡ are_true_in (env (combinations_in c.leave.new.self)) ds)) late said.ensures.truth) in
     let quiet : OnOk said.result (raised_in (env outer) (late_conjuncts (block_in r.source)) ≡ []) =
@@ -387,18 +388,17 @@ evaluate_block-composites-init g t c =
     record {
       taken = ([], refl, c.in_ok-rows.ensures.told r.source outer (meanings_in query) (sym ready.block), refl);
       good = c.in_ok-rows.ensures.well r.source outer (sym ready.block);
-      order = refl;
-      distinct = refl;
+      kind = refl;
       right = c.requires.right;
       left = λ n l. refl;
       frames_are = refl;
-      line = c.in_ok-line.ensures.well;
-      width = c.in_ok-line.ensures.width;
+      pipeline = c.in_ok-pipeline.ensures.well;
+      width = c.in_ok-pipeline.ensures.width;
       opened = refl;
     }
 
 pub evaluate_block-next-requires : goal.evaluate_block-next-requires
-evaluate_block-next-requires g t c = subst (IsLine c.composites.line) (sym c.composites.invariant.frames_are) c.composites.invariant.line
+evaluate_block-next-requires g t c = subst (IsPipeline c.composites.pipeline) (sym c.composites.invariant.frames_are) c.composites.invariant.pipeline
 
 pub evaluate_block-try_late-requires : goal.evaluate_block-try_late-requires
 evaluate_block-try_late-requires g t c =
@@ -441,12 +441,12 @@ evaluate_block-composites-preserved g t c =
     let frames : combinations_in c.try_late.new.frames ≡ outer = c.in_ok-late.ensures.frames ∙ c.composites.invariant.frames_are in
     let same = c.composites.invariant.frames_are in
     let (done, split, have, counted) = c.composites.invariant.taken in
-    let line = c.composites.line in
+    let pipeline = c.composites.pipeline in
     let composite = c.in-Some.composite in
     let width = length (block_in r.source).tables in
-    let first : left_of line outer ≡ numbers_in (width_of line) composite ∷ left_of c.next.new.self outer =
-    subst (λ o. left_of line o ≡ numbers_in (width_of line) composite ∷ left_of c.next.new.self o) same c.in-Some.ensures.taken in
-    let is : left_of line outer ≡ numbers_in width composite ∷ left_of c.next.new.self outer = first_at (width_of line) width composite (left_of line outer) (left_of c.next.new.self outer) c.composites.invariant.width first in
+    let first : left_of pipeline outer ≡ numbers_in (width_of pipeline) composite ∷ left_of c.next.new.self outer =
+    subst (λ o. left_of pipeline o ≡ numbers_in (width_of pipeline) composite ∷ left_of c.next.new.self o) same c.in-Some.ensures.taken in
+    let is : left_of pipeline outer ≡ numbers_in width composite ∷ left_of c.next.new.self outer = first_at (width_of pipeline) width composite (left_of pipeline outer) (left_of c.next.new.self outer) c.composites.invariant.width first in
     let said : Says (context_among (database_in query) (blocks_in query) outer) (block_in r.source) (combination_in r.source composite) (said_in c.in_ok-late.late) =
     subst (λ o. Says (context_among (database_in query) (blocks_in query) o) (block_in r.source) (combination_in r.source composite) (said_in c.in_ok-late.late)) same (c.in_ok-late.ensures.says r at_block) in
     let worth : c.in_ok-late.work ≡ saturated (sum_by (total_at query (combination_in r.source composite ∷ outer)) (subqueries (block_in r.source))) =
@@ -455,19 +455,18 @@ evaluate_block-composites-preserved g t c =
     record {
       taken = (
         done ++ numbers_in width composite ∷ [],
-        split_later (left_of c.in_ok-line.line outer) done (left_of c.next.new.self outer) (left_of line outer) (numbers_in width composite) split is,
+        split_later (left_of c.in_ok-pipeline.pipeline outer) done (left_of c.next.new.self outer) (left_of pipeline outer) (numbers_in width composite) split is,
         grows query c.requires.query number r at_block outer c.requires.stands c.in_ok-late.late c.composites.rows c.take.new.self composite done takes said have,
         c.sum_of-inner.ensures ∙ costs query c.requires.query number r at_block outer c.requires.stands c.composites.inner c.in_ok-late.work composite done counted worth,
       );
       good = subst (λ o. IsWellFor r.source o (rows_in c.take.new.self)) frames c.in_ok-take.ensures.well;
-      order = c.take.ensures.order ∙ c.composites.invariant.order;
-      distinct = c.take.ensures.distinct ∙ c.composites.invariant.distinct;
+      kind = c.take.ensures.kind ∙ c.composites.invariant.kind;
       right = c.in_ok-late.ensures.right;
       left = left_twice query (number + 1) c.args.results.now c.composites.results c.try_late.new.results c.composites.invariant.left c.in_ok-late.ensures.left;
       frames_are = frames;
-      line = subst (IsLine c.next.new.self) same c.in-Some.ensures.well;
+      pipeline = subst (IsPipeline c.next.new.self) same c.in-Some.ensures.well;
       width = c.in-Some.ensures.width ∙ c.composites.invariant.width;
-      opened = subst (λ o. opened_of c.next.new.self o ≡ opened_of line o) same c.in-Some.ensures.work ∙ c.composites.invariant.opened;
+      opened = subst (λ o. opened_of c.next.new.self o ≡ opened_of pipeline o) same c.in-Some.ensures.work ∙ c.composites.invariant.opened;
     }
 
 pub evaluate_block-end-requires-clause-block : goal.evaluate_block-end-requires-clause-block
@@ -489,15 +488,15 @@ evaluate_block-end-requires-clause-can g t c =
     let at_block : slice_get query number ≡ Some r = slice_get-get_or query number r c.requires.number ∙ ap Some (sym c.index-query-number.is) in
     subst (CanAnswer r.source) (sym c.composites.invariant.frames_are) (can query c.requires.query number r at_block outer c.requires.stands)
 
-pub evaluate_block-end-requires-clause-distinct : goal.evaluate_block-end-requires-clause-distinct
-evaluate_block-end-requires-clause-distinct g t c =
+pub evaluate_block-end-requires-clause-kind : goal.evaluate_block-end-requires-clause-kind
+evaluate_block-end-requires-clause-kind g t c =
     let query = c.args.query.now in
     let number = c.args.number in
     let outer = combinations_in c.args.frames.now in
     let r : ReadyBlock = c.index-query-number.result in
     let at_block : slice_get query number ≡ Some r = slice_get-get_or query number r c.requires.number ∙ ap Some (sym c.index-query-number.is) in
     let ready : IsReady query number r = c.requires.query number r at_block in
-    c.composites.invariant.distinct ∙ c.in_ok-rows.ensures.distinct ∙ ap (λ x. (block_of x).distinct) ready.block
+    c.composites.invariant.kind ∙ c.in_ok-rows.ensures.kind ∙ ap (λ x. keeping (block_of x).distinct) ready.block
 
 pub evaluate_block-returns-clause-told : goal.evaluate_block-returns-clause-told
 evaluate_block-returns-clause-told g t c =
@@ -509,16 +508,16 @@ evaluate_block-returns-clause-told g t c =
     let ready : IsReady query number r = c.requires.query number r at_block in
     let same = c.composites.invariant.frames_are in
     let (done, split, have, counted) = c.composites.invariant.taken in
-    let whole_line : List Composite = left_of c.in_ok-line.line outer in
-    let none : left_of c.composites.line outer ≡ [] = ap (left_of c.composites.line) (sym same) ∙ c.in_default.ensures.taken.0 in
-    let all : done ≡ whole_line = all_done whole_line done (left_of c.composites.line outer) split none in
-    let given : before.AreReady r.source outer whole_line =
-    record { answerable = ready.answerable; valid = ready.valid; surrounded = surrounded query c.requires.query number r at_block outer c.requires.stands; arranged = c.in_ok-line.ensures.arranged; ordered = c.in_ok-line.ensures.required ready.required } in
-    let kept : TellsKept r.source outer (meanings_in query) (map (combination_of r.source.database (block_in r.source)) whole_line) c.composites.rows =
+    let whole_list : List Composite = left_of c.in_ok-pipeline.pipeline outer in
+    let none : left_of c.composites.pipeline outer ≡ [] = ap (left_of c.composites.pipeline) (sym same) ∙ c.in_default.ensures.taken.0 in
+    let all : done ≡ whole_list = all_done whole_list done (left_of c.composites.pipeline outer) split none in
+    let given : before.AreReady r.source outer whole_list =
+    record { answerable = ready.answerable; valid = ready.valid; surrounded = surrounded query c.requires.query number r at_block outer c.requires.stands; arranged = c.in_ok-pipeline.ensures.arranged; ordered = c.in_ok-pipeline.ensures.required ready.required } in
+    let kept : TellsKept r.source outer (meanings_in query) (map (combination_of r.source.database (block_in r.source)) whole_list) c.composites.rows =
     subst (λ cs. TellsKept r.source outer (meanings_in query) (map (combination_of r.source.database (block_in r.source)) cs) c.composites.rows) all have in
     let told : TellsRows (block_answer (context_with r.source outer (meanings_in query)) (block_in r.source)) (told_in c.in_ok-told.told) =
-    subst (λ o. before.AreReady r.source o whole_line → TellsKept r.source o (meanings_in query) (map (combination_of r.source.database (block_in r.source)) whole_line) c.composites.rows → TellsRows (block_answer (context_with r.source o (meanings_in query)) (block_in r.source)) (told_in c.in_ok-told.told))
-    same (c.in_ok-told.ensures (meanings_in query) whole_line) given kept in
+    subst (λ o. before.AreReady r.source o whole_list → TellsKept r.source o (meanings_in query) (map (combination_of r.source.database (block_in r.source)) whole_list) c.composites.rows → TellsRows (block_answer (context_with r.source o (meanings_in query)) (block_in r.source)) (told_in c.in_ok-told.told))
+    same (c.in_ok-told.ensures (meanings_in query) whole_list) given kept in
     means query c.requires.query number r at_block outer c.requires.stands (told_in c.in_ok-told.told) told
 
 pub evaluate_block-returns-clause-total : goal.evaluate_block-returns-clause-total
@@ -530,11 +529,11 @@ evaluate_block-returns-clause-total g t c =
     let at_block : slice_get query number ≡ Some r = slice_get-get_or query number r c.requires.number ∙ ap Some (sym c.index-query-number.is) in
     let same = c.composites.invariant.frames_are in
     let (done, split, have, counted) = c.composites.invariant.taken in
-    let whole_line : List Composite = left_of c.in_ok-line.line outer in
-    let none : left_of c.composites.line outer ≡ [] = ap (left_of c.composites.line) (sym same) ∙ c.in_default.ensures.taken.0 in
-    let all : done ≡ whole_line = all_done whole_line done (left_of c.composites.line outer) split none in
+    let whole_list : List Composite = left_of c.in_ok-pipeline.pipeline outer in
+    let none : left_of c.composites.pipeline outer ≡ [] = ap (left_of c.composites.pipeline) (sym same) ∙ c.in_default.ensures.taken.0 in
+    let all : done ≡ whole_list = all_done whole_list done (left_of c.composites.pipeline outer) split none in
     let opened : c.opened_rows.result ≡ work (space_of current_version r.source.database (block_in r.source)) (stored_in r.source outer) (plan_of r.plan) =
-    c.opened_rows.ensures ∙ c.in_default.ensures.spent refl ∙ c.in_default.ensures.work ∙ ap (opened_of c.composites.line) same ∙ c.composites.invariant.opened ∙ c.in_ok-line.ensures.work in
-    let asked : c.composites.inner ≡ saturated (sum_by (totals_in query outer r) (map (combination_of r.source.database (block_in r.source)) whole_line)) =
+    c.opened_rows.ensures ∙ c.in_default.ensures.spent refl ∙ c.in_default.ensures.work ∙ ap (opened_of c.composites.pipeline) same ∙ c.composites.invariant.opened ∙ c.in_ok-pipeline.ensures.work in
+    let asked : c.composites.inner ≡ saturated (sum_by (totals_in query outer r) (map (combination_of r.source.database (block_in r.source)) whole_list)) =
     counted ∙ ap (λ cs. saturated (sum_by (totals_in query outer r) (map (combination_of r.source.database (block_in r.source)) cs))) all in
-    c.sum_of.ensures ∙ whole query c.requires.query number r at_block outer c.requires.stands c.opened_rows.result c.composites.inner whole_line c.in_ok-line.ensures.arranged opened asked
+    c.sum_of.ensures ∙ whole query c.requires.query number r at_block outer c.requires.stands c.opened_rows.result c.composites.inner whole_list c.in_ok-pipeline.ensures.arranged opened asked

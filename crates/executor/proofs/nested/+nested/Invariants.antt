@@ -4,13 +4,13 @@ use Rattle.std.specs.List.{AllByRecursion}
 use Rattle.definitions.specs.Plans.Cost.{saturated}
 use Rattle.definitions_execution.specs.OfBlock.{combination_of}
 use Rattle.definitions_execution.specs.Stored.{Composite}
-use Rattle.operators.specs.Running.{left_of, opened_of, width_of, IsLine}
+use Rattle.operators.specs.Running.{left_of, opened_of, width_of, IsPipeline}
 use Rattle.scans.specs.Sources.{block_in}
 use Rattle.subqueries.specs.Framed.{combinations_in}
 use Rattle.block_answers.specs.BlockRows.{store_in, IsWellFor}
 use Rattle.block_answers.specs.KeptRows.{rows_in, TellsKept}
 use Rattle.executor.specs.ReadyBlocks.{meanings_in, total_at, totals_in, AreLeft, AreRight, IsToldLast}
-use Rattle.block_answers.specs.Telling.{leaves_repeats_out, puts_in_order}
+use Rattle.result_rows.specs.Stores.{kind_of}
 use Rattle.executor.proofs.nested.+nested.Given as goal
 
 -- from a block to one behind it there is less to go
@@ -40,19 +40,18 @@ invariant-ask_subqueries-blocks-2 g l = record {
 abbrev pub invariant-evaluate_block-composites : goal.invariant-evaluate_block-composites
 invariant-evaluate_block-composites g l = record {
   taken :
-      (composites : List Composite) × (left_of l.initial.line (combinations_in l.fn.frames) ≡ composites ++ left_of l.line (combinations_in l.fn.frames))
+      (composites : List Composite) × (left_of l.initial.pipeline (combinations_in l.fn.frames) ≡ composites ++ left_of l.pipeline (combinations_in l.fn.frames))
       × TellsKept l.ready.source (combinations_in l.fn.frames) (meanings_in l.query) (map (combination_of l.ready.source.database (block_in l.ready.source)) composites) l.rows
       × (l.inner ≡ saturated (sum_by (totals_in l.query (combinations_in l.fn.frames) l.ready) (map (combination_of l.ready.source.database (block_in l.ready.source)) composites)));
   good : IsWellFor l.ready.source (combinations_in l.fn.frames) (rows_in l.rows);
-  order : puts_in_order (store_in (rows_in l.rows)) ≡ puts_in_order (store_in (rows_in l.initial.rows));
-  distinct : leaves_repeats_out (store_in (rows_in l.rows)) ≡ leaves_repeats_out (store_in (rows_in l.initial.rows));
+  kind : kind_of (store_in (rows_in l.rows)) ≡ kind_of (store_in (rows_in l.initial.rows));
   right : AreRight l.query l.results;
   left : AreLeft l.query (l.number + 1) l.fn.results l.results;
   frames_are : combinations_in l.frames ≡ combinations_in l.fn.frames;
-  line : IsLine l.line (combinations_in l.fn.frames);
-  width : width_of l.line ≡ length (block_in l.ready.source).tables;
-  opened : opened_of l.line (combinations_in l.fn.frames) ≡ opened_of l.initial.line (combinations_in l.fn.frames);
+  pipeline : IsPipeline l.pipeline (combinations_in l.fn.frames);
+  width : width_of l.pipeline ≡ length (block_in l.ready.source).tables;
+  opened : opened_of l.pipeline (combinations_in l.fn.frames) ≡ opened_of l.initial.pipeline (combinations_in l.fn.frames);
 }
 
 abbrev pub decreases-evaluate_block-composites : goal.decreases-evaluate_block-composites
-decreases-evaluate_block-composites g l = length (left_of l.line (combinations_in l.fn.frames))
+decreases-evaluate_block-composites g l = length (left_of l.pipeline (combinations_in l.fn.frames))

@@ -8,7 +8,7 @@ use Rattle.join_dp.proofs.candidates.add_join.Goals as goal
 
 pub places-preserved : goal.places-preserved
 places-preserved c = (
-  joins_go (space_in c.args.space.now) (states_in c.args.states.now) (set_of c.args.added.tables) c.args.added.table (join_of c.args.added.join) c.places-places.result.start c.args.row.now.found c.places.row.found c.add_join_on.new.row.found c.places.from c.places.invariant.0
+  joins_go (space_in c.args.space.now) (states_in c.args.states.now) (set_of c.args.added.tables) c.args.added.table (join_of c.args.added.join) c.places-places.result.start c.args.candidates.now.found c.places.candidates.found c.add_join_on.new.candidates.found c.places.from c.places.invariant.0
       c.add_join_on.ensures.made c.add_join_on.ensures.below c.add_join_on.ensures.low,
   omega (arith, c.add_join_on.ensures.steps, c.places.invariant.1),
 )

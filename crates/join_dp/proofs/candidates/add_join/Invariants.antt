@@ -7,5 +7,5 @@ use Rattle.join_dp.proofs.Offering.{Joined}
 use Rattle.join_dp.proofs.candidates.add_join.Given as goal
 
 abbrev pub invariant-places : goal.invariant-places
-invariant-places l = (Joined (space_in l.space) (states_in l.states) (set_of l.added.tables) l.added.table (join_of l.added.join) l.initial.from l.fn.row.found l.row.found l.from)
-    × (l.row.steps + l.initial.from ≤ l.fn.row.steps + l.from)
+invariant-places l = (Joined (space_in l.space) (states_in l.states) (set_of l.added.tables) l.added.table (join_of l.added.join) l.initial.from l.fn.candidates.found l.candidates.found l.from)
+    × (l.candidates.steps + l.initial.from ≤ l.fn.candidates.steps + l.from)

@@ -29,14 +29,14 @@ returns-clause-made c =
     let cost = ap (λ (s : Solved). s.found.cost) c.at-state.ensures in
     let goes = rw order at (holds _ c.if-not-goes_with.ensures) in
     let folds = rw (c.with-next.ensures, order) at c.fold.ensures.exact in
-    offered_unsorted (space_in c.args.space.now) (states_in c.args.states.now) (with_table (set_of c.args.added.tables) c.args.added.table) c.args.row.now c.offer.new.self c.fold.result _ c.offer.ensures
+    offered_unsorted (space_in c.args.space.now) (states_in c.args.states.now) (with_table (set_of c.args.added.tables) c.args.added.table) c.args.candidates.now c.offer.new.self c.fold.result _ c.offer.ensures
     (omega (arith, order, c.fold.ensures.within, (c.requires.states c.args.from c.requires.from).numbered, c.requires.made.size)) c.requires.made
     (join_made (space_in c.args.space.now) (states_in c.args.states.now) (set_of c.args.added.tables) c.args.added.table (join_of c.args.added.join) c.args.added.cost c.args.from c.fold.result c.saturate.result c.requires.added c.requires.on c.requires.from goes folds (sum_is _ _ _ _ _ c.saturate.ensures.exact (c.from.ensures ∙ cost) c.from-2.ensures))
 
 pub returns-clause-below : goal.returns-clause-below
 returns-clause-below c =
     let order = ap (λ (s : Solved). s.order) c.at-state.ensures in
-    offered_below c.args.row.now c.offer.new.self c.fold.result _ c.offer.ensures
+    offered_below c.args.candidates.now c.offer.new.self c.fold.result _ c.offer.ensures
     (omega (arith, order, c.fold.ensures.within, (c.requires.states c.args.from c.requires.from).numbered, c.requires.made.size)) c.saturate.ensures.below
 
 pub returns-clause-low : goal.returns-clause-low
@@ -46,4 +46,4 @@ returns-clause-low c =
     let folds = rw (c.with-next.ensures, order) at c.fold.ensures.exact in
     join_low (space_in c.args.space.now) (states_in c.args.states.now) (set_of c.args.added.tables) c.args.added.table (join_of c.args.added.join) c.args.added.cost c.args.from c.fold.result c.saturate.result c.offer.new.self.found c.requires.added folds
     (sum_is _ _ _ _ _ c.saturate.ensures.exact (c.from.ensures ∙ cost) c.from-2.ensures)
-    (offered_low c.args.row.now c.offer.new.self c.fold.result _ c.offer.ensures (omega (arith, order, c.fold.ensures.within, (c.requires.states c.args.from c.requires.from).numbered, c.requires.made.size)))
+    (offered_low c.args.candidates.now c.offer.new.self c.fold.result _ c.offer.ensures (omega (arith, order, c.fold.ensures.within, (c.requires.states c.args.from c.requires.from).numbered, c.requires.made.size)))

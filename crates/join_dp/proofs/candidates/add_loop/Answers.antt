@@ -16,7 +16,7 @@ pub returns-in_default-clause-least : goal.returns-in_default-clause-least
 returns-in_default-clause-least c = λ path is. absurd (c.in_default.ensures path is.0 is.1)
 
 pub returns-in_default-clause-low : goal.returns-in_default-clause-low
-returns-in_default-clause-low c = none_dearer (space_in c.args.space.now) (states_in c.args.states.now) (set_of c.args.tables) c.args.table _ c.args.row.now.found (omega arith)
+returns-in_default-clause-low c = none_dearer (space_in c.args.space.now) (states_in c.args.states.now) (set_of c.args.tables) c.args.table _ c.args.candidates.now.found (omega arith)
 
 pub add_join-requires-clause-added : goal.add_join-requires-clause-added
 add_join-requires-clause-added c =
@@ -30,9 +30,9 @@ returns-clause-least c =
 pub returns-clause-low : goal.returns-clause-low
 returns-clause-low c =
     let added = loop_added (space_in c.args.space.now) (states_in c.args.states.now) (set_of c.args.tables) c.args.table (item_of c.in-Some.item) _ _ _ c.requires.follows (c.in-Some.ensures.0, c.in-Some.ensures.1) c.from-cardinality.ensures c.cardinality.ensures.exact _ c.from.ensures c.saturate-cost.ensures.exact in
-    low_by_dearer (space_in c.args.space.now) (states_in c.args.states.now) (set_of c.args.tables) c.args.table (path_of c.in-Some.item.path.now) c.saturate-cost.result c.add_join.new.row.found added.cost c.add_join.ensures.low
+    low_by_dearer (space_in c.args.space.now) (states_in c.args.states.now) (set_of c.args.tables) c.args.table (path_of c.in-Some.item.path.now) c.saturate-cost.result c.add_join.new.candidates.found added.cost c.add_join.ensures.low
 
 pub returns-clause-steps : goal.returns-clause-steps
 returns-clause-steps c =
-    once_each c.args.row.now.steps c.add_join.new.row.steps (length (space_in c.args.space.now).orders) (length ((space_in c.args.space.now).paths (set_of c.args.tables) c.args.table))
+    once_each c.args.candidates.now.steps c.add_join.new.candidates.steps (length (space_in c.args.space.now).orders) (length ((space_in c.args.space.now).paths (set_of c.args.tables) c.args.table))
     (some_path (space_in c.args.space.now) (set_of c.args.tables) c.args.table (path_of c.in-Some.item.path.now) c.in-Some.ensures.0.reads c.in-Some.ensures.1) c.add_join.ensures.steps

@@ -6,5 +6,5 @@ use Rattle.join_dp.proofs.Sorting.{Sorted}
 use Rattle.join_dp.proofs.candidates.add_sorts_of.Given as goal
 
 abbrev pub invariant-orders : goal.invariant-orders
-invariant-orders l = (Sorted (space_in l.space) (set_of l.tables) l.cost l.fn.row.found l.row.found l.order-iterator)
-    × ((orders : List ℕ) × AreSorts (space_in l.space) (set_of l.tables) orders × (l.row.steps + length l.order-iterator ≤ l.fn.row.steps + length orders))
+invariant-orders l = (Sorted (space_in l.space) (set_of l.tables) l.cost l.fn.candidates.found l.candidates.found l.order-iterator)
+    × ((orders : List ℕ) × AreSorts (space_in l.space) (set_of l.tables) orders × (l.candidates.steps + length l.order-iterator ≤ l.fn.candidates.steps + length orders))

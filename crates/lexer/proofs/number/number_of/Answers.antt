@@ -1,5 +1,6 @@
 use Rattle.std.proofs.Common.{arith}
-use Rattle.lexer.proofs.Tokens.{digits_small, digits_within}
+use Rattle.definitions.proofs.ReadTokens.{digits_within}
+use Rattle.lexer.proofs.Tokens.{digits_small}
 use Rattle.lexer.proofs.number.number_of.Goals as goal
 
 pub digits_value-requires : goal.digits_value-requires

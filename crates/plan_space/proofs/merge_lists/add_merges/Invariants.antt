@@ -4,10 +4,10 @@ use Rattle.definitions.specs.Plans.TableSet.{no_tables}
 use Rattle.interesting_orders.specs.Uses.{AreUses}
 use Rattle.plan_space.specs.Item.{AreItems}
 use Rattle.plan_space.specs.Merge.{ListsPathsOnce}
-use Rattle.plan_space.specs.MergeListed.{merge_told, IsWay}
+use Rattle.plan_space.specs.MergeListed.{found_merge_of, IsWay}
 use Rattle.plan_space.proofs.Walking.{AddsBut}
 use Rattle.plan_space.proofs.merge_lists.add_merges.Given as goal
 
 abbrev pub invariant-paths : goal.invariant-paths
-invariant-paths l = (space : Space) → AreUses space l.uses → IsWay space l.way.table l.way.conjunct (Some l.way) → AreItems space no_tables l.way.table l.fn.paths → ListsPathsOnce space l.way.table
-    → AddsBut space l.way.table l.way.conjunct l.rest (map merge_told l.fn.merges.items) (map merge_told l.merges.items)
+invariant-paths l = (space : Space) → AreUses space l.uses → IsWay space l.clause.table l.clause.conjunct (Some l.clause) → AreItems space no_tables l.clause.table l.fn.paths → ListsPathsOnce space l.clause.table
+    → AddsBut space l.clause.table l.clause.conjunct l.rest (map found_merge_of l.fn.merges.items) (map found_merge_of l.merges.items)

@@ -9,7 +9,7 @@ use Rattle.query_tree.specs.Bound.{block_of}
 use Rattle.estimate.specs.PlanConjuncts.{conjunct_of}
 use Rattle.interesting_orders.specs.Uses.{sets_in}
 use Rattle.plan_space.specs.Item.{AreItems}
-use Rattle.plan_space.specs.MergeListed.{merge_told, IsWay}
+use Rattle.plan_space.specs.MergeListed.{found_merge_of, IsWay}
 use Rattle.plan_space.specs.declared.listed.MergeJoinPath.{MergeJoinPath}
 use Rattle.plan_space.specs.declared.listed.MergeClause.{MergeClause}
 use Rattle.plan_space.proofs.PathsOnce.{paths_once}
@@ -27,19 +27,19 @@ conjuncts-preserved c = λ version paths uses sort.
     let a = c.args in
     let space = space_of version a.estimate.now.database (block_of a.estimate.now.block) in
     let number = c.conjuncts.conjunct in
-    let old = map merge_told c.conjuncts.merges.items in
+    let old = map found_merge_of c.conjuncts.merges.items in
     let before = c.conjuncts.invariant version paths uses sort in
-    let new = map merge_told c.match-merge_way.merges.items in
-    let told = λ (v : Vec MergeJoinPath). map merge_told v.items in
+    let new = map found_merge_of c.match-merge_way.merges.items in
+    let told = λ (v : Vec MergeJoinPath). map found_merge_of v.items in
     elim c.match-merge_way.branch [
       | in-Some+in_ok-add_merges w ↦
-          let is : IsWay space a.table number (Some w.in-Some.way) = w.in-Some.ensures.exact space refl uses sort in
+          let is : IsWay space a.table number (Some w.in-Some.clause) = w.in-Some.ensures.exact space refl uses sort in
           let items : AreItems space no_tables a.table w.paths.result = subst (λ (s : TableSet). AreItems space s a.table w.paths.result) w.none.ensures (w.paths.ensures version paths) in
-          let adds = added_by space a.table number w.in-Some.way w.paths.result old (map merge_told w.add_merges.new.merges.items) is items (paths_once version a.estimate.now.database (block_of a.estimate.now.block) no_tables a.table) (λ own of_own once. w.in_ok-add_merges.ensures space uses own of_own once) in
-          subst (λ (v : Vec MergeJoinPath). AreFirst space a.table (number + 1) (map merge_told v.items)) (sym w.merges-is) (one_first space a.table number old (map merge_told w.add_merges.new.merges.items) before adds)
+          let adds = added_by space a.table number w.in-Some.clause w.paths.result old (map found_merge_of w.add_merges.new.merges.items) is items (paths_once version a.estimate.now.database (block_of a.estimate.now.block) no_tables a.table) (λ own of_own once. w.in_ok-add_merges.ensures space uses own of_own once) in
+          subst (λ (v : Vec MergeJoinPath). AreFirst space a.table (number + 1) (map found_merge_of v.items)) (sym w.merges-is) (one_first space a.table number old (map found_merge_of w.add_merges.new.merges.items) before adds)
       | in_default w ↦
-          let none : IsWay space a.table number None = subst (λ (way : Option MergeClause). IsWay space a.table number way) w.in_default.is (c.merge_way.ensures.exact space refl uses sort) in
-          subst (λ (v : Vec MergeJoinPath). AreFirst space a.table (number + 1) (map merge_told v.items)) (sym w.merges-is) (none_added space a.table number old before none)
+          let none : IsWay space a.table number None = subst (λ (clause : Option MergeClause). IsWay space a.table number clause) w.in_default.is (c.merge_way.ensures.exact space refl uses sort) in
+          subst (λ (v : Vec MergeJoinPath). AreFirst space a.table (number + 1) (map found_merge_of v.items)) (sym w.merges-is) (none_added space a.table number old before none)
     ]
 
 pub returns : goal.returns
@@ -48,4 +48,4 @@ returns c = λ version paths uses sort.
     let space = space_of version a.estimate.now.database (block_of a.estimate.now.block) in
     let count : c.conjuncts.conjunct ≡ length space.conjuncts =
     omega (arith, c.conjuncts-test.false, c.conjuncts.auto.conjunct-end, length-map c.conjuncts-conjunct-end.result.now conjunct_of, ap (λ (cs : List Conjunct). length cs) c.conjuncts-conjunct-end.ensures.exact) in
-    all_first space a.table (map merge_told c.conjuncts.merges.items) (subst (λ n. AreFirst space a.table n (map merge_told c.conjuncts.merges.items)) count (c.conjuncts.invariant version paths uses sort))
+    all_first space a.table (map found_merge_of c.conjuncts.merges.items) (subst (λ n. AreFirst space a.table n (map found_merge_of c.conjuncts.merges.items)) count (c.conjuncts.invariant version paths uses sort))

@@ -6,7 +6,7 @@ use Rattle.definitions.specs.Plans.TableSet.{only}
 use Rattle.query_tree.specs.Bound.{block_of}
 use Rattle.interesting_orders.specs.Uses.{AreUses}
 use Rattle.plan_space.specs.PathLists.{AreBlockPaths}
-use Rattle.plan_space.specs.MergeListed.{merge_told}
+use Rattle.plan_space.specs.MergeListed.{found_merge_of}
 use Rattle.plan_space.proofs.Walking.{AreFirst}
 use Rattle.plan_space.proofs.merge_lists.table_merges.Given as goal
 
@@ -14,4 +14,4 @@ abbrev pub invariant-conjuncts : goal.invariant-conjuncts
 invariant-conjuncts l = (version : Version) → AreBlockPaths version l.estimate.database (block_of l.estimate.block) l.paths
     → AreUses (space_of version l.estimate.database (block_of l.estimate.block)) l.uses
     → l.sort_cost ≡ sort_cost l.estimate.database (block_of l.estimate.block) (only l.table)
-    → AreFirst (space_of version l.estimate.database (block_of l.estimate.block)) l.table l.conjunct (map merge_told l.merges.items)
+    → AreFirst (space_of version l.estimate.database (block_of l.estimate.block)) l.table l.conjunct (map found_merge_of l.merges.items)

@@ -2,7 +2,7 @@ use Rattle.std.proofs.Common.{◌∙◌, ◌<◌, ap, length, drop}
 use Rattle.std.specs.Prelude.{option_and_then, slice_get}
 use Rattle.std.specs.List.{AllByRecursion}
 use Rattle.std.proofs.lemmas.List.{drop_all}
-use Rattle.scans.proofs.Tables.{all_mapped, next_told, number_within, same_length, tables_at, told}
+use Rattle.scans.proofs.Tables.{all_mapped, next_table, number_within, same_length, tables_at, told}
 use Rattle.scans.proofs.block_source.block_tables.Goals as goal
 
 pub numbers-preserved : goal.numbers-preserved
@@ -12,7 +12,7 @@ numbers-preserved c =
     let i = c.numbers.number-index in
     let all : AllByRecursion (λ n. n < length db) numbers = rw c.deref-number-items.ensures.value c.requires.there in
     let is = rw c.tables.ensures.tables at c.index-tables-number.is in
-    next_told db numbers i c.numbers-test.true c.numbers.tables.items c.push.new.self.items _ c.in_ok-push.ensures.items (number_within db numbers i c.numbers-test.true all) is ∙ c.numbers.invariant
+    next_table db numbers i c.numbers-test.true c.numbers.tables.items c.push.new.self.items _ c.in_ok-push.ensures.items (number_within db numbers i c.numbers-test.true all) is ∙ c.numbers.invariant
 
 pub returns-clause-exact : goal.returns-clause-exact
 returns-clause-exact c = λ k.

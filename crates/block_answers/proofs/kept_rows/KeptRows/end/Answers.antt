@@ -10,8 +10,8 @@ use Rattle.definitions_answers.specs.Told.{TellsRows}
 use Rattle.definitions_execution.specs.OfBlock.{combination_of}
 use Rattle.sqlvalue.specs.Owned.{owned_value}
 use Rattle.sqlvalue.specs.Raises.{raise_of}
-use Rattle.grouping.specs.Faults.{IfRaised}
-use Rattle.grouping.specs.declared.fault.AnswerFault.TheVariants as f
+use Rattle.result_rows.specs.Faults.{IfRaised}
+use Rattle.result_rows.specs.declared.fault.AnswerFault.TheVariants as f
 use Rattle.scans.specs.Sources.{block_in}
 use Rattle.subqueries.specs.FirstValues.{values_in}
 use Rattle.block_answers.specs.BlockRows.{MayRaiseOn, TellsOf}
@@ -38,8 +38,8 @@ returns-in_ok-sorted-in-Ok g c inner all ready told =
     let s = c.args.source.now in
     let outer = g.A.OuterRows.combinations c.args.around.now in
     let have = not_late s outer inner _ c.args.self.late c.args.self.rows c.in_default.not-Some told in
-    in_other_order (block_answer (context_with s outer inner) (block_in s)) (map owned_value c.in_ok-values-in-Ok.values.items) (values_in c.in_ok-sorted-in-Ok.sorted) c.in_ok-sorted-in-Ok.ensures
-    (values_told s outer inner all ready c.args.self.rows have c.in-Ok.store _ c.in-Ok.ensures.rows (c.in-Ok.ensures.distinct ∙ c.requires.distinct) c.in_ok-values-in-Ok.ensures)
+    in_other_order (block_answer (context_with s outer inner) (block_in s)) (map owned_value c.into_values.result.items) (values_in c.in_ok-sorted-in-Ok.sorted) c.in_ok-sorted-in-Ok.ensures
+    (values_told s outer inner all ready c.args.self.rows have c.in-Ok.store _ c.in-Ok.ensures.rows (c.in-Ok.ensures.kind ∙ c.requires.kind) c.into_values.ensures)
 
 pub returns-in-Err-Raised : goal.returns-in-Err-Raised
 returns-in-Err-Raised g c inner all ready told =

@@ -1,12 +1,12 @@
 use Rattle.std.proofs.Common.{◌∙◌, ap}
-use Rattle.definitions.specs.IndexRun.{rows_of}
+use Rattle.definitions.specs.IndexRun.{entry_rows}
 use Rattle.indexes.specs.Runs.{Index}
 use Rattle.indexes.specs.Keys.{columns_of}
 use Rattle.indexes.proofs.Rows.{rows_same, rows_within}
 use Rattle.indexes.proofs.unique.UniqueIndex.with_further_rows.Goals as goal
 
 pub run_rows-requires-clause-same : goal.run_rows-requires-clause-same
-run_rows-requires-clause-same c = rows_same (columns_of c.args.keys.now) c.args.self.now.entries c.requires.beginning c.rows.result.now (c.rows.ensures ∙ ap (λ (i : Index). rows_of i.entries) c.self.view_is)
+run_rows-requires-clause-same c = rows_same (columns_of c.args.keys.now) c.args.self.now.entries c.requires.beginning c.rows.result.now (c.rows.ensures ∙ ap (λ (i : Index). entry_rows i.entries) c.self.view_is)
 
 pub run_rows-requires-clause-within : goal.run_rows-requires-clause-within
-run_rows-requires-clause-within c = rows_within (columns_of c.args.keys.now) c.args.self.now.entries c.requires.beginning c.rows.result.now (c.rows.ensures ∙ ap (λ (i : Index). rows_of i.entries) c.self.view_is)
+run_rows-requires-clause-within c = rows_within (columns_of c.args.keys.now) c.args.self.now.entries c.requires.beginning c.rows.result.now (c.rows.ensures ∙ ap (λ (i : Index). entry_rows i.entries) c.self.view_is)

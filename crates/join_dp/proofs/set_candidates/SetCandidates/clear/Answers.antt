@@ -14,9 +14,9 @@ orders-preserved c = (
 
 pub invariant_of-self : goal.invariant_of-self
 invariant_of-self c =
-    let row = map (option_map candidate_of) c.orders.self-inside.found.items in
+    let candidates = map (option_map candidate_of) c.orders.self-inside.found.items in
     let old = map (option_map candidate_of) c.self.inside.found.items in
     let view : length old ≡ length c.args.self.now.found = ap (λ (r : SetCandidates). length r.found) c.self.view_is in
-    let size : length row ≤ c.orders.order = omega (arith, length-map c.orders.self-inside.found.items (option_map candidate_of), length-map c.self.inside.found.items (option_map candidate_of), view, c.orders.invariant.1, c.orders-test.false, c.len-order-end.ensures) in
-    let none : filled row ≡ 0 = none_filled row (all_cleared row c.orders.order size c.orders.invariant.0) in
+    let size : length candidates ≤ c.orders.order = omega (arith, length-map c.orders.self-inside.found.items (option_map candidate_of), length-map c.self.inside.found.items (option_map candidate_of), view, c.orders.invariant.1, c.orders-test.false, c.len-order-end.ensures) in
+    let none : filled candidates ≡ 0 = none_filled candidates (all_cleared candidates c.orders.order size c.orders.invariant.0) in
     omega (arith, none)

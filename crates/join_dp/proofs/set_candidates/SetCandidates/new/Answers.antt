@@ -10,7 +10,7 @@ use Rattle.join_dp.proofs.set_candidates.SetCandidates.new.Goals as goal
 pub orders-preserved : goal.orders-preserved
 orders-preserved c =
     let is : map (option_map candidate_of) c.push.new.self.items ≡ map (option_map candidate_of) c.orders.found.items ++ None ∷ [] = ap (map (option_map candidate_of)) c.in_ok-push.ensures.items ∙ map-append (option_map candidate_of) c.orders.found.items (None ∷ []) in (
-      subst (λ (row : List (Option Candidate)). (k : ℕ) → found_at row k ≡ None) (sym is) (none_pushed _ c.orders.invariant.0),
+      subst (λ (candidates : List (Option Candidate)). (k : ℕ) → found_at candidates k ≡ None) (sym is) (none_pushed _ c.orders.invariant.0),
       ap length is ∙ length-append _ _ ∙ ap (λ n. n + 1) c.orders.invariant.1,
     )
 

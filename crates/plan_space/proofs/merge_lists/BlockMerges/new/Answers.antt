@@ -8,7 +8,7 @@ use Rattle.definitions.specs.Plans.TableSet.{only}
 use Rattle.query_tree.specs.Bound.{block_of}
 use Rattle.estimate.specs.Sets.{tables_in}
 use Rattle.plan_space.proofs.Listing.{one_table_more}
-use Rattle.plan_space.specs.MergeListed.{merge_told, AreMergesOf}
+use Rattle.plan_space.specs.MergeListed.{found_merge_of, AreMergesOf}
 use Rattle.plan_space.specs.declared.listed.MergeJoinPath.{MergeJoinPath}
 use Rattle.plan_space.proofs.merge_lists.BlockMerges.new.Goals as goal
 
@@ -28,7 +28,7 @@ tables-preserved c =
       len = length-append before _ ∙ omega (arith, c.tables.invariant.len);
       each = λ version paths uses estimates.
           let sort : c.sort_cost-sort_cost.result ≡ sort_cost db block (only c.tables.table) = c.sort_cost-sort_cost.ensures.exact db block estimates ∙ ap (sort_cost db block) c.only.ensures in
-          one_table_more (AreMergesOf (space_of version db block)) (λ (v : Vec MergeJoinPath). map merge_told v.items) before new c.tables.table
+          one_table_more (AreMergesOf (space_of version db block)) (λ (v : Vec MergeJoinPath). map found_merge_of v.items) before new c.tables.table
           c.tables.invariant.len (c.tables.invariant.each version paths uses estimates) (c.in_ok-table_merges.ensures version paths uses sort);
     })
 

@@ -7,7 +7,7 @@ use Rattle.interesting_orders.specs.Uses.{AreUses}
 use Rattle.estimate.specs.Sets.{AreEstimates}
 use Rattle.plan_space.specs.PathLists.{AreBlockPaths}
 use Rattle.plan_space.proofs.Listing.{AreFirst}
-use Rattle.plan_space.specs.MergeListed.{merge_told, AreMergesOf}
+use Rattle.plan_space.specs.MergeListed.{found_merge_of, AreMergesOf}
 use Rattle.plan_space.specs.declared.listed.MergeJoinPath.{MergeJoinPath}
 use Rattle.plan_space.proofs.merge_lists.BlockMerges.new.Given as goal
 
@@ -17,5 +17,5 @@ invariant-tables l = record {
   each : (version : Version) → AreBlockPaths version l.estimate.database (block_of l.estimate.block) l.paths
       → AreUses (space_of version l.estimate.database (block_of l.estimate.block)) l.uses
       → AreEstimates l.estimate.database (block_of l.estimate.block) l.estimates
-      → AreFirst (AreMergesOf (space_of version l.estimate.database (block_of l.estimate.block))) (λ (v : Vec MergeJoinPath). map merge_told v.items) l.tables.items l.table;
+      → AreFirst (AreMergesOf (space_of version l.estimate.database (block_of l.estimate.block))) (λ (v : Vec MergeJoinPath). map found_merge_of v.items) l.tables.items l.table;
 }

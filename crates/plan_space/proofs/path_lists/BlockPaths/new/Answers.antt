@@ -3,7 +3,7 @@ use Rattle.std.specs.Global.{Vec}
 use Rattle.std.proofs.lemmas.List.{length-append}
 use Rattle.query_tree.specs.Bound.{block_of}
 use Rattle.interesting_orders.specs.Versions.{version_of}
-use Rattle.plan_space.specs.PathListed.{AreListed, listed_told}
+use Rattle.plan_space.specs.PathListed.{AreListed, listed_path_of}
 use Rattle.plan_space.specs.declared.path_lists.NumberedPath.{NumberedPath}
 use Rattle.plan_space.proofs.Listing.{one_table_more}
 use Rattle.plan_space.proofs.path_lists.BlockPaths.new.Goals as goal
@@ -14,7 +14,7 @@ tables-preserved c =
     let new = c.in_ok-listed_paths.field-0 in
     rw c.in_ok-push.ensures.items (record {
       len = length-append before _ ∙ omega (arith, c.tables.invariant.len);
-      each = one_table_more (AreListed (version_of c.args.version) c.args.estimate.now.database (block_of c.args.estimate.now.block)) (λ (v : Vec NumberedPath). map listed_told v.items) before new c.tables.table
+      each = one_table_more (AreListed (version_of c.args.version) c.args.estimate.now.database (block_of c.args.estimate.now.block)) (λ (v : Vec NumberedPath). map listed_path_of v.items) before new c.tables.table
           c.tables.invariant.len c.tables.invariant.each c.in_ok-listed_paths.ensures;
     })
 

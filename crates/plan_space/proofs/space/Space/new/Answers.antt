@@ -34,5 +34,5 @@ invariant_of-result c =
       estimates_count = c.in_ok-estimates.ensures.tables;
       uses = uses;
       uses_count = c.in_ok-uses.ensures.sets ∙ ap (λ n. 2 ^ n) c.table_count-tables.ensures.exact;
-      links = c.in_ok-links.ensures;
+      links = c.in_ok-join_graph.ensures;
     }

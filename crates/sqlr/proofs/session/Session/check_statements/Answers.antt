@@ -1,6 +1,6 @@
 use Rattle.std.proofs.Common.{rules, refl, ◌≡◌, length}
+use Rattle.definitions.specs.Ended as ends
 use Rattle.definitions_execution.specs.CheckingRun.{nothing_text}
-use Rattle.definitions.specs.Certificates.Verdicts as verdicts
 use Rattle.sqlr.proofs.CheckingRuns.{text_begun, no_statement_checked, last_checked, last_broke, refused_line, refused_line_begun, preparing_broke}
 use Rattle.sqlr.proofs.CheckingRuns.{library_unasked, sink_blamed, sink_apart, never_library}
 use Rattle.sqlr.proofs.session.Session.check_statements.Goals as goal
@@ -8,7 +8,7 @@ use Rattle.sqlr.proofs.session.Session.check_statements.Goals as goal
 pub returns-in_default-clause-breaks : goal.returns-in_default-clause-breaks
 returns-in_default-clause-breaks g c =
     let none : length c.args.statements.now ≡ 0 = search rules in
-    λ script are. text_begun g.L.Library.answers g.L.Library.fails c.args.self.now c.args.self.now script c.args.certificates.now _ _ nothing_text verdicts.Faulted c.put_text.result (no_statement_checked g.L.Library.answers c.args.self.now script c.args.certificates.now c.args.statements.now none are) c.put_text.ensures.fault c.put_text.ensures.begun
+    λ script are. text_begun g.L.Library.answers g.L.Library.fails c.args.self.now c.args.self.now script c.args.certificates.now _ _ nothing_text ends.Faulted c.put_text.result (no_statement_checked g.L.Library.answers c.args.self.now script c.args.certificates.now c.args.statements.now none are) c.put_text.ensures.fault c.put_text.ensures.begun
 
 pub returns-in-Ok-None-clause-checks : goal.returns-in-Ok-None-clause-checks
 returns-in-Ok-None-clause-checks g c =

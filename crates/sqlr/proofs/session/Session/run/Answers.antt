@@ -1,23 +1,15 @@
 use Rattle.sqlr.proofs.Running.{script_ran, script_broke, line_printed, line_broke, nothing_done}
 use Rattle.sqlr.proofs.Running.{line_unasked}
-use Rattle.sqlr.proofs.Headlines.{run_kept}
 use Rattle.sqlr.proofs.session.Session.run.Goals as goal
 
 pub returns-in-Ok-clause-headline : goal.returns-in-Ok-clause-headline
-returns-in-Ok-clause-headline g c = run_kept _ _ _ _ _ _ _ (script_ran _ _ _ _ _ _ _ _ c.in-Ok.ensures.statements (rw c.deref.ensures.value at c.run_statements.ensures.runs))
-
-pub returns-in-Err-Refused-clause-headline : goal.returns-in-Err-Refused-clause-headline
-returns-in-Err-Refused-clause-headline g c =
-    run_kept _ _ _ _ _ _ _ (line_printed _ _ _ _ _ _ _ (rw c.in-Err-Refused.field-0-is at c.in-Err-Refused.ensures.fault) (rw c.report.ensures.taken at c.put_fault.ensures.prints))
-
-pub returns-in-Ok-clause-runs : goal.returns-in-Ok-clause-runs
-returns-in-Ok-clause-runs g c = script_ran _ _ _ _ _ _ _ _ c.in-Ok.ensures.statements (rw c.deref.ensures.value at c.run_statements.ensures.runs)
+returns-in-Ok-clause-headline g c = script_ran _ _ _ _ _ _ _ _ c.in-Ok.ensures.statements (rw c.deref.ensures.value at c.run_statements.ensures.runs)
 
 pub returns-in-Ok-clause-breaks : goal.returns-in-Ok-clause-breaks
 returns-in-Ok-clause-breaks g c = script_broke _ _ _ _ _ _ _ _ _ c.in-Ok.ensures.statements (rw c.deref.ensures.value at c.run_statements.ensures.breaks)
 
-pub returns-in-Err-Refused-clause-runs : goal.returns-in-Err-Refused-clause-runs
-returns-in-Err-Refused-clause-runs g c = line_printed _ _ _ _ _ _ _ (rw c.in-Err-Refused.field-0-is at c.in-Err-Refused.ensures.fault) (rw c.report.ensures.taken at c.put_fault.ensures.prints)
+pub returns-in-Err-Refused-clause-headline : goal.returns-in-Err-Refused-clause-headline
+returns-in-Err-Refused-clause-headline g c = line_printed _ _ _ _ _ _ _ (rw c.in-Err-Refused.field-0-is at c.in-Err-Refused.ensures.fault) (rw c.report.ensures.taken at c.put_fault.ensures.prints)
 
 pub returns-in-Err-Refused-clause-breaks : goal.returns-in-Err-Refused-clause-breaks
 returns-in-Err-Refused-clause-breaks g c = line_broke _ _ _ _ _ _ _ _ (rw c.in-Err-Refused.field-0-is at c.in-Err-Refused.ensures.fault) (rw c.report.ensures.taken at c.put_fault.ensures.breaks)

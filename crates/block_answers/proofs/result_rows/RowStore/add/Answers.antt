@@ -1,4 +1,0 @@
-use Rattle.block_answers.proofs.result_rows.RowStore.add.Goals as goal
-
-pub returns-in-Ordered-clause-added : goal.returns-in-Ordered-clause-added
-returns-in-Ordered-clause-added g c = rw c.in-Ordered.is c.add-in-Ordered.ensures.added

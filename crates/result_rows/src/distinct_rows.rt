@@ -1,0 +1,79 @@
+//! Rows that are printed once each, in the order in which they first came.
+
+ghost use Rattle.std.specs.Prelude.{◌≡◌, ◌++◌, ◌∷◌, [], Contains, List, ℕ, IfErr, IfOk, OnOk, map};
+ghost use Rattle.std.specs.List.{AllByRecursion};
+ghost use Rattle.definitions.specs.Table.{Row};
+ghost use Rattle.definitions.specs.Printing.{table_text};
+ghost use Rattle.definitions.specs.Queries.BoundBlock as b;
+ghost use Rattle.definitions.specs.Lists.{without_repeats};
+ghost use Rattle.definitions.specs.Queries.Grouping.{same_values};
+ghost use Rattle.definitions_answers.specs.Shapes.{HasShapes, Shape};
+ghost use Rattle.result_rows.specs.Faults.{IfRaised};
+ghost use Rattle.result_rows.specs.ResultRows.{HasDistinct};
+ghost use Rattle.result_rows.specs.RowAt.{items_of, row_in, row_raises_in, CanGive};
+
+use crate::fault::AnswerFault;
+use crate::lines::DistinctLines;
+use crate::row::{write_count, write_header, write_row};
+use expr::Environment;
+use query_tree::Item;
+use std::alloc::{AllocError, Global};
+
+/// The header and the lines of rows so far, each once (ISO/IEC 9075:1992, 7.9: SELECT DISTINCT).
+#[derive(Drop)]
+pub struct DistinctRows {
+    header: Vec<u8>,
+    lines: DistinctLines,
+    line: Vec<u8>,
+}
+
+impl DistinctRows {
+    /// The header, and no row behind it yet.
+    pub fn new(alloc: Global, items: &[Item]) -> Result<DistinctRows, AllocError>
+        ensures { IfOk result (HasDistinct (map (λ (i : b.Item). i.name) (items_of items.now)) []) }
+    {
+        let mut header = Vec::new(alloc);
+        write_header(&mut header, items)?;
+        Ok(DistinctRows {
+            header,
+            lines: DistinctLines::new(alloc),
+            line: Vec::new(alloc),
+        })
+    }
+
+    /// Adds a row, unless it is there. One that is there takes no memory.
+    pub fn add<S: Environment>(
+        &mut self,
+        alloc: Global,
+        items: &[Item],
+        env: &S,
+    ) -> Result<(), AnswerFault>
+        requires { AllByRecursion (CanGive (S.environment env.now)) (items_of items.now) }
+        ensures added { OnOk result ((names : List (List ℕ)) (rows : List Row) → HasDistinct names rows self.old →
+            HasDistinct names (rows ++ row_in (S.environment env.now) (items_of items.now) ∷ []) self.new) }
+        ensures quiet { OnOk result (row_raises_in (S.environment env.now) (items_of items.now) ≡ []) }
+        ensures raised { IfErr result (λ fault. IfRaised fault
+            (Contains (row_raises_in (S.environment env.now) (items_of items.now)))) }
+    {
+        self.line.clear();
+        write_row(&mut self.line, items, env)?;
+        self.lines.add(alloc, &self.line)?;
+        Ok(())
+    }
+
+    /// The text that is printed: the header, the rows and how many there are.
+    pub fn end(self) -> Result<Vec<u8>, AllocError>
+        ensures { IfOk result (λ text. (names : List (List ℕ)) (rows : List Row) (shapes : List Shape) →
+            HasDistinct names rows self → AllByRecursion (HasShapes shapes) rows →
+            text.items ≡ table_text names (without_repeats same_values rows)) }
+    {
+        let DistinctRows {
+            mut header,
+            lines,
+            line: _,
+        } = self;
+        lines.write(&mut header)?;
+        write_count(&mut header, lines.len() as u64)?;
+        Ok(header)
+    }
+}

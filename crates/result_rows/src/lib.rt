@@ -1,0 +1,26 @@
+//! The rows of an answer, and what is kept of them until their end: lines that are printed as rows come, once each or in order, or
+//! the first value of each.
+//!
+//! In reading order: `fault`; `row`, the values of a row, and `lines`, each once; `printed_rows`, `distinct_rows`, `ordered_rows` and
+//! `first_value_rows`, what is kept; `row_store`, any of them; `result_rows`, rows until one raises.
+#![tactic(auto)]
+
+mod distinct_rows;
+mod fault;
+mod first_value_rows;
+mod lines;
+mod ordered_rows;
+mod printed_rows;
+mod result_row;
+mod result_rows;
+mod row;
+mod row_store;
+
+pub use distinct_rows::DistinctRows;
+pub use fault::AnswerFault;
+pub use first_value_rows::FirstValueRows;
+pub use lines::DistinctLines;
+pub use ordered_rows::OrderedRows;
+pub use printed_rows::PrintedRows;
+pub use result_rows::ResultRows;
+pub use row_store::RowStore;

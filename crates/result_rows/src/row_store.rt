@@ -1,0 +1,119 @@
+//! Where the rows of an answer are until their end.
+
+ghost use Rattle.std.specs.Prelude.{◌≡◌, ◌++◌, ◌∷◌, [], Contains, List, ℕ, IfErr, IfOk, OnOk, false, map, true};
+ghost use Rattle.std.specs.List.{AllByRecursion};
+ghost use Rattle.definitions.specs.Table.{Row};
+ghost use Rattle.definitions.specs.Printing.{table_text};
+ghost use Rattle.definitions.specs.Queries.Answer.{distinct_rows};
+ghost use Rattle.definitions.specs.Queries.BoundBlock as b;
+ghost use Rattle.definitions.specs.Queries.Evaluation.{column_values};
+ghost use Rattle.sqlvalue.specs.Owned.{owned_value};
+ghost use Rattle.definitions_answers.specs.Shapes.{HasShapes, Shape};
+ghost use Rattle.query_tree.specs.Bound.{key_of};
+ghost use Rattle.result_rows.specs.Faults.{IfRaised};
+ghost use Rattle.result_rows.specs.RowAt.{items_of, row_in, row_raises_in, CanGive};
+ghost use Rattle.result_rows.specs.Stores.{keeping, kind_of, printing, AreToldAs, Holds};
+
+use crate::distinct_rows::DistinctRows;
+use crate::fault::AnswerFault;
+use crate::first_value_rows::FirstValueRows;
+use crate::ordered_rows::OrderedRows;
+use crate::printed_rows::PrintedRows;
+use expr::Environment;
+use query_tree::{Item, Key};
+use sqlvalue::OwnedValue;
+use std::alloc::{AllocError, Global};
+
+/// Where rows are until their end.
+#[derive(Drop)]
+pub enum RowStore {
+    /// Printed as they come.
+    Printed(PrintedRows),
+    /// Printed once each, in the order in which they first came.
+    Distinct(DistinctRows),
+    /// To be put in order and printed.
+    Ordered(OrderedRows),
+    /// Of each row the first value, which a subquery takes.
+    FirstValues(FirstValueRows),
+}
+
+impl RowStore {
+    /// A store for rows that are printed, of which none has come.
+    pub fn to_print(
+        alloc: Global,
+        items: &[Item],
+        in_order: bool,
+        distinct: bool,
+    ) -> Result<RowStore, AllocError>
+        ensures nothing { IfOk result (λ s. Holds s (map (λ (i : b.Item). i.name) (items_of items.now)) []) }
+        ensures kind { IfOk result (λ s. kind_of s ≡ printing in_order distinct) }
+    {
+        if in_order {
+            Ok(RowStore::Ordered(OrderedRows::new(alloc, items, distinct)?))
+        } else if distinct {
+            Ok(RowStore::Distinct(DistinctRows::new(alloc, items)?))
+        } else {
+            Ok(RowStore::Printed(PrintedRows::new(alloc, items)?))
+        }
+    }
+
+    /// A store for rows whose first values are kept; none has come.
+    pub fn to_keep(alloc: Global, distinct: bool) -> RowStore
+        ensures nothing { (names : List (List ℕ)) → Holds result names [] }
+        ensures kind { kind_of result ≡ keeping distinct }
+    {
+        RowStore::FirstValues(FirstValueRows::new(alloc, distinct))
+    }
+
+    /// Adds a row; or tells the first exception that one of its columns raises.
+    pub fn add<S: Environment>(
+        &mut self,
+        alloc: Global,
+        items: &[Item],
+        env: &S,
+    ) -> Result<(), AnswerFault>
+        requires { AllByRecursion (CanGive (S.environment env.now)) (items_of items.now) }
+        ensures added { OnOk result ((names : List (List ℕ)) (rows : List Row) → Holds self.old names rows →
+            Holds self.new names (rows ++ row_in (S.environment env.now) (items_of items.now) ∷ [])) }
+        ensures kind { kind_of self.new ≡ kind_of self.old }
+        ensures quiet { OnOk result (row_raises_in (S.environment env.now) (items_of items.now) ≡ []) }
+        ensures raised { IfErr result (λ fault. IfRaised fault
+            (Contains (row_raises_in (S.environment env.now) (items_of items.now)))) }
+    {
+        match self {
+            RowStore::Printed(rows) => rows.add(items, env),
+            RowStore::Distinct(rows) => rows.add(alloc, items, env),
+            RowStore::Ordered(rows) => rows.add(alloc, items, env),
+            RowStore::FirstValues(rows) => rows.add(alloc, items, env),
+        }
+    }
+
+    /// The text of rows that are printed: the header, the rows and how many there are.
+    pub fn end(self, keys: &[Key]) -> Result<Vec<u8>, AllocError>
+        requires prints { (kind_of self).prints ≡ true }
+        ensures { IfOk result (λ text. (names : List (List ℕ)) (rows : List Row) (shapes : List Shape) →
+            Holds self names rows → AllByRecursion (HasShapes shapes) rows →
+            (printed : List Row) × AreToldAs (kind_of self).in_order (kind_of self).distinct
+            (map key_of keys.now) rows printed × (text.items ≡ table_text names printed)) }
+    {
+        match self {
+            RowStore::Printed(rows) => rows.end(),
+            RowStore::Distinct(rows) => rows.end(),
+            RowStore::Ordered(rows) => rows.end(keys),
+            RowStore::FirstValues(_) => unreachable!(),
+        }
+    }
+
+    /// The first values of rows that are not printed, in the order in which the rows came.
+    pub fn into_values(self) -> Vec<OwnedValue>
+        requires keeps { (kind_of self).prints ≡ false }
+        ensures { (names : List (List ℕ)) (rows : List Row) (shapes : List Shape) →
+            Holds self names rows → AllByRecursion (HasShapes shapes) rows →
+            map owned_value result.items ≡ column_values (distinct_rows (kind_of self).distinct rows) }
+    {
+        match self {
+            RowStore::FirstValues(rows) => rows.into_values(),
+            _ => unreachable!(),
+        }
+    }
+}
