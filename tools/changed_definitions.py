@@ -14,89 +14,94 @@ import tempfile
 
 CRATE = pathlib.Path(__file__).resolve().parent.parent / "crates/definitions"
 
-# What the change says, the file below specs/Plans, the text and what stands in its place.
+# What the change says, the file below specs, the text and what stands in its place.
 CHANGES = [
-    ("a sort keeps the order of its input", "PlanSpace", "order_of (Sort input order) = order\n", "order_of (Sort input order) = order_of input\n"),
+    ("a sort keeps the order of its input", "Plans/PlanSpace", "order_of (Sort input order) = order\n", "order_of (Sort input order) = order_of input\n"),
     (
         "folding forgets an order that a later merge needs",
-        "Folding",
+        "Plans/Folding",
         "      ⊎ OpensMerge tables (order_at space order)",
         "      ⊎ (OpensMerge tables (order_at space order) × ⊥)",
     ),
     (
         "a merge takes columns as one class that are so only under all tables",
-        "PlanSpace",
+        "Plans/PlanSpace",
         "Satisfies space tables (order_at space order) (ascending x) × IsInner y inner",
         "Satisfies space (whole space) (order_at space order) (ascending x) × IsInner y inner",
     ),
     (
         "a table may come next anywhere",
-        "PlanSpace",
+        "Plans/PlanSpace",
         "((space.free_products ≡ true) ⊎ Links",
         "((space.table_count ≡ space.table_count) ⊎ Links",
     ),
     (
         "a merge without the order of its inner side",
-        "PlanSpace",
+        "Plans/PlanSpace",
         "Satisfies space tables (order_at space order) (ascending x) × IsInner y inner",
         "Satisfies space tables (order_at space order) (ascending x) × IsPath no_tables inner.path",
     ),
-    ("costs do not stop at 10^18", "Cost", "saturated n = min n limit", "saturated n = n"),
+    ("costs do not stop at 10^18", "Plans/Cost", "saturated n = min n limit", "saturated n = n"),
     (
         "the rule on sorts is left out",
-        "Validity",
-        "    pub sorts : SortsHold\n",
-        "    pub sorts : 0 ≤ 0\n",
+        "Plans/Comparisons",
+        "CanSort space tables into → Folds space tables into folded\n",
+        "CanSort space tables into → Folds space tables into folded → 1 ≤ 0\n",
     ),
-    ("the rule on merges is left out", "Validity", "JoinsHold = LoopsHold × MergesHold", "JoinsHold = LoopsHold × (0 ≤ 0)"),
+    (
+        "the rule on merges is left out",
+        "Plans/Comparisons",
+        "→ Folds space (with_table tables (table_of inner.path)) order folded\n",
+        "→ Folds space (with_table tables (table_of inner.path)) order folded → 1 ≤ 0\n",
+    ),
     (
         "the rule on accesses is left out",
-        "Validity",
-        "    pub accesses : AccessesHold\n",
-        "    pub accesses : 0 ≤ 0\n",
+        "Plans/Comparisons",
+        "→ Folds space (only (table_of path)) (space.path_order path) folded\n",
+        "→ Folds space (only (table_of path)) (space.path_order path) folded → 1 ≤ 0\n",
     ),
     (
         "a state that isn't listed bounds nothing",
-        "Certificate",
+        "Plans/Certificate",
         "listed_or certificate.target certificate.states tables order",
         "listed_or 0 certificate.states tables order",
     ),
     (
         "the target is believed",
-        "Validity",
+        "Plans/Validity",
         "IsMet plan = InSpace space plan × GivesRequired space plan × (cost_of space plan ≡ certificate.target)",
         "IsMet plan = InSpace space plan × GivesRequired space plan",
     ),
     (
         "a listed state may have all tables and the required order",
-        "Validity",
+        "Plans/Validity",
         "TargetHolds plan = NoneFinal × IsMet plan",
         "TargetHolds plan = IsMet plan",
     ),
     (
         "a sort into an order over other tables",
-        "PlanSpace",
+        "Plans/PlanSpace",
         "CanSort tables order = (order ≢ 0) × IsOver space tables order",
         "CanSort tables order = (order ≢ 0) × IsOver space (whole space) order",
     ),
     (
         "directions of keys are not compared",
-        "ColumnClass",
+        "Plans/ColumnClass",
         "(key.descending ≡ wanted.descending) × SameClass",
         "(key.descending ≡ key.descending) × SameClass",
     ),
     (
         "an order that is listed already is numbered again",
-        "Numbering",
-        "without_repeats (order ∷ orders) = order ∷ filter (λ other. not (same_order order other)) (without_repeats orders)",
-        "without_repeats (order ∷ orders) = order ∷ without_repeats orders",
+        "Lists",
+        "without_repeats same (x ∷ xs) = x ∷ filter (λ y. not (same x y)) (without_repeats same xs)",
+        "without_repeats same (x ∷ xs) = x ∷ without_repeats same xs",
     ),
 ]
 
 
 def is_refused(folder, name, old, new):
     """Whether the crate in a folder is no longer proved once a text of a file is replaced; the file is put back."""
-    path = folder / f"specs/Plans/{name}.antt"
+    path = folder / f"specs/{name}.antt"
     text = path.read_text()
     if text.count(old) != 1:
         sys.exit(f"the text stands {text.count(old)} times in {path.name}: {old}")

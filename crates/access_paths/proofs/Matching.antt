@@ -1,13 +1,13 @@
 -- The matches of a column, and the chains of an index, where the rows of a set of tables are known.
 use Rattle.std.proofs.Common.{◌≡◌, ◌∙◌, refl, ap, ℕ, List, [], ◌∷◌, Bool, true, false, Option, Some, None, if◌then◌else◌, length, map}
-use Rattle.std.specs.Prelude.{not, ◌&&◌, ◌||◌, filter, filter_map, option_map, option_and_then, unwrap_or, slice_get}
+use Rattle.std.specs.Prelude.{not, ◌&&◌, filter, filter_map, option_map, option_and_then, unwrap_or, slice_get}
 use Rattle.std.specs.List.{range_with_len}
 use Rattle.definitions.specs.Plans.TableSet.{TableSet}
 use Rattle.definitions.specs.Plans.Order.{BlockColumn}
 use Rattle.definitions.specs.Queries.BoundBlock.{Condition, Block}
 use Rattle.definitions.specs.Queries.Conjuncts.{conjuncts, is_late}
 use Rattle.definitions.specs.Estimates.BlockTables.{is_within}
-use Rattle.definitions.specs.Estimates.Paths.{equals_column, limits_column, equals_at, matches_at, matching}
+use Rattle.definitions.specs.Estimates.Paths.{is_range, is_equality, says, equals_at, matches_at, matching}
 use Rattle.access_paths.specs.Bounds.{SargableTerm, sargable_term}
 use Rattle.access_paths.specs.Matches.{Match, early_bound, match_at, column_matches}
 use Rattle.access_paths.proofs.Bounding.{is_met, is_met_by_equals, equals_as_bound, matches_as_bound}
@@ -31,20 +31,20 @@ module _ (tables : TableSet) where
     abbrev numbered_match : ℕ → Option SargableTerm → Option Match
     numbered_match number = option_map (λ (b : SargableTerm). record { conjunct = number; equals = b.equals; required_outer = b.required_outer })
 
-    of_bound : (number : ℕ) (b : Option SargableTerm) → (is_met column tables b ≡ met (numbered_match number b)) × (is_met_by_equals column tables b ≡ met_by_equals (numbered_match number b))
+    of_bound : (number : ℕ) (b : Option SargableTerm) → (is_met tables b ≡ met (numbered_match number b)) × (is_met_by_equals tables b ≡ met_by_equals (numbered_match number b))
     of_bound number None = (refl, refl)
     of_bound number (Some b) = (refl, refl)
 
     by_late : (number : ℕ) (c : Condition) (late : Bool)
-        → ((not late && (equals_column tables column c || limits_column tables column c)) ≡ met (numbered_match number (if late then None else sargable_term column c)))
-        × ((not late && equals_column tables column c) ≡ met_by_equals (numbered_match number (if late then None else sargable_term column c)))
+        → ((not late && says (is_range tables column.table) column c) ≡ met (numbered_match number (if late then None else sargable_term column c)))
+        × ((not late && says (is_equality tables column.table) column c) ≡ met_by_equals (numbered_match number (if late then None else sargable_term column c)))
     by_late number c true = (refl, refl)
     by_late number c false =
-        (matches_as_bound column tables c ∙ (of_bound number (sargable_term column c)).0, equals_as_bound column tables c ∙ (of_bound number (sargable_term column c)).1)
+        (matches_as_bound tables column c ∙ (of_bound number (sargable_term column c)).0, equals_as_bound tables column c ∙ (of_bound number (sargable_term column c)).1)
 
     by_condition : (number : ℕ) (o : Option Condition)
-        → (unwrap_or (option_map (λ c. not (is_late c) && (equals_column tables column c || limits_column tables column c)) o) false ≡ met (numbered_match number (option_and_then (early_bound column) o)))
-        × (unwrap_or (option_map (λ c. not (is_late c) && equals_column tables column c) o) false ≡ met_by_equals (numbered_match number (option_and_then (early_bound column) o)))
+        → (unwrap_or (option_map (λ c. not (is_late c) && says (is_range tables column.table) column c) o) false ≡ met (numbered_match number (option_and_then (early_bound column) o)))
+        × (unwrap_or (option_map (λ c. not (is_late c) && says (is_equality tables column.table) column c) o) false ≡ met_by_equals (numbered_match number (option_and_then (early_bound column) o)))
     by_condition number None = (refl, refl)
     by_condition number (Some c) = by_late number c (is_late c)
 

@@ -44,4 +44,5 @@ Reads db block table (p.MatchingScan read number conjuncts backward) = (read ≡
 -- where it is open, a scan costs what its path costs
 abbrev pub CostsAsPath : Database → Block → ℕ → FoundPath → Type 0
 CostsAsPath db block table x =
-    (known : TableSet) → is_open known x ≡ true → cost_with x.cost (path_rows db block known table) ≡ path_cost db block known x.path
+    (known : TableSet) → is_open known x ≡ true
+    → cost_with x.cost (path_rows db block known table) ≡ path_cost db block known x.path

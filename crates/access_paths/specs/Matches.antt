@@ -1,5 +1,6 @@
 -- The conjuncts that match the columns of an index.
-use Rattle.std.specs.Prelude.{ℕ, Bool, if◌then◌else◌, bit_or, List, [], ◌∷◌, length, map, flat_map, filter_map, Option, None, option_map, option_and_then, slice_get}
+use Rattle.std.specs.Prelude.{ℕ, Bool, if◌then◌else◌, bit_or, List, [], ◌∷◌, length, map, flat_map, filter_map, Option}
+use Rattle.std.specs.Prelude.{None, option_map, option_and_then, slice_get}
 use Rattle.std.specs.List.{range_with_len}
 use Rattle.definitions.specs.Plans.TableSet.{TableSet}
 use Rattle.definitions.specs.Plans.Order.{BlockColumn}
@@ -21,7 +22,8 @@ early_bound column c = if is_late c then None else sargable_term column c
 module _ (block : Block) where
   abbrev pub match_at : BlockColumn → ℕ → Option Match
   match_at column number =
-      option_map (λ (b : SargableTerm). record { conjunct = number; equals = b.equals; required_outer = b.required_outer })
+      option_map (λ (b : SargableTerm).
+      record { conjunct = number; equals = b.equals; required_outer = b.required_outer })
       (option_and_then (early_bound column) (slice_get (conjuncts block) number))
 
   -- in the order of the text
@@ -30,8 +32,8 @@ module _ (block : Block) where
 
 -- ---- of columns one after another
 
--- conjuncts that match the first columns of an index in turn, one each; whether all say what their column equals; and the tables
--- whose rows have to be known
+-- conjuncts that match the first columns of an index in turn, one each; whether all say what their column equals; and
+-- the tables whose rows have to be known
 pub record IndexMatch : Type 0 where
   pub conjuncts : List ℕ
   pub equal : Bool
@@ -41,7 +43,13 @@ abbrev pub only_match : Match → IndexMatch
 only_match m = record { conjuncts = m.conjunct ∷ []; equal = m.equals; required_outer = m.required_outer }
 
 abbrev pub before : Match → IndexMatch → IndexMatch
-before m c = record { conjuncts = m.conjunct ∷ c.conjuncts; equal = c.equal; required_outer = bit_or m.required_outer c.required_outer }
+before m c =
+    record {
+      conjuncts = m.conjunct ∷ c.conjuncts;
+      equal = c.equal;
+      required_outer =
+          bit_or m.required_outer c.required_outer;
+    }
 
 -- a match alone, and, where it says what its column equals, before each chain of the further columns
 abbrev pub chains_from : List IndexMatch → Match → List IndexMatch

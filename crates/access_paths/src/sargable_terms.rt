@@ -1,7 +1,7 @@
 //! What conditions say of a column.
 
-ghost use Rattle.std.specs.Prelude.{◌≡◌, ◌∷◌, [], option_map};
-ghost use Rattle.definitions.specs.Queries.Conjuncts.{tables_in, tables_named};
+ghost use Rattle.std.specs.Prelude.{◌≡◌, option_map};
+ghost use Rattle.definitions.specs.Queries.Conjuncts.{tables_named};
 ghost use Rattle.definitions.specs.Estimates.Paths as paths;
 ghost use Rattle.query_tree.specs.Bound.{column_of, condition_of, value_of};
 ghost use Rattle.conjuncts.specs.Naming.{AreFew, NamesFew};
@@ -29,18 +29,34 @@ pub(crate) fn sargable_term(column: BlockColumn, condition: &Condition) -> Optio
 {
     match condition {
         Condition::Compare { op, left, right } => {
-            comparison_bound(*op, other_side(column, left, right))
+            if is_column(column, left) {
+                comparison_bound(*op, tables_beside(column.table, right))
+            } else if is_column(column, right) {
+                comparison_bound(*op, tables_beside(column.table, left))
+            } else {
+                None
+            }
         }
         Condition::Between {
             negated: false,
             value,
             low,
             high,
-        } => between_bound(column, value, low, high),
+        } => {
+            if is_column(column, value) {
+                range_bound(
+                    tables_beside(column.table, low),
+                    tables_beside(column.table, high),
+                )
+            } else {
+                None
+            }
+        }
         _ => None,
     }
 }
 
+/// What a comparison with a value of the tables bounds; turned round, an operator bounds the same.
 fn comparison_bound(
     op: ComparisonOperator,
     required_outer: Option<TableSet>,
@@ -61,37 +77,13 @@ fn comparison_bound(
     }
 }
 
-/// The tables of the other side, where one side is the column.
-fn other_side(column: BlockColumn, left: &ValueExpr, right: &ValueExpr) -> Option<TableSet>
-    requires few { AreFew (tables_in (value_of left.now ∷ value_of right.now ∷ [])) }
-    ensures exact { option_map set_of result ≡ spec.other_side (column_of column) (value_of left.now)
-        (value_of right.now) }
+/// What BETWEEN bounds, by the tables of both ends.
+fn range_bound(low: Option<TableSet>, high: Option<TableSet>) -> Option<SargableTerm>
+    ensures exact { option_map sargable_term_of result ≡ spec.range_bound (option_map set_of low)
+        (option_map set_of high) }
 {
-    if is_column(column, left) {
-        tables_beside(column.table, right)
-    } else if is_column(column, right) {
-        tables_beside(column.table, left)
-    } else {
-        None
-    }
-}
-
-/// Both ends of BETWEEN are known.
-fn between_bound(
-    column: BlockColumn,
-    value: &ValueExpr,
-    low: &ValueExpr,
-    high: &ValueExpr,
-) -> Option<SargableTerm>
-    requires few { AreFew (tables_in (value_of value.now ∷ value_of low.now ∷ value_of high.now ∷ [])) }
-    ensures exact { option_map sargable_term_of result ≡ spec.between_bound (column_of column) (value_of value.now)
-        (value_of low.now) (value_of high.now) }
-{
-    if !is_column(column, value) {
-        return None;
-    }
-    let below = tables_beside(column.table, low)?;
-    let above = tables_beside(column.table, high)?;
+    let below = low?;
+    let above = high?;
     Some(SargableTerm {
         equals: false,
         required_outer: below.union(above),

@@ -1,5 +1,6 @@
 -- What is judged of the clauses of a block, and what is bound of them.
-use Rattle.std.specs.Prelude.{ℕ, ◌≡◌, ◌⊎◌, List, [], ◌∷◌, Option, Some, None, length, map, flat_map, option_map, is_some, IfSome, IsTrue, IsFalse, ◌↔◌, Result, Ok, Err}
+use Rattle.std.specs.Prelude.{ℕ, ◌≡◌, ◌⊎◌, List, [], ◌∷◌, Option, Some, None, length, map, flat_map, option_map}
+use Rattle.std.specs.Prelude.{is_some, IfSome, IsTrue, IsFalse, ◌↔◌, Result, Ok, Err}
 use Rattle.definitions.specs.Lists.{AnyOf}
 use Rattle.definitions.specs.Refusal.{Refusal, MisplacedCondition}
 use Rattle.definitions.specs.Statement as t
@@ -37,7 +38,8 @@ list_length scopes (Listed items) = length (listed items)
 -- the type of the only one of some items
 abbrev pub IsOnly : Database → Scopes → List t.DerivedColumn → Option ValueType → Type 0
 IsOnly db scopes [] only = only ≡ None
-IsOnly db scopes (i ∷ []) only = (type : ValueType) × (only ≡ Some type) × (expr_type db scopes i.value ≡ Some type) × IsFine type
+IsOnly db scopes (i ∷ []) only = (type : ValueType) × (only ≡ Some type) × (expr_type db scopes i.value ≡ Some type)
+    × IsFine type
 IsOnly db scopes (i ∷ j ∷ is) only = only ≡ None
 
 module _ (db : Database) (scopes : Scopes) (place : ClauseKind) where
@@ -54,7 +56,8 @@ module _ (db : Database) (scopes : Scopes) (place : ClauseKind) where
       ⊎ (AnyOf (λ e. IsFalse (is_condition e)) (condition_values c) × (r ≡ MisplacedCondition))
 
   -- result columns are bound, and the type of the only one is known if it is alone
-  pub record BindsList (old new : Progress) (list : t.SelectList) (items : List b.Item) (only : Option ValueType) : Type 0 where
+  pub record BindsList (old new : Progress) (list : t.SelectList) (items : List b.Item) (only : Option ValueType) : Type
+      0 where
     pub adds : Adds db scopes place old new (list_parts list) (list_blocks db scopes list)
     pub are : items ≡ select_items db scopes (next_of old) list
     pub next : next_of new ≡ after_list db scopes list (next_of old)
@@ -70,9 +73,14 @@ module _ (db : Database) (scopes : Scopes) (place : ClauseKind) where
 
 -- what is answered for a clause that may be absent, and for a select list
 abbrev pub OptionAnswer : Clause → (old new : Progress) → t.SearchClause → Result (Option Condition) BindFault → Type 0
-OptionAnswer c old new condition (Ok bound) = BindsOption c.database.now c.scopes.now (place_of c.place) old new condition (option_map condition_of bound)
-OptionAnswer c old new condition (Err f) = IfSome (bind_refusal f) (RefusesOption c.database.now c.scopes.now (place_of c.place) old condition)
+OptionAnswer c old new condition (Ok bound) =
+    BindsOption c.database.now c.scopes.now (place_of c.place) old new condition (option_map condition_of bound)
+OptionAnswer c old new condition (Err f) =
+    IfSome (bind_refusal f) (RefusesOption c.database.now c.scopes.now (place_of c.place) old condition)
 
 abbrev pub ListAnswer : Clause → (old new : Progress) → t.SelectList → Result ResultColumns BindFault → Type 0
-ListAnswer c old new list (Ok x) = BindsList c.database.now c.scopes.now (place_of c.place) old new list (map item_of x.items.items) (option_map value_type_of x.only)
-ListAnswer c old new list (Err f) = IfSome (bind_refusal f) (RefusesList c.database.now c.scopes.now (place_of c.place) old list)
+ListAnswer c old new list (Ok x) =
+    BindsList c.database.now c.scopes.now (place_of c.place) old new list (map item_of x.items.items)
+    (option_map value_type_of x.only)
+ListAnswer c old new list (Err f) =
+    IfSome (bind_refusal f) (RefusesList c.database.now c.scopes.now (place_of c.place) old list)

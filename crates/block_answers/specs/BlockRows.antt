@@ -36,7 +36,9 @@ store_in (rows.Grouped told) = told.groups.rows
 module _ (source : BlockSource) (outer : List Combination) where
   -- they tell of combinations
   abbrev pub TellsOf : List Combination → BlockRows → Type 0
-  TellsOf cs (rows.Plain told) = Tells (names_of source) (map (plain_row (context_in source outer) (block_in source)) cs) (plain_raises (context_in source outer) (block_in source) cs) told
+  TellsOf cs (rows.Plain told) =
+      Tells (names_of source) (map (plain_row (context_in source outer) (block_in source)) cs)
+      (plain_raises (context_in source outer) (block_in source) cs) told
   TellsOf cs (rows.Grouped told) = TellGroups source outer cs told
 
   -- they are of the block's kind, and what is kept of an open group is right
@@ -46,22 +48,28 @@ module _ (source : BlockSource) (outer : List Combination) where
 
   -- the rows of all combinations, or of all groups of them, where nothing raises
   abbrev pub AreRowsBy : (grouped : Bool) → List Combination → List Row → Type 0
-  AreRowsBy false cs rs = (plain_raises (context_in source outer) (block_in source) cs ≡ []) × (rs ≡ map (plain_row (context_in source outer) (block_in source)) cs)
+  AreRowsBy false cs rs = (plain_raises (context_in source outer) (block_in source) cs ≡ [])
+      × (rs ≡ map (plain_row (context_in source outer) (block_in source)) cs)
   AreRowsBy true cs rs =
-      (groups : List (List Combination)) × AreAllGroups (block_in source).groups cs groups × (group_raises (context_in source outer) (block_in source) groups ≡ []) × (rs ≡ group_rows (context_in source outer) (block_in source) groups)
+      (groups : List (List Combination)) × AreAllGroups (block_in source).groups cs groups
+      × (group_raises (context_in source outer) (block_in source) groups ≡ [])
+      × (rs ≡ group_rows (context_in source outer) (block_in source) groups)
 
   abbrev pub HasRowsOf : List Combination → RowStore → Type 0
-  HasRowsOf cs store = (rs : List Row) × AreRowsBy (is_grouped (block_in source)) cs rs × Holds store (names_of source) rs
+  HasRowsOf cs store = (rs : List Row) × AreRowsBy (is_grouped (block_in source)) cs rs
+      × Holds store (names_of source) rs
 
   -- or something raises
   abbrev pub MayRaiseBy : (grouped : Bool) → List Combination → arithmetic.Raise → Type 0
   MayRaiseBy false cs raise = Contains (plain_raises (context_in source outer) (block_in source) cs) raise
-  MayRaiseBy true cs raise = (groups : List (List Combination)) × AreAllGroups (block_in source).groups cs groups × Contains (group_raises (context_in source outer) (block_in source) groups) raise
+  MayRaiseBy true cs raise = (groups : List (List Combination)) × AreAllGroups (block_in source).groups cs groups
+      × Contains (group_raises (context_in source outer) (block_in source) groups) raise
 
   abbrev pub MayRaiseOn : List Combination → arithmetic.Raise → Type 0
   MayRaiseOn cs raise = MayRaiseBy (is_grouped (block_in source)) cs raise
 
   -- they tell of combinations on which no late conjunct raises, by what inner blocks mean
-  pub record HaveTaken (inner : ℕ → List Combination → Meaning (List Row)) (cs : List Combination) (block_rows : BlockRows) : Type 0 where
+  pub record HaveTaken (inner : ℕ → List Combination
+      → Meaning (List Row)) (cs : List Combination) (block_rows : BlockRows) : Type 0 where
     pub quiet : late_raises (context_with source outer inner) (block_in source) cs ≡ []
     pub told : TellsOf (kept_of (context_with source outer inner) (block_in source) cs) block_rows

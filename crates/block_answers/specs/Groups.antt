@@ -1,5 +1,6 @@
 -- What is kept of the groups of a block while its rows come.
-use Rattle.std.specs.Prelude.{◌≡◌, ⊤, Bool, false, List, [], ◌∷◌, ◌++◌, Option, Some, None, Contains, flat_map, length, map}
+use Rattle.std.specs.Prelude.{◌≡◌, ⊤, Bool, false, List, [], ◌∷◌, ◌++◌, Option, Some, None, Contains, flat_map, length}
+use Rattle.std.specs.Prelude.{map}
 use Rattle.std.specs.List.{AllByRecursion}
 use Rattle.definitions.specs.Arithmetic as arithmetic
 use Rattle.definitions.specs.Plans.Order.{BlockColumn}
@@ -27,7 +28,8 @@ use Rattle.result_rows.specs.declared.row_store.RowStore.{RowStore}
 module _ (source : BlockSource) (outer : List Combination) where
   -- the combination of a composite
   abbrev pub seen : code.Composite → Combination
-  seen composite = combination_of source.database (block_in source) (numbers_in (length (block_in source).tables) composite)
+  seen composite =
+      combination_of source.database (block_in source) (numbers_in (length (block_in source).tables) composite)
 
   abbrev pub environments : List Combination → List Environment
   environments cs = map (at (context_in source outer)) cs
@@ -35,10 +37,12 @@ module _ (source : BlockSource) (outer : List Combination) where
   abbrev pub AreTyped : List Combination → Type 0
   AreTyped cs = AllByRecursion (IsTypedCombination source.database (block_in source)) cs
 
-  -- an open group has these members: its functions are of them, and its first row is the first of them, if rows can be told apart
+  -- an open group has these members: its functions are of them, and its first row is the first of them, if rows can be
+  -- told apart
   pub record IsOpenOf (members : List Combination) (o : OpenGroup) : Type 0 where
     pub values : AreOf (environments members) o.functions
-    pub first : (column : BlockColumn) (others : List BlockColumn) → (block_in source).groups ≡ column ∷ others → (rest : List Combination) × (members ≡ seen o.first ∷ rest)
+    pub first : (column : BlockColumn) (others : List BlockColumn) → (block_in source).groups ≡ column ∷ others
+        → (rest : List Combination) × (members ≡ seen o.first ∷ rest)
 
   abbrev pub IsOpen : Option (List Combination) → Option OpenGroup → Type 0
   IsOpen None None = ⊤
@@ -70,7 +74,8 @@ module _ (source : BlockSource) (outer : List Combination) where
   pub record TakesIn (composite : code.Composite) (o o' : OpenGroup) : Type 0 where
     pub first : o'.first ≡ o.first
     pub functions : functions_of o'.functions ≡ functions_of o.functions
-    pub values : (members : List Combination) → AreOf (environments members) o.functions → AreOf (environments (members ++ seen composite ∷ [])) o'.functions
+    pub values : (members : List Combination) → AreOf (environments members) o.functions
+        → AreOf (environments (members ++ seen composite ∷ [])) o'.functions
 
   abbrev pub TakeIn : code.Composite → Option OpenGroup → Option OpenGroup → Type 0
   TakeIn composite (Some o) (Some o') = TakesIn composite o o'
@@ -93,22 +98,26 @@ module _ (source : BlockSource) (outer : List Combination) where
 
   -- rows are those of closed groups, in which nothing is raised
   abbrev pub AreRowsOf : List (List Combination) → RowStore → Type 0
-  AreRowsOf closed rows = (group_raises (context_in source outer) (block_in source) closed ≡ []) × Holds rows (names_of source) (group_rows (context_in source outer) (block_in source) closed)
+  AreRowsOf closed rows = (group_raises (context_in source outer) (block_in source) closed ≡ [])
+      × Holds rows (names_of source) (group_rows (context_in source outer) (block_in source) closed)
 
   -- what arguments raise in the members of the open group
   abbrev pub open_raises : Option (List Combination) → List arithmetic.Raise
   open_raises None = []
-  open_raises (Some members) = flat_map (λ c. argument_raises (at (context_in source outer) c) (block_in source).functions) members
+  open_raises (Some members) =
+      flat_map (λ c. argument_raises (at (context_in source outer) c) (block_in source).functions) members
 
   -- groups are those of some combinations, in which nothing is raised so far
   abbrev pub AreGroupsOf : List Combination → Groups → Type 0
   AreGroupsOf cs groups =
-      (closed : List (List Combination)) × (open' : Option (List Combination)) × IsCutInto (block_in source).groups cs closed open' × AreRowsOf closed groups.rows × IsOpen open' groups.current
+      (closed : List (List Combination)) × (open' : Option (List Combination))
+      × IsCutInto (block_in source).groups cs closed open' × AreRowsOf closed groups.rows × IsOpen open' groups.current
 
   -- a closed group raises, or an argument in the open one
   abbrev pub MayRaise : List Combination → arithmetic.Raise → Type 0
   MayRaise cs raise =
-      (closed : List (List Combination)) × (open' : Option (List Combination)) × IsCutInto (block_in source).groups cs closed open'
+      (closed : List (List Combination)) × (open' : Option (List Combination))
+      × IsCutInto (block_in source).groups cs closed open'
       × Contains (group_raises (context_in source outer) (block_in source) closed ++ open_raises open') raise
 
   abbrev pub TellBy : Option Raise → List Combination → GroupRows → Type 0
@@ -135,4 +144,5 @@ module _ (source : BlockSource) (outer : List Combination) where
   abbrev pub IsRaiseOfGroups : GroupRows → arithmetic.Raise → Type 0
   IsRaiseOfGroups told raise =
       (cs : List Combination) → AreTyped cs → TellGroups cs told
-      → (groups : List (List Combination)) × AreAllGroups (block_in source).groups cs groups × Contains (group_raises (context_in source outer) (block_in source) groups) raise
+      → (groups : List (List Combination)) × AreAllGroups (block_in source).groups cs groups
+      × Contains (group_raises (context_in source outer) (block_in source) groups) raise

@@ -18,7 +18,8 @@ rows_in kept = kept.rows
 module _ (source : BlockSource) (outer : List Combination) (inner : ℕ → List Combination → Meaning (List Row)) where
   abbrev pub TellsByLate : Option Raise → List Combination → BlockRows → Type 0
   TellsByLate None cs rows = HaveTaken source outer inner cs rows
-  TellsByLate (Some raise) cs rows = Contains (late_raises (context_with source outer inner) (block_in source) cs) (raise_of raise)
+  TellsByLate (Some raise) cs rows =
+      Contains (late_raises (context_with source outer inner) (block_in source) cs) (raise_of raise)
 
   -- an exception that a late conjunct raises on combinations, or where none does, their rows
   abbrev pub TellsKept : List Combination → KeptRows → Type 0

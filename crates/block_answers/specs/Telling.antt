@@ -21,11 +21,14 @@ context_with source outer inner = record { database = source.database; outer = o
 
 -- what may be told of it
 abbrev pub MayTell : BlockSource → List Combination → (ℕ → List Combination → Meaning (List Row)) → Told → Type 0
-MayTell source outer inner told = Allowed (block_answer (context_with source outer inner) (block_in source)) (block_in source).order told
+MayTell source outer inner told =
+    Allowed (block_answer (context_with source outer inner) (block_in source)) (block_in source).order told
 
 -- composites stand for all combinations that pass the early conjuncts, each as often as there
 abbrev pub ArrangePassing : BlockSource → List Combination → List Composite → Type 0
-ArrangePassing source outer composites = IsPermutation (passing (context_in source outer) (block_in source)) (map (combination_of source.database (block_in source)) composites)
+ArrangePassing source outer composites =
+    IsPermutation (passing (context_in source outer) (block_in source))
+    (map (combination_of source.database (block_in source)) composites)
 
 abbrev pub names_of : BlockSource → List (List ℕ)
 names_of source = map (λ (i : Item). i.name) (block_in source).items

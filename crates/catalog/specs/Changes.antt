@@ -42,19 +42,24 @@ pub record AddsIndex (t : Table) (unique : Bool) (names : List Name) (new : Tabl
 abbrev pub RefusesNewIndex : Table → Bool → List Name → IndexFault → Type 0
 RefusesNewIndex t unique names (i.List fault) = RefusesList t.columns names fault
 RefusesNewIndex t unique names (i.ColumnTwice column) = ¬ (AreDistinct names)
-RefusesNewIndex t unique names (i.ListTaken index) = (numbers : List ℕ) × (taken : Index) × (column_numbers t.columns names ≡ Some numbers) × (index_on t.indexes numbers ≡ Some taken)
+RefusesNewIndex t unique names (i.ListTaken index) = (numbers : List ℕ) × (taken : Index)
+    × (column_numbers t.columns names ≡ Some numbers) × (index_on t.indexes numbers ≡ Some taken)
 RefusesNewIndex t unique names i.ManyIndexes = most_indexes ≤ length t.indexes
-RefusesNewIndex t unique names (i.Repeated key) = (numbers : List ℕ) × MayIndex t names numbers × (unique ≡ true) × IsFirstRepeated (map (key_of numbers) t.rows) key
+RefusesNewIndex t unique names (i.Repeated key) = (numbers : List ℕ) × MayIndex t names numbers × (unique ≡ true)
+    × IsFirstRepeated (map (key_of numbers) t.rows) key
 RefusesNewIndex t unique names i.Memory = ⊤
 
 -- the first row whose key repeats one of an earlier row, in the table of a name
 abbrev pub IsRepeatTold : Database → Name → List Name → IndexFault → Type 0
-IsRepeatTold db name names (i.Repeated key) = OfTable db name (λ t. (numbers : List ℕ) × (column_numbers t.columns names ≡ Some numbers) × IsFirstRepeated (map (key_of numbers) t.rows) key)
+IsRepeatTold db name names (i.Repeated key) =
+    OfTable db name (λ t. (numbers : List ℕ) × (column_numbers t.columns names ≡ Some numbers)
+    × IsFirstRepeated (map (key_of numbers) t.rows) key)
 IsRepeatTold db name names _ = ⊤
 
 -- CREATE INDEX is refused: for repeated keys where it has no fault, and else for a fault, unless memory was wanting
 abbrev pub RefusesIndex : Database → Bool → Name → List Name → IndexFault → Type 0
-RefusesIndex db unique name names (i.Repeated key) = IsAccepted db (CreateIndex unique name names) × RepeatsKeys db (CreateIndex unique name names) × IsRepeatTold db name names (i.Repeated key)
+RefusesIndex db unique name names (i.Repeated key) = IsAccepted db (CreateIndex unique name names)
+    × RepeatsKeys db (CreateIndex unique name names) × IsRepeatTold db name names (i.Repeated key)
 RefusesIndex db unique name names fault = IfSome (index_refusal fault) (Faulty db (CreateIndex unique name names))
 
 -- ---- SET STATISTICS of an index
@@ -76,8 +81,10 @@ pub record SetsIndex (t : Table) (names : List Name) (given : Given) (new : Tabl
 -- why they are not set
 abbrev pub RefusesStatistics : Table → List Name → Given → StatisticsFault → Type 0
 RefusesStatistics t names given (f.List fault) = RefusesList t.columns names fault
-RefusesStatistics t names given f.NoIndex = (numbers : List ℕ) × (column_numbers t.columns names ≡ Some numbers) × (index_on t.indexes numbers ≡ None)
-RefusesStatistics t names given fault = (type : SqlType) × (first_type t.columns names ≡ Some type) × RefusesGiven type given fault
+RefusesStatistics t names given f.NoIndex = (numbers : List ℕ) × (column_numbers t.columns names ≡ Some numbers)
+    × (index_on t.indexes numbers ≡ None)
+RefusesStatistics t names given fault = (type : SqlType) × (first_type t.columns names ≡ Some type)
+    × RefusesGiven type given fault
 
 -- ---- SET STATISTICS of a table
 

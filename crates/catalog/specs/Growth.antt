@@ -32,7 +32,8 @@ pub record IsOf (cs : List StoredColumn) (is : List StoredIndex) (n : ℕ) (t : 
   pub rows : t.rows ≡ rows_of n cs
 
 -- the rows of a file are behind those of a table, in its columns and in its indexes
-pub record Grows (t : Table) (bytes : List ℕ) (indexes : List StoredIndex) (old new : List StoredColumn) (grown : Grown) : Type 0 where
+pub record Grows (t : Table) (bytes : List ℕ) (indexes : List StoredIndex) (old new : List StoredColumn) (grown : Grown)
+    : Type 0 where
   pub records : List Record
   pub rows : List Row
   pub read : AreFileRecords bytes records
@@ -49,6 +50,7 @@ row_before had (e.Loaded record') = had + record' - 1
 
 -- a fault tells of a repeated row as a record behind so many rows, unless memory was wanting
 abbrev pub TellsRepeated : ℕ → RepeatedRow → LoadFault → Type 0
-TellsRepeated had repeated (l.Repeated r) = (r.index ≡ repeated.index) × (row_before had r.earlier ≡ repeated.earlier) × (had + r.number ≡ repeated.row + 1)
+TellsRepeated had repeated (l.Repeated r) = (r.index ≡ repeated.index) × (row_before had r.earlier ≡ repeated.earlier)
+    × (had + r.number ≡ repeated.row + 1)
 TellsRepeated had repeated l.Memory = ⊤
 TellsRepeated had repeated _ = ⊥

@@ -15,12 +15,20 @@ use Rattle.catalog.specs.declared.table.Table.TheInside.{Inside}
 
 -- columns of n values each, with indexes and statistics, as a table
 abbrev pub table_of : Name → List StoredColumn → List StoredIndex → ℕ → TableStatistics → Table
-table_of name cs is n statistics = record { name = name; columns = headers cs; indexes = map (λ (i : StoredIndex). i.index) is; rows = rows_of n cs; statistics = statistics }
+table_of name cs is n statistics =
+    record {
+      name = name;
+      columns = headers cs;
+      indexes = map (λ (i : StoredIndex). i.index) is;
+      rows = rows_of n cs;
+      statistics = statistics;
+    }
 
 abbrev pub stored_table : Inside → Table
 stored_table t = table_of (string_bytes t.name) t.columns.items t.indexes.items t.len (table_statistics_of t.statistics)
 
--- a value of each column for each row, of its type, not too many rows, indexes of all of them, and the columns' names in their order
+-- a value of each column for each row, of its type, not too many rows, indexes of all of them, and the columns' names
+-- in their order
 pub record IsStoredTable (t : Inside) : Type 0 where
   pub filled : AreFilled t.len t.columns.items
   pub named : t.names ≡ column_names (headers t.columns.items)

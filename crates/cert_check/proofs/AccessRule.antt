@@ -1,13 +1,15 @@
 -- The rule of accesses at the paths of one table.
-use Rattle.std.proofs.Common.{ℕ, ◌≡◌, ◌<◌, ◌≤◌, List, refl}
+use Rattle.std.proofs.Common.{ℕ, ◌≡◌, ◌<◌, ◌≤◌, List, refl, sym, subst}
 use Rattle.std.specs.List.{AllByRecursion}
-use Rattle.definitions.specs.Plans.TableSet.{only}
-use Rattle.definitions.specs.Plans.Path.{table_of}
+use Rattle.definitions.specs.Plans.TableSet.{no_tables, only}
+use Rattle.definitions.specs.Plans.Path.{Path, table_of}
 use Rattle.definitions.specs.Plans.Space.{Space}
 use Rattle.definitions.specs.Plans.Folding.{Folds}
 use Rattle.definitions.specs.Plans.Certificate.{Certificate, bound}
-use Rattle.definitions.specs.Plans.Checking.{AccessFails}
-use Rattle.definitions.specs.Plans.Validity.{AccessesHold}
+use Rattle.definitions.specs.Plans.PlanSpace.{IsPath}
+use Rattle.definitions.specs.Plans.Comparisons.{AccessStep, by_access}
+use Rattle.definitions.specs.Plans.Checking.{Accesses, RuleHolds, RuleFails}
+use Rattle.definitions.proofs.PlanTheory.Rules.{accesses_rule}
 use Rattle.definitions.proofs.PlanTheory.Orders.{folds_once}
 use Rattle.plan_space.specs.Item.{Item, AreItems}
 use Rattle.plan_space.proofs.PathItems.{IsPathItem, found_item}
@@ -28,10 +30,18 @@ module _ (space : Space) (certificate : Certificate) where
       rw (is.0.cost, once) at le
 
   pub access_fails : (table : ℕ) (item : Item) → table < space.table_count → IsPathItem space 0 table item → (f : ℕ) → Folds space (only table) item.order f
-      → item.cost < bound certificate (only table) f → AccessFails space certificate (only table) f
+      → item.cost < bound certificate (only table) f → RuleFails space certificate Accesses (only table) f
   access_fails table item below is f folds lt =
-      (item.path, rw is.0.reads below, is.1, rw is.0.reads refl, rw is.0.order at folds, rw is.0.cost at lt)
+      told (only table) f item.path (rw is.0.reads below) is.1 (rw is.0.reads refl) (rw is.0.order at folds) (rw is.0.cost at lt)
+    where
+      told : (tables order : ℕ) (path : Path) → table_of path < space.table_count → IsPath space no_tables path → tables ≡ only (table_of path) → Folds space tables (space.path_order path) order
+          → space.path_cost no_tables path < bound certificate tables order → RuleFails space certificate Accesses tables order
+      told tables order path within is_path at folds lt =
+          let folds' : Folds space (only (table_of path)) (space.path_order path) order = rw at at folds in
+          let lt' : space.path_cost no_tables path < bound certificate (only (table_of path)) order = rw at at lt in
+          subst (λ s. RuleFails space certificate Accesses s order) (sym at)
+          (only (table_of path), order, AccessStep path, space.path_cost no_tables path, by_access path order within is_path folds', refl, lt')
 
   -- of every table, the rule
-  pub all_hold : ((table : ℕ) → table < space.table_count → AccessesHoldOf space certificate table) → AccessesHold space certificate
-  all_hold of path folded below there folds = of (table_of path) below path folded refl there folds
+  pub all_hold : ((table : ℕ) → table < space.table_count → AccessesHoldOf space certificate table) → RuleHolds space certificate Accesses
+  all_hold of = accesses_rule space certificate (λ path folded below there folds. of (table_of path) below path folded refl there folds)

@@ -9,7 +9,9 @@ use Rattle.definitions.specs.Plans.TableSet.{with_table}
 use Rattle.definitions.specs.Plans.PlanSpace.{MayFollow}
 use Rattle.definitions.specs.Plans.Folding.{Folds}
 use Rattle.definitions.specs.Plans.Certificate.{Certificate, IsListed, bound}
-use Rattle.definitions.specs.Plans.Validity.{JoinsHold}
+use Rattle.definitions.specs.Plans.Comparisons.{LoopStep, MergeStep, by_loop, by_merge}
+use Rattle.definitions.specs.Plans.Checking.{Joins, RuleHolds, RuleFails}
+use Rattle.definitions.proofs.PlanTheory.Rules.{joins_rule}
 use Rattle.definitions.proofs.PlanTheory.Orders.{folds_once}
 use Rattle.plan_space.specs.Item.{Item, AreItems}
 use Rattle.plan_space.specs.Merge.{Merge, AreMerges, IsMerge}
@@ -73,26 +75,28 @@ module _ (space : Space) (certificate : Certificate) where
       no_merge (number, inner, subst (λ t. IsMerge space tables t number inner) at (is_merge space tables order number inner can), subst (λ t. GoesBy space tables order number t) at (goes_by space tables order number inner can), lt')
 
   -- of every table, the rule at a state
-  pub join_fails_at : (tables order table : ℕ) → JoinFailsBy space certificate tables order table → JoinFails space certificate tables order
-  join_fails_at tables order table (inl (path, folded, at, can, folds, lt)) =
-      let w : Folds space (with_table tables (table_of path)) order folded = rw at folds in
-      let lt' : saturated (bound certificate tables order + loop_cost space tables path) < bound certificate (with_table tables (table_of path)) folded = rw at lt in
-      inl (path, folded, can, w, lt')
-  join_fails_at tables order table (inr (number, inner, folded, at, can, folds, lt)) =
-      let w : Folds space (with_table tables (table_of inner.path)) order folded = rw at folds in
-      let lt' = subst (λ t. saturated (bound certificate tables order + merge_cost space tables number inner) < bound certificate (with_table tables t) folded) (sym at) lt in
-      inr (number, inner, folded, can, w, lt')
-
   pub join_holds_at : (tables order : ℕ) → ((table : ℕ) → table < space.table_count → JoinFailsBy space certificate tables order table → ⊥) → JoinFails space certificate tables order → ⊥
-  join_holds_at tables order none (inl (path, folded, can, folds, lt)) = none (table_of path) can.0.0 (inl (path, folded, refl, can, folds, lt))
-  join_holds_at tables order none (inr (number, inner, folded, can, folds, lt)) = none (table_of inner.path) can.0.0 (inr (number, inner, folded, refl, can, folds, lt))
+  join_holds_at tables order none (table, fails) = none table (within fails) fails
+    where
+      within : JoinFailsBy space certificate tables order table → table < space.table_count
+      within (inl (path, folded, at, can, folds, lt)) = rw at at can.0.0
+      within (inr (number, inner, folded, at, can, folds, lt)) = rw at at can.0.0
 
   -- of every listed state, the rule
-  pub joins_hold : ((tables order : ℕ) → IsListed certificate tables order → JoinFails space certificate tables order → ⊥) → JoinsHold space certificate
-  joins_hold none = (
-    λ tables order path folded listed can folds. not_less _ _ (λ lt. none tables order listed (inl (path, folded, can, folds, lt))),
-    λ tables order number inner folded listed can folds. not_less _ _ (λ lt. none tables order listed (inr (number, inner, folded, can, folds, lt))),
-  )
+  pub joins_hold : ((tables order : ℕ) → IsListed certificate tables order → JoinFails space certificate tables order → ⊥) → RuleHolds space certificate Joins
+  joins_hold none = joins_rule space certificate
+      (λ tables order path folded listed can folds. not_less _ _ (λ lt. none tables order listed (table_of path, inl (path, folded, refl, can, folds, lt))))
+      (λ tables order number inner folded listed can folds. not_less _ _ (λ lt. none tables order listed (table_of inner.path, inr (number, inner, folded, refl, can, folds, lt))))
+
+  pub join_rule_fails : (tables order : ℕ) → IsListed certificate tables order → JoinFails space certificate tables order → RuleFails space certificate Joins tables order
+  join_rule_fails tables order listed (table, inl (path, folded, at, can, folds, lt)) =
+      let folds' : Folds space (with_table tables (table_of path)) order folded = rw at folds in
+      let lt' : saturated (bound certificate tables order + loop_cost space tables path) < bound certificate (with_table tables (table_of path)) folded = rw at lt in
+      (with_table tables (table_of path), folded, LoopStep path, _, by_loop tables order path folded listed can folds', refl, lt')
+  join_rule_fails tables order listed (table, inr (number, inner, folded, at, can, folds, lt)) =
+      let folds' : Folds space (with_table tables (table_of inner.path)) order folded = rw at folds in
+      let lt' = subst (λ t. saturated (bound certificate tables order + merge_cost space tables number inner) < bound certificate (with_table tables t) folded) (sym at) lt in
+      (with_table tables (table_of inner.path), folded, MergeStep number inner, _, by_merge tables order number inner folded listed can folds', refl, lt')
 
   pub none_follows : (tables order table : ℕ) → (MayFollow space tables table → ⊥) → JoinFailsBy space certificate tables order table → ⊥
   none_follows tables order table none (inl (path, folded, at, can, folds, lt)) = none (rw at at can.0)

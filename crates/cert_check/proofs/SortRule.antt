@@ -1,17 +1,18 @@
 -- The rule of sorts at one state.
-use Rattle.std.proofs.Common.{ℕ, ◌≡◌, ◌+◌, ◌<◌, ◌≤◌, List}
+use Rattle.std.proofs.Common.{ℕ, ◌≡◌, ◌+◌, ◌<◌, ◌≤◌, List, refl}
 use Rattle.std.specs.List.{AllByRecursion}
 use Rattle.definitions.specs.Plans.Space.{Space}
 use Rattle.definitions.specs.Plans.PlanSpace.{CanSort}
 use Rattle.definitions.specs.Plans.Folding.{Folds}
 use Rattle.definitions.specs.Plans.Cost.{saturated}
 use Rattle.definitions.specs.Plans.Certificate.{Certificate, IsListed, bound}
-use Rattle.definitions.specs.Plans.Validity.{SortsHold}
-use Rattle.definitions.specs.Plans.Checking.{SortFails}
+use Rattle.definitions.specs.Plans.Comparisons.{SortStep, by_sort}
+use Rattle.definitions.specs.Plans.Checking.{Sorts, RuleHolds, RuleFails}
+use Rattle.definitions.proofs.PlanTheory.Rules.{sorts_rule}
 use Rattle.definitions.proofs.PlanTheory.Orders.{folds_once}
 use Rattle.interesting_orders.specs.Sorts.{AreSorts}
 use Rattle.plan_space.proofs.Lists.{has_each}
-use Rattle.cert_check.specs.Checks.{SortStays}
+use Rattle.cert_check.specs.Checks.{SortStays, SortFails}
 use Rattle.cert_check.proofs.JoinRule.{not_both, not_less}
 
 pub sum_is : (n x y a b : ℕ) → n ≡ saturated (x + y) → x ≡ a → y ≡ b → n ≡ saturated (a + b)
@@ -33,5 +34,8 @@ module _ (space : Space) (certificate : Certificate) where
       → Folds space tables into folded → cost < bound certificate tables folded → SortFails space certificate tables order
   sort_fails tables order cost into folded is can folds lt = (into, folded, can, folds, rw is at lt)
 
-  pub sorts_hold : ((tables order : ℕ) → IsListed certificate tables order → SortFails space certificate tables order → ⊥) → SortsHold space certificate
-  sorts_hold none = λ tables order into folded listed can folds. not_less _ _ (λ lt. none tables order listed (into, folded, can, folds, lt))
+  pub sorts_hold : ((tables order : ℕ) → IsListed certificate tables order → SortFails space certificate tables order → ⊥) → RuleHolds space certificate Sorts
+  sorts_hold none = sorts_rule space certificate (λ tables order into folded listed can folds. not_less _ _ (λ lt. none tables order listed (into, folded, can, folds, lt)))
+
+  pub sort_rule_fails : (tables order : ℕ) → IsListed certificate tables order → SortFails space certificate tables order → RuleFails space certificate Sorts tables order
+  sort_rule_fails tables order listed (into, folded, can, folds, lt) = (tables, folded, SortStep into, _, by_sort tables order into folded listed can folds, refl, lt)

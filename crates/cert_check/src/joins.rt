@@ -3,9 +3,9 @@
 ghost use Rattle.std.specs.Prelude.{◌≡◌, ◌+◌, ◌<◌, ◌≤◌, ◌^◌, MatchOption};
 ghost use Rattle.std.specs.Bool.{Decides};
 ghost use Rattle.definitions.specs.Limits.{most_from_tables};
-ghost use Rattle.definitions.specs.Plans.Certificate.{bound, IsCertificate, IsListed};
+ghost use Rattle.definitions.specs.Plans.Certificate.{bound, IsCertificate};
 ghost use Rattle.definitions.specs.Plans.Cost.{limit, saturated};
-ghost use Rattle.definitions.specs.Plans.Validity.{JoinsHold};
+ghost use Rattle.definitions.specs.Plans.Checking.{Joins, RuleHolds, RuleFails};
 ghost use Rattle.plan_tree.specs.Sets.{set_of};
 ghost use Rattle.plan_tree.specs.Certificates.{certificate_of};
 ghost use Rattle.interesting_orders.specs.Merges.{GoesBy};
@@ -19,9 +19,8 @@ use plan_tree::{Certificate, State, saturate};
 /// The first listed state from which a join leads below the bound of the state that it reaches.
 pub(crate) fn join_failing(space: &Space<'_>, certificate: &Certificate) -> Option<StateKey>
     requires { IsCertificate (space_in space.now) (certificate_of certificate.now) }
-    ensures { MatchOption result (JoinsHold (space_in space.now) (certificate_of certificate.now))
-        (λ p. IsListed (certificate_of certificate.now) (set_of p.tables) p.order
-        × JoinFails (space_in space.now) (certificate_of certificate.now) (set_of p.tables) p.order) }
+    ensures { MatchOption result (RuleHolds (space_in space.now) (certificate_of certificate.now) Joins)
+        (λ p. RuleFails (space_in space.now) (certificate_of certificate.now) Joins (set_of p.tables) p.order) }
 {
     'states: for state in &certificate.states {
         if join_fails_at(space, certificate, *state) {

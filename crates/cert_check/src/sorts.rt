@@ -2,11 +2,11 @@
 
 ghost use Rattle.std.specs.Prelude.{◌≡◌, ◌<◌, ◌^◌, MatchOption};
 ghost use Rattle.std.specs.Bool.{Decides};
-ghost use Rattle.definitions.specs.Plans.Certificate.{bound, IsCertificate, IsListed};
-ghost use Rattle.definitions.specs.Plans.Checking.{SortFails};
-ghost use Rattle.definitions.specs.Plans.Validity.{SortsHold};
+ghost use Rattle.definitions.specs.Plans.Certificate.{bound, IsCertificate};
+ghost use Rattle.definitions.specs.Plans.Checking.{Sorts, RuleHolds, RuleFails};
 ghost use Rattle.plan_tree.specs.Sets.{set_of};
 ghost use Rattle.plan_tree.specs.Certificates.{certificate_of};
+ghost use Rattle.cert_check.specs.Checks.{SortFails};
 ghost use Rattle.plan_space.specs.Planned.{space_in};
 
 use crate::verdict::StateKey;
@@ -16,9 +16,8 @@ use plan_tree::{Certificate, State, saturate};
 /// The first listed state from which a sort leads below the bound of the state that it reaches.
 pub(crate) fn sort_failing(space: &Space<'_>, certificate: &Certificate) -> Option<StateKey>
     requires { IsCertificate (space_in space.now) (certificate_of certificate.now) }
-    ensures { MatchOption result (SortsHold (space_in space.now) (certificate_of certificate.now))
-        (λ p. IsListed (certificate_of certificate.now) (set_of p.tables) p.order
-        × SortFails (space_in space.now) (certificate_of certificate.now) (set_of p.tables) p.order) }
+    ensures { MatchOption result (RuleHolds (space_in space.now) (certificate_of certificate.now) Sorts)
+        (λ p. RuleFails (space_in space.now) (certificate_of certificate.now) Sorts (set_of p.tables) p.order) }
 {
     'states: for state in &certificate.states {
         if sort_fails_at(space, certificate, *state) {

@@ -60,7 +60,8 @@ Follows (Some before) state = c.Precedes (state_of before) state
 
 module _ (block : CertifiedBlock) (said : Written) where
   abbrev pub IsCertificateMeant : Certificate → Type 0
-  IsCertificateMeant certificate = AreThere block said × AreBelow said.certificate × (certificate_of certificate ≡ said.certificate)
+  IsCertificateMeant certificate = AreThere block said × AreBelow said.certificate
+      × (certificate_of certificate ≡ said.certificate)
 
   abbrev pub IsMeant : Spelled → Type 0
   IsMeant spelled = IsCertificateMeant spelled.certificate × PlanIsMeant (plan_meant block said.plan) spelled.plan

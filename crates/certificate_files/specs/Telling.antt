@@ -45,7 +45,8 @@ StandsFor space plan None = InSpace space plan → ⊥
 -- what is told of a plan and a certificate of the space
 abbrev pub IsToldBy : Space → plans.Plan → Certificate → spec.TextVerdict → Type 0
 IsToldBy space plan certificate spec.Passes = IsValid space plan certificate
-IsToldBy space plan certificate (spec.FailsAt rule) = (tables : TableSet) × (order : OrderNumber) × IsVerdict space certificate plan (Refused rule tables order)
+IsToldBy space plan certificate (spec.FailsAt rule) = (tables : TableSet) × (order : OrderNumber)
+    × IsVerdict space certificate plan (Refused rule tables order)
 IsToldBy space plan certificate (spec.IsFaulty fault) = ⊥
 
 abbrev pub check_ended_of : FileEnded → ends.Ended

@@ -1,14 +1,17 @@
 -- What is read of the bytes that are left: what stands there, and what is left behind it.
 use denote.Ref.{Bor}
-use Rattle.std.specs.Prelude.{ℕ, ◌≡◌, ◌≢◌, ◌≤◌, ◌==◌, List, [], ◌∷◌, ◌++◌, Bool, false, IsTrue, slice_index, Result, Ok, Err, codes, decimal}
+use Rattle.std.specs.Prelude.{ℕ, ◌≡◌, ◌≢◌, ◌≤◌, ◌==◌, List, [], ◌∷◌, ◌++◌, Bool, false, IsTrue, slice_index, Result, Ok}
+use Rattle.std.specs.Prelude.{Err, codes, decimal}
 use Rattle.std.specs.List.{list_all}
 use Rattle.definitions.specs.Characters.{is_digit}
 use Rattle.definitions.specs.Plans.Path.{Path}
 use Rattle.definitions.specs.Plans.Plan.{Plan, Loop, Merge, Sort}
 use Rattle.definitions.specs.Plans.Certificate.{StateCost}
 use Rattle.definitions.specs.Estimates.Version.{Version}
-use Rattle.definitions.specs.Certificates.Text.{Written, direction_text, conjuncts_text, path_text, sorted_text, plan_text, state_line, first_line, text_of}
-use Rattle.definitions.specs.Certificates.Form.{is_number, is_direction, is_match, is_path, is_plan, is_state, word_count, word_limit, has_form, Says}
+use Rattle.definitions.specs.Certificates.Text.{Written, direction_text, conjuncts_text, path_text, sorted_text}
+use Rattle.definitions.specs.Certificates.Text.{plan_text, state_line, first_line, text_of}
+use Rattle.definitions.specs.Certificates.Form.{is_number, is_direction, is_match, is_path, is_plan, is_state}
+use Rattle.definitions.specs.Certificates.Form.{word_count, word_limit, has_form, Says}
 use Rattle.definitions.specs.Printing.{line}
 use Rattle.certificate_syntax.specs.declared.fault.FormFault.{FormFault}
 use Rattle.certificate_syntax.specs.declared.fault.FormFault.TheVariants as fault
@@ -63,7 +66,8 @@ NumberBetween before behind text n rest = IsTrue (is_number n) × (text ≡ befo
 -- ---- paths
 
 abbrev pub DirectionIn : Version → List ℕ → Bool → List ℕ → Type 0
-DirectionIn version text backward rest = IsTrue (is_direction version backward) × (text ≡ direction_text backward ++ (codes ")" ++ rest))
+DirectionIn version text backward rest = IsTrue (is_direction version backward)
+    × (text ≡ direction_text backward ++ (codes ")" ++ rest))
 
 -- as many things as stand there, one behind the other
 abbrev pub Many : {X : Type 0} → (List ℕ → X → List ℕ → Type 0) → List ℕ → List X → List ℕ → Type 0
@@ -79,7 +83,8 @@ SlashedIn text n rest = IsTrue (is_number n) × IsBehindDigits rest × (text ≡
 
 abbrev pub MatchIn : Version → List ℕ → List ℕ → List ℕ → Type 0
 MatchIn version text numbers rest =
-    IsTrue (is_match version numbers) × IsBehindDigits rest × (slice_index rest 0 ≢ 47) × (text ≡ conjuncts_text numbers ++ rest)
+    IsTrue (is_match version numbers) × IsBehindDigits rest × (slice_index rest 0 ≢ 47)
+    × (text ≡ conjuncts_text numbers ++ rest)
 
 -- a path with the bracket behind it
 abbrev pub PathIn : Version → List ℕ → Path → List ℕ → Type 0
@@ -105,13 +110,15 @@ WrappedIn version around.Loop below text (Loop outer path) rest =
     (outer ≡ below) × IsTrue (is_path version path) × (text ≡ codes "," ++ (path_text path ++ (codes ")" ++ rest)))
 WrappedIn version around.Merge below text (Merge outer conjunct inner) rest =
     (outer ≡ below) × IsTrue (is_number conjunct) × IsTrue (is_path version inner.path)
-    × (text ≡ codes "," ++ (decimal conjunct ++ (codes "," ++ (sorted_text inner.sorted ++ (path_text inner.path ++ (codes ")" ++ rest))))))
+    × (text ≡ codes ","
+    ++ (decimal conjunct ++ (codes "," ++ (sorted_text inner.sorted ++ (path_text inner.path ++ (codes ")" ++ rest))))))
 WrappedIn version around.Sort below text (Sort input order) rest =
     (input ≡ below) × IsTrue (is_number order) × (text ≡ codes "," ++ (decimal order ++ (codes ")" ++ rest)))
 WrappedIn version around below text _ rest = ⊥
 
 abbrev pub PlanIn : Version → (words : ℕ) → List ℕ → Plan → List ℕ → Type 0
-PlanIn version words text plan rest = IsTrue (is_plan version plan) × (word_count plan ≤ words) × (text ≡ plan_text plan ++ rest)
+PlanIn version words text plan rest = IsTrue (is_plan version plan) × (word_count plan ≤ words)
+    × (text ≡ plan_text plan ++ rest)
 
 -- ---- lines
 
@@ -119,11 +126,13 @@ abbrev pub StateIn : List ℕ → StateCost → List ℕ → Type 0
 StateIn text state rest = IsTrue (is_state state) × (text ≡ state_line state ++ rest)
 
 abbrev pub BlockIn : Version → List ℕ → ℕ → List ℕ → Type 0
-BlockIn version text block rest = IsTrue (is_number block) × (text ≡ first_line version ++ (line (codes "BLOCK " ++ decimal block) ++ rest))
+BlockIn version text block rest = IsTrue (is_number block)
+    × (text ≡ first_line version ++ (line (codes "BLOCK " ++ decimal block) ++ rest))
 
 abbrev pub PlanLineIn : Version → List ℕ → Plan → List ℕ → Type 0
 PlanLineIn version text plan rest =
-    IsTrue (is_plan version plan) × (word_count plan ≤ word_limit) × (text ≡ line (codes "PLAN " ++ plan_text plan) ++ rest)
+    IsTrue (is_plan version plan) × (word_count plan ≤ word_limit)
+    × (text ≡ line (codes "PLAN " ++ plan_text plan) ++ rest)
 
 abbrev pub TextIn : Version → List ℕ → Written → List ℕ → Type 0
 TextIn version text said rest = IsTrue (has_form version said) × (text ≡ text_of version said ++ rest)

@@ -22,7 +22,8 @@ path_said (path.Match table index conjuncts backward) = p.MatchingScan table ind
 abbrev pub plan_layer : WrittenPlan-F spec.Plan → spec.Plan
 plan_layer (plan.Access path) = spec.Access (path_said path)
 plan_layer (plan.Loop outer path) = spec.Loop outer.value (path_said path)
-plan_layer (plan.Merge outer conjunct sorted path) = spec.Merge outer.value conjunct (record { path = path_said path; sorted = sorted })
+plan_layer (plan.Merge outer conjunct sorted path) =
+    spec.Merge outer.value conjunct (record { path = path_said path; sorted = sorted })
 plan_layer (plan.Sort input order) = spec.Sort input.value order
 
 abbrev pub plan_said : WrittenPlan → spec.Plan
@@ -32,4 +33,10 @@ abbrev pub state_said : WrittenState → StateCost
 state_said s = record { tables = s.tables; order = s.order; cost = s.cost }
 
 abbrev pub said_of : Written → t.Written
-said_of w = record { block = w.block; plan = plan_said w.plan; certificate = record { target = w.target; states = map state_said w.states.items } }
+said_of w =
+    record {
+      block = w.block;
+      plan = plan_said w.plan;
+      certificate =
+          record { target = w.target; states = map state_said w.states.items };
+    }

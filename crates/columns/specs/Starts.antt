@@ -1,10 +1,12 @@
 -- Look-ups in an ordered column.
-use Rattle.std.specs.Prelude.{ℕ, ◌≡◌, ◌≤◌, ◌<◌, Bool, true, false, not, int_le, List, Option, Some, None, slice_index_or, FitsSigned, is_none}
+use Rattle.std.specs.Prelude.{ℕ, ◌≡◌, ◌≤◌, ◌<◌, Bool, true, false, not, int_le, List, Option, Some, None}
+use Rattle.std.specs.Prelude.{slice_index_or, FitsSigned, is_none}
 use Rattle.std.specs.Int.{w64}
 use Rattle.std.specs.Ordering.{is_ge, is_gt}
 use Rattle.std.specs.declared.ops.Bound.{Bound}
 use Rattle.std.specs.declared.ops.Bound.TheVariants.{Included, Excluded, Unbounded}
-use Rattle.definitions.specs.Value.{Value, Null, Number, Text, SqlType, Numbers, Texts, kind_of, scale_of, compare, text_cmp, is_null}
+use Rattle.definitions.specs.Value.{Value, Null, Number, Text, SqlType, Numbers, Texts, kind_of, scale_of, compare}
+use Rattle.definitions.specs.Value.{text_cmp, is_null}
 use Rattle.definitions.specs.IndexRun.{Limit, Unlimited, Inclusive, Exclusive}
 use Rattle.sqlvalue.specs.Meaning.{value_of}
 use Rattle.sqlvalue.specs.declared.value.Value as code

@@ -9,7 +9,8 @@ use Rattle.columns.specs.declared.text.TextColumn.TheInside.{Inside}
 -- texts of one length, but for those that are null
 abbrev pub text_values : ℕ → List ℕ → List Bool → List Value
 text_values length codes [] = []
-text_values length codes (null ∷ nulls) = (if null then Null else Text (take length codes)) ∷ text_values length (drop length codes) nulls
+text_values length codes (null ∷ nulls) = (if null then Null else Text (take length codes))
+    ∷ text_values length (drop length codes) nulls
 
 abbrev pub texts_of : ℕ → List ℕ → List Bool → CellList
 texts_of length codes nulls = record { type = Char length; values = text_values length codes nulls }

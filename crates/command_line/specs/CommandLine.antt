@@ -21,7 +21,10 @@ abbrev pub check : App
 check = with_rule (on_script (codes "check")) (word_rule (codes "CERTIFICATES"))
 
 abbrev pub program : App
-program = record (new_app (codes "sqlr")) { top = record (new_app (codes "sqlr")).top { has_version = true; subcommand_required = true } }
+program = record (new_app (codes "sqlr")) {
+  top =
+      record (new_app (codes "sqlr")).top { has_version = true; subcommand_required = true };
+}
 
 -- `sqlr run SCRIPT`, `sqlr check SCRIPT CERTIFICATES`, and `sqlr --version`
 abbrev pub line : App
@@ -53,7 +56,8 @@ abbrev pub asked_in : Option (Text × List Row) → Option Asked
 asked_in None = None
 asked_in (Some (name, rows)) =
     if bytes_eq name (codes "run") then run_of (first_of (codes "SCRIPT") rows)
-    else (if bytes_eq name (codes "check") then check_of (first_of (codes "SCRIPT") rows) (first_of (codes "CERTIFICATES") rows) else None)
+    else (if bytes_eq name (codes "check") then check_of (first_of (codes "SCRIPT") rows)
+    (first_of (codes "CERTIFICATES") rows) else None)
 
 -- what the definition of the line says that words ask, the first of which is the program's name
 abbrev pub asked_of : List Text → Option Asked

@@ -5,7 +5,6 @@ use Rattle.std.specs.List.{AllByRecursion}
 use Rattle.definitions.specs.Token.{TokenKind}
 use Rattle.definitions.specs.Rule.{Rule, Never, Gives, Past, Sees, If, Reads, Then, Repeats}
 use Rattle.definitions.specs.Rule as g
-use Rattle.definitions.specs.Grammar as r
 use Rattle.definitions.specs.Grammar.{Closed, ListOf}
 use Rattle.definitions.proofs.ReadTokens.{IsRead, AreRead}
 

@@ -23,7 +23,8 @@ use Rattle.std.specs.List.{list_all}
 use Rattle.definitions_execution.specs.OfBlock.{rows_in, index_run, stored_of}
 use Rattle.definitions_execution.specs.IndexRows.{run_of, keys_in}
 use Rattle.definitions.specs.Estimates.BlockTables.{index_columns}
-use Rattle.definitions_execution.specs.Asking.{ScanKey, EqualTo, InRange, meets, asked_by, from_other_side, ComparisonAsks, TurnedComparisonAsks, BetweenAsks}
+use Rattle.definitions.specs.Estimates.Paths.{turned}
+use Rattle.definitions_execution.specs.Asking.{ScanKey, EqualTo, InRange, meets, asked_by, ComparisonAsks, TurnedComparisonAsks, BetweenAsks}
 use Rattle.definitions_execution.specs.Matching.{AskInTurn, MatchIsEqualPart, MatchIsRangePart}
 use Rattle.definitions_execution.proofs.KeyOrder.{key_at, entry_at, rows_by_key, run_is, run_rows}
 use Rattle.definitions.proofs.Ranking.{rank_total}
@@ -67,7 +68,7 @@ compare_turned (Text t) Null = refl
 compare_turned (Text t) (Number u s) = refl
 compare_turned (Text t) (Text t') = ap Some (rank_total.antisymm (Text t) (Text t'))
 
-agrees_turned : (op : ComparisonOperator) (o : Ordering) → agrees op (ordering_reverse o) ≡ agrees (from_other_side op) o
+agrees_turned : (op : ComparisonOperator) (o : Ordering) → agrees op (ordering_reverse o) ≡ agrees (turned op) o
 agrees_turned Equals Less = refl
 agrees_turned Equals Equal = refl
 agrees_turned Equals Greater = refl
@@ -87,10 +88,10 @@ agrees_turned GreaterOrEquals Less = refl
 agrees_turned GreaterOrEquals Equal = refl
 agrees_turned GreaterOrEquals Greater = refl
 
-compared_turned : (op : ComparisonOperator) (a b : Value) → compared op a b ≡ compared (from_other_side op) b a
+compared_turned : (op : ComparisonOperator) (a b : Value) → compared op a b ≡ compared (turned op) b a
 compared_turned op a b = ap (λ o. known_or_unknown (option_map (agrees op) o)) (compare_turned a b) ∙ of_option (compare b a)
   where
-    of_option : (o : Option Ordering) → known_or_unknown (option_map (agrees op) (option_map ordering_reverse o)) ≡ known_or_unknown (option_map (agrees (from_other_side op)) o)
+    of_option : (o : Option Ordering) → known_or_unknown (option_map (agrees op) (option_map ordering_reverse o)) ≡ known_or_unknown (option_map (agrees (turned op)) o)
     of_option None = refl
     of_option (Some o) = ap known (agrees_turned op o)
 
@@ -98,7 +99,7 @@ pub comparison : ComparisonAsks
 comparison context c column type op e v asked h a = ap (λ m. is_surely_true (on_two (compared op) (Is (cell c column)) m)) h ∙ op_asks op (cell c column) v asked a
 
 pub turned_comparison : TurnedComparisonAsks
-turned_comparison context c column type op e v asked h a = ap (λ m. is_surely_true (on_two (compared op) m (Is (cell c column)))) h ∙ ap is_true (compared_turned op v (cell c column)) ∙ op_asks (from_other_side op) (cell c column) v asked a
+turned_comparison context c column type op e v asked h a = ap (λ m. is_surely_true (on_two (compared op) m (Is (cell c column)))) h ∙ ap is_true (compared_turned op v (cell c column)) ∙ op_asks (turned op) (cell c column) v asked a
 
 both_true : (a b : Truth) → is_true (and a b) ≡ (is_true a && is_true b)
 both_true Rattle.definitions.specs.Truth.False b = refl

@@ -1,14 +1,13 @@
 -- The conjuncts of a path ask what their text says, column by column, and together a part of a key.
-use Rattle.std.proofs.Common.{sym, ap, ap₂, ◌∙◌, subst, ◌≡◌, ◌⊎◌, inl, inr, ℕ, ◌<◌, List, [], ◌∷◌, length, set, slice_get, Bool, true, false, ◌&&◌, ◌||◌, not, cond, nat_eq, Option, Some, None, is_some, refl, rules, true≢false, arith}
+use Rattle.std.proofs.Common.{sym, ap, ap₂, ◌∙◌, subst, ◌≡◌, ◌⊎◌, inl, inr, ℕ, ◌<◌, List, [], ◌∷◌, length, set, slice_get, Bool, true, false, ◌&&◌, not, cond, nat_eq, Option, Some, None, is_some, refl, rules, true≢false, arith}
 use Rattle.std.specs.Prelude.{option_map, option_and_then, unwrap_or}
 use Rattle.std.specs.Int.{bit_at}
 use Rattle.std.specs.List.{AllByRecursion, list_any}
-use Rattle.std.proofs.lemmas.Nat.Bits.{bit_at-pow_same}
 use Rattle.definitions.specs.Value.{Value, SqlType}
 use Rattle.definitions.specs.IndexRun.{Inclusive}
-use Rattle.definitions.specs.Statement.{ComparisonOperator, Equals, LessThan, GreaterThan, LessOrEquals, GreaterOrEquals}
+use Rattle.definitions.specs.Statement.{ComparisonOperator, Equals, NotEquals, LessThan, GreaterThan, LessOrEquals, GreaterOrEquals}
 use Rattle.definitions.specs.Arithmetic.{Meaning, Is, Raises}
-use Rattle.definitions.specs.Plans.TableSet.{TableSet, Lacks, only}
+use Rattle.definitions.specs.Plans.TableSet.{TableSet, Lacks}
 use Rattle.definitions.specs.Plans.Order.{BlockColumn}
 use Rattle.definitions.specs.Queries.BoundBlock.{ValueExpr, Column, Condition, Compare, Between, Block}
 use Rattle.definitions.specs.Queries.CanRaise.{can_raise}
@@ -16,19 +15,19 @@ use Rattle.definitions.specs.Queries.Conjuncts.{tables_named, values_of, conjunc
 use Rattle.definitions.specs.Queries.Evaluation.{Environment, value}
 use Rattle.definitions.specs.Queries.Combinations.{Context, at}
 use Rattle.definitions.specs.Estimates.BlockTables.{has, is_within, index_columns}
-use Rattle.definitions.specs.Estimates.Paths.{is_same_column, is_column, is_known, bounds_column, equals_column, limits_column, is_early_and, equals_at, matches_at}
+use Rattle.definitions.specs.Estimates.Paths.{ColumnTerm, ByComparison, ByBounds, turned, is_same_column, is_column, is_known, is_range, is_equality, says, is_early_and, equals_at, matches_at}
 use Rattle.definitions_execution.specs.Stored.{Composite}
 use Rattle.definitions_execution.specs.OfBlock.{combination_of, stored_of}
-use Rattle.definitions_execution.specs.Asking.{ScanKey, EqualTo, InRange, meets, asked_by, from_other_side, Asks}
+use Rattle.definitions_execution.specs.Asking.{ScanKey, EqualTo, InRange, meets, asked_by, Asks}
 use Rattle.definitions_execution.specs.Matching.{AskInTurn}
 use Rattle.definitions_execution.specs.TypedCombinations.{HasValue, EarlyValuesExist}
-use Rattle.definitions_execution.specs.PathAsks.{if_there, scan_key_of, asked_at, AreAsked, IsKeyPart, PathsAsk, PathsAskKeyParts}
+use Rattle.definitions_execution.specs.PathAsks.{if_there, key_of_term, scan_key_of, asked_at, AreAsked, IsKeyPart, PathsAsk, PathsAskKeyParts}
 use Rattle.definitions.proofs.PlanTheory.TableSets.{has_or_lacks}
 use Rattle.definitions.proofs.EstimateTheory.Tests.{has_is}
 use Rattle.definitions_execution.proofs.Locality.{neither}
 use Rattle.definitions_execution.proofs.EarlyValues.{calm_values}
 use Rattle.definitions_execution.proofs.KnownValues.{conjuncts_ask}
-use Rattle.definitions_execution.proofs.MatchedPaths.{both, either, InTurn, path_in_turn}
+use Rattle.definitions_execution.proofs.MatchedPaths.{both, range_known, InTurn, path_in_turn}
 
 -- ---- columns and known values
 
@@ -53,29 +52,50 @@ lacks_it s t h = pick (has_or_lacks s t)
 known_lacks : (s t : ℕ) (e : ValueExpr) → is_known s t e ≡ true → Lacks (tables_named e) t
 known_lacks s t e h = lacks_it (tables_named e) t (both (is_within (tables_named e) s) (not (has (tables_named e) t)) h).1
 
-own_not_known : (s : TableSet) (column : BlockColumn) (e : ValueExpr) → is_column column e ≡ true → is_known s column.table e ≡ true → ⊥
-own_not_known s column e h k =
-    let (type, is) = column_is column e h in
-    let l : Lacks (tables_named e) column.table = known_lacks s column.table e k in
-    let l' : bit_at (only column.table) column.table ≡ 0 = subst (λ x. Lacks (tables_named x) column.table) is l in
-    let b = bit_at-pow_same column.table in
-    omega (arith, l', b)
-
--- one side is the column, the other is known
+-- one side is the column, the other doesn't name its table
 abbrev AreSides : BlockColumn → ValueExpr → ValueExpr → Type 0
 AreSides column a b = ((is_column column a ≡ true) × Lacks (tables_named b) column.table)
     ⊎ ((is_column column a ≡ false) × (is_column column b ≡ true) × Lacks (tables_named a) column.table)
 
-sides : (s : TableSet) (column : BlockColumn) (a b : ValueExpr) → bounds_column s column a b ≡ true → AreSides column a b
-sides s column a b h = pick (either (is_column column a && is_known s column.table b) (is_column column b && is_known s column.table a) h)
-  where
-    turned : (t : Bool) → is_column column a ≡ t → is_column column b ≡ true → is_known s column.table a ≡ true → AreSides column a b
-    turned true e i k = absurd (own_not_known s column a e k)
-    turned false e i k = inr (e, i, known_lacks s column.table a k)
+abbrev comparison_term : ComparisonOperator → ValueExpr → ValueExpr → Bool → Bool → Option ColumnTerm
+comparison_term op a b x y = cond x (Some (ByComparison op b)) (cond y (Some (ByComparison (turned op) a)) None)
 
-    pick : ((is_column column a && is_known s column.table b) ≡ true) ⊎ ((is_column column b && is_known s column.table a) ≡ true) → AreSides column a b
-    pick (inl k) = let w = both (is_column column a) (is_known s column.table b) k in inl (w.0, known_lacks s column.table b w.1)
-    pick (inr k) = let w = both (is_column column b) (is_known s column.table a) k in turned (is_column column a) refl w.0 w.1
+abbrev is_passed : (ColumnTerm → Bool) → Option ColumnTerm → Type 0
+is_passed test term = unwrap_or (option_map test term) false ≡ true
+
+module _ (s : TableSet) (column : BlockColumn) where
+  sides : (op : ComparisonOperator) (a b : ValueExpr) → says (is_range s column.table) column (Compare op a b) ≡ true → AreSides column a b
+  sides op a b h = by_tests (is_column column a) refl (is_column column b) refl h
+    where
+      by_tests : (x : Bool) → is_column column a ≡ x → (y : Bool) → is_column column b ≡ y → is_passed (is_range s column.table) (comparison_term op a b x y) → AreSides column a b
+      by_tests true e y f k = inl (e, known_lacks s column.table b (range_known s column op b k))
+      by_tests false e true f k = inr (e, f, known_lacks s column.table a (range_known s column (turned op) a k))
+      by_tests false e false f k = absurd (true≢false (sym k))
+
+  -- the column lies between values that don't name its table
+  bounds : (x low high : ValueExpr) → says (is_range s column.table) column (Between false x low high) ≡ true
+      → (is_column column x ≡ true) × Lacks (tables_named low) column.table × Lacks (tables_named high) column.table
+  bounds x low high h = by_test (is_column column x) refl h
+    where
+      by_test : (t : Bool) → is_column column x ≡ t → is_passed (is_range s column.table) (cond t (Some (ByBounds low high)) None)
+          → (is_column column x ≡ true) × Lacks (tables_named low) column.table × Lacks (tables_named high) column.table
+      by_test true e k =
+          let w = both (is_known s column.table low) (is_known s column.table high) k in
+          (e, known_lacks s column.table low w.0, known_lacks s column.table high w.1)
+      by_test false e k = absurd (true≢false (sym k))
+
+  -- what is asked by a range, and by an equality
+  range_asks : (op : ComparisonOperator) (e : ValueExpr) (v : Value) → is_range s column.table (ByComparison op e) ≡ true → (asked : ScanKey) × (asked_by op v ≡ Some asked)
+  range_asks Equals e v h = (_, refl)
+  range_asks NotEquals e v h = absurd (true≢false (sym h))
+  range_asks LessThan e v h = (_, refl)
+  range_asks GreaterThan e v h = (_, refl)
+  range_asks LessOrEquals e v h = (_, refl)
+  range_asks GreaterOrEquals e v h = (_, refl)
+
+  equality_asks : (op : ComparisonOperator) (e : ValueExpr) (v : Value) → is_equality s column.table (ByComparison op e) ≡ true → asked_by op v ≡ Some (EqualTo v)
+  equality_asks Equals e v h = refl
+  equality_asks _ e v h = absurd (true≢false (sym h))
 
 -- what is asked of a value that is there
 there_is : (f : Value → Option ScanKey) (m : Meaning Value) (asked : ScanKey) → if_there f m ≡ Some asked → (v : Value) × (m ≡ Is v) × (f v ≡ Some asked)
@@ -107,14 +127,20 @@ module _ (context : Context) (block : Block) (composite : Composite) (s : TableS
 
   -- by the first side or the second
   first_side : (op : ComparisonOperator) (a b : ValueExpr) → is_column column a ≡ true → scan_key_of env column (Compare op a b) ≡ if_there (asked_by op) (value env b)
-  first_side op a b h = ap (λ x. cond x (if_there (asked_by op) (value env b)) (cond (is_column column b) (if_there (asked_by (from_other_side op)) (value env a)) None)) h
+  first_side op a b h = ap (λ x. option_and_then (key_of_term env) (comparison_term op a b x (is_column column b))) h
 
-  second_side : (op : ComparisonOperator) (a b : ValueExpr) → is_column column a ≡ false → is_column column b ≡ true → scan_key_of env column (Compare op a b) ≡ if_there (asked_by (from_other_side op)) (value env a)
-  second_side op a b h k = ap₂ (λ x y. cond x (if_there (asked_by op) (value env b)) (cond y (if_there (asked_by (from_other_side op)) (value env a)) None)) h k
+  second_side : (op : ComparisonOperator) (a b : ValueExpr) → is_column column a ≡ false → is_column column b ≡ true → scan_key_of env column (Compare op a b) ≡ if_there (asked_by (turned op)) (value env a)
+  second_side op a b h k = ap₂ (λ x y. option_and_then (key_of_term env) (comparison_term op a b x y)) h k
+
+  abbrev range_key : Value → Value → Option ScanKey
+  range_key v w = Some (InRange (Inclusive v) (Inclusive w))
+
+  between_key : (x low high : ValueExpr) → is_column column x ≡ true → scan_key_of env column (Between false x low high) ≡ if_there (λ v. if_there (range_key v) (value env high)) (value env low)
+  between_key x low high h = ap (λ b. option_and_then (key_of_term env) (cond b (Some (ByBounds low high)) None)) h
 
   module _ (lt : t < length composite) where
-    compare_asks : (op : ComparisonOperator) (a b : ValueExpr) (asked : ScanKey) → bounds_column s column a b ≡ true → list_any can_raise (a ∷ b ∷ []) ≡ false → scan_key_of env column (Compare op a b) ≡ Some asked → AsksIt (Compare op a b) asked
-    compare_asks op a b asked h calm e = pick (sides s column a b h)
+    compare_asks : (op : ComparisonOperator) (a b : ValueExpr) (asked : ScanKey) → AreSides column a b → list_any can_raise (a ∷ b ∷ []) ≡ false → scan_key_of env column (Compare op a b) ≡ Some asked → AsksIt (Compare op a b) asked
+    compare_asks op a b asked h calm e = pick h
       where
         calm_a : can_raise a ≡ false
         calm_a = (neither (can_raise a) (list_any can_raise (b ∷ [])) calm).0
@@ -130,123 +156,86 @@ module _ (context : Context) (block : Block) (composite : Composite) (s : TableS
             subst (λ x. AsksIt (Compare op x b) asked) (sym is) (one type op b v asked (calm_b, lacks, m) f)
         pick (inr (n, i, lacks)) =
             let (type, is) = column_is column b i in
-            let (v, m, f) = there_is (asked_by (from_other_side op)) (value env a) asked (sym (second_side op a b n i) ∙ e) in
+            let (v, m, f) = there_is (asked_by (turned op)) (value env a) asked (sym (second_side op a b n i) ∙ e) in
             let (one, two, three) = conjuncts_ask context block composite t c lt in
             subst (λ x. AsksIt (Compare op a x) asked) (sym is) (two type op a v asked (calm_a, lacks, m) f)
 
-    between_asks : (x low high : ValueExpr) (asked : ScanKey) → (is_column column x && is_known s t low && is_known s t high) ≡ true → list_any can_raise (x ∷ low ∷ high ∷ []) ≡ false
+    between_asks : (x low high : ValueExpr) (asked : ScanKey) → (is_column column x ≡ true) × Lacks (tables_named low) t × Lacks (tables_named high) t → list_any can_raise (x ∷ low ∷ high ∷ []) ≡ false
         → scan_key_of env column (Between false x low high) ≡ Some asked → AsksIt (Between false x low high) asked
-    between_asks x low high asked h calm e =
-        let w = both (is_column column x && is_known s t low) (is_known s t high) h in
-        let w' = both (is_column column x) (is_known s t low) w.0 in
+    between_asks x low high asked (is_it, lacks, lacks') calm e =
         let n = neither (can_raise x) (list_any can_raise (low ∷ high ∷ [])) calm in
         let n' = neither (can_raise low) (list_any can_raise (high ∷ [])) n.1 in
         let n'' = neither (can_raise high) false n'.1 in
-        let (type, is) = column_is column x w'.0 in
-        let range : Value → Value → Option ScanKey = λ v w. Some (InRange (Inclusive v) (Inclusive w)) in
-        let from_column : scan_key_of env column (Between false x low high) ≡ if_there (λ v. if_there (range v) (value env high)) (value env low) = ap (λ b. cond b (if_there (λ v. if_there (range v) (value env high)) (value env low)) None) w'.0 in
-        let (v, m, f) = there_is (λ v. if_there (range v) (value env high)) (value env low) asked (sym from_column ∙ e) in
-        let (u, m', f') = there_is (range v) (value env high) asked f in
+        let (type, is) = column_is column x is_it in
+        let (v, m, f) = there_is (λ v. if_there (range_key v) (value env high)) (value env low) asked (sym (between_key x low high is_it) ∙ e) in
+        let (u, m', f') = there_is (range_key v) (value env high) asked f in
         let (one, two, three) = conjuncts_ask context block composite t c lt in
         let same : InRange (Inclusive v) (Inclusive u) ≡ asked = ap (λ o. unwrap_or o asked) f' in
         subst (λ y. AsksIt (Between false y low high) asked) (sym is)
-        (subst (AsksIt (Between false (Column column type) low high)) same (three type low high v u (n'.0, known_lacks s t low w'.1, m) (n''.0, known_lacks s t high w.1, m')))
+        (subst (AsksIt (Between false (Column column type) low high)) same (three type low high v u (n'.0, lacks, m) (n''.0, lacks', m')))
 
-    equals_asks : (k : Condition) (asked : ScanKey) → equals_column s column k ≡ true → list_any can_raise (values_of k) ≡ false → scan_key_of env column k ≡ Some asked → AsksIt k asked
-    equals_asks (Compare Equals a b) asked h calm e = compare_asks Equals a b asked h calm e
-    equals_asks _ asked h calm e = absurd (true≢false (sym h))
-
-    limits_asks : (k : Condition) (asked : ScanKey) → limits_column s column k ≡ true → list_any can_raise (values_of k) ≡ false → scan_key_of env column k ≡ Some asked → AsksIt k asked
-    limits_asks (Compare LessThan a b) asked h calm e = compare_asks LessThan a b asked h calm e
-    limits_asks (Compare GreaterThan a b) asked h calm e = compare_asks GreaterThan a b asked h calm e
-    limits_asks (Compare LessOrEquals a b) asked h calm e = compare_asks LessOrEquals a b asked h calm e
-    limits_asks (Compare GreaterOrEquals a b) asked h calm e = compare_asks GreaterOrEquals a b asked h calm e
-    limits_asks (Between false x low high) asked h calm e = between_asks x low high asked h calm e
-    limits_asks _ asked h calm e = absurd (true≢false (sym h))
+    condition_asks : (k : Condition) (asked : ScanKey) → says (is_range s t) column k ≡ true → list_any can_raise (values_of k) ≡ false → scan_key_of env column k ≡ Some asked → AsksIt k asked
+    condition_asks (Compare op a b) asked h calm e = compare_asks op a b asked (sides s column op a b h) calm e
+    condition_asks (Between false x low high) asked h calm e = between_asks x low high asked (bounds s column x low high h) calm e
+    condition_asks _ asked h calm e = absurd (true≢false (sym h))
 
     pub number_asks : (g : ℕ) (asked : ScanKey) → matches_at block s column g ≡ true → asked_at context block composite t c g ≡ Some asked
         → (row : ℕ) → (stored_of context block).holds g (set composite t row) ≡ meets asked ((stored_of context block).value_in column row)
     number_asks g asked h e =
-        let (k, is, early, m) = early_is block (λ k. equals_column s column k || limits_column s column k) g h in
+        let (k, is, early, m) = early_is block (says (is_range s t) column) g h in
         let own : scan_key_of env column k ≡ Some asked = sym (ap (option_and_then (scan_key_of env column)) is) ∙ e in
-        pick k is (calm_values k early) own (either (equals_column s column k) (limits_column s column k) m)
-      where
-        pick : (k : Condition) → slice_get (conjuncts block) g ≡ Some k → list_any can_raise (values_of k) ≡ false → scan_key_of env column k ≡ Some asked → (equals_column s column k ≡ true) ⊎ (limits_column s column k ≡ true)
-            → (row : ℕ) → (stored_of context block).holds g (set composite t row) ≡ meets asked ((stored_of context block).value_in column row)
-        pick k is calm own (inl i) = equals_asks k asked i calm own g is
-        pick k is calm own (inr i) = limits_asks k asked i calm own g is
+        condition_asks k asked m (calm_values k early) own g is
 
   -- ---- something is asked
-
-  -- what a comparison asks, by the value of its other side
-  compared : (op : ComparisonOperator) (a b : ValueExpr) → bounds_column s column a b ≡ true → HasValue env a → HasValue env b
-      → (v : Value) × ((scan_key_of env column (Compare op a b) ≡ asked_by op v) ⊎ (scan_key_of env column (Compare op a b) ≡ asked_by (from_other_side op) v))
-  compared op a b h (v, va) (w, vb) = pick (sides s column a b h)
-    where
-      pick : AreSides column a b → (v : Value) × ((scan_key_of env column (Compare op a b) ≡ asked_by op v) ⊎ (scan_key_of env column (Compare op a b) ≡ asked_by (from_other_side op) v))
-      pick (inl (i, lacks)) = (w, inl (first_side op a b i ∙ ap (if_there (asked_by op)) vb))
-      pick (inr (n, i, lacks)) = (v, inr (second_side op a b n i ∙ ap (if_there (asked_by (from_other_side op))) va))
 
   abbrev SomeAsked : Condition → Type 0
   SomeAsked k = (asked : ScanKey) × (scan_key_of env column k ≡ Some asked)
 
-  some_equal : (k : Condition) → equals_column s column k ≡ true → AllByRecursion (HasValue env) (values_of k) → (v : Value) × (scan_key_of env column k ≡ Some (EqualTo v))
-  some_equal (Compare Equals a b) h there = pick (compared Equals a b h there.0 there.1.0)
+  abbrev EqualAsked : Condition → Type 0
+  EqualAsked k = (v : Value) × (scan_key_of env column k ≡ Some (EqualTo v))
+
+  some_equal : (k : Condition) → says (is_equality s t) column k ≡ true → AllByRecursion (HasValue env) (values_of k) → EqualAsked k
+  some_equal (Compare op a b) h there = by_tests (is_column column a) refl (is_column column b) refl h there.0 there.1.0
     where
-      pick : (v : Value) × ((scan_key_of env column (Compare Equals a b) ≡ Some (EqualTo v)) ⊎ (scan_key_of env column (Compare Equals a b) ≡ Some (EqualTo v))) → (v : Value) × (scan_key_of env column (Compare Equals a b) ≡ Some (EqualTo v))
-      pick (v, inl e) = (v, e)
-      pick (v, inr e) = (v, e)
+      by_tests : (x : Bool) → is_column column a ≡ x → (y : Bool) → is_column column b ≡ y → is_passed (is_equality s t) (comparison_term op a b x y) → HasValue env a → HasValue env b → EqualAsked (Compare op a b)
+      by_tests true e y f k (v, va) (w, vb) = (w, first_side op a b e ∙ ap (if_there (asked_by op)) vb ∙ equality_asks s column op b w k)
+      by_tests false e true f k (v, va) (w, vb) = (v, second_side op a b e f ∙ ap (if_there (asked_by (turned op))) va ∙ equality_asks s column (turned op) a v k)
+      by_tests false e false f k va vb = absurd (true≢false (sym k))
+  some_equal (Between false x low high) h there = never (is_column column x) h
+    where
+      never : (b : Bool) → is_passed (is_equality s t) (cond b (Some (ByBounds low high)) None) → EqualAsked (Between false x low high)
+      never true k = absurd (true≢false (sym k))
+      never false k = absurd (true≢false (sym k))
   some_equal _ h there = absurd (true≢false (sym h))
 
-  some_limit : (k : Condition) → limits_column s column k ≡ true → AllByRecursion (HasValue env) (values_of k) → SomeAsked k
-  some_limit (Compare LessThan a b) h there = pick (compared LessThan a b h there.0 there.1.0)
+  some_asked : (k : Condition) → says (is_range s t) column k ≡ true → AllByRecursion (HasValue env) (values_of k) → SomeAsked k
+  some_asked (Compare op a b) h there = by_tests (is_column column a) refl (is_column column b) refl h there.0 there.1.0
     where
-      pick : (v : Value) × ((scan_key_of env column (Compare LessThan a b) ≡ asked_by LessThan v) ⊎ (scan_key_of env column (Compare LessThan a b) ≡ asked_by GreaterThan v)) → SomeAsked (Compare LessThan a b)
-      pick (v, inl e) = (_, e)
-      pick (v, inr e) = (_, e)
-  some_limit (Compare GreaterThan a b) h there = pick (compared GreaterThan a b h there.0 there.1.0)
-    where
-      pick : (v : Value) × ((scan_key_of env column (Compare GreaterThan a b) ≡ asked_by GreaterThan v) ⊎ (scan_key_of env column (Compare GreaterThan a b) ≡ asked_by LessThan v)) → SomeAsked (Compare GreaterThan a b)
-      pick (v, inl e) = (_, e)
-      pick (v, inr e) = (_, e)
-  some_limit (Compare LessOrEquals a b) h there = pick (compared LessOrEquals a b h there.0 there.1.0)
-    where
-      pick : (v : Value) × ((scan_key_of env column (Compare LessOrEquals a b) ≡ asked_by LessOrEquals v) ⊎ (scan_key_of env column (Compare LessOrEquals a b) ≡ asked_by GreaterOrEquals v)) → SomeAsked (Compare LessOrEquals a b)
-      pick (v, inl e) = (_, e)
-      pick (v, inr e) = (_, e)
-  some_limit (Compare GreaterOrEquals a b) h there = pick (compared GreaterOrEquals a b h there.0 there.1.0)
-    where
-      pick : (v : Value) × ((scan_key_of env column (Compare GreaterOrEquals a b) ≡ asked_by GreaterOrEquals v) ⊎ (scan_key_of env column (Compare GreaterOrEquals a b) ≡ asked_by LessOrEquals v)) → SomeAsked (Compare GreaterOrEquals a b)
-      pick (v, inl e) = (_, e)
-      pick (v, inr e) = (_, e)
-  some_limit (Between false x low high) h there =
+      by_tests : (x : Bool) → is_column column a ≡ x → (y : Bool) → is_column column b ≡ y → is_passed (is_range s t) (comparison_term op a b x y) → HasValue env a → HasValue env b → SomeAsked (Compare op a b)
+      by_tests true e y f k (v, va) (w, vb) =
+          let (asked, is) = range_asks s column op b w k in
+          (asked, first_side op a b e ∙ ap (if_there (asked_by op)) vb ∙ is)
+      by_tests false e true f k (v, va) (w, vb) =
+          let (asked, is) = range_asks s column (turned op) a v k in
+          (asked, second_side op a b e f ∙ ap (if_there (asked_by (turned op))) va ∙ is)
+      by_tests false e false f k va vb = absurd (true≢false (sym k))
+  some_asked (Between false x low high) h there =
       let (v, vl) = there.1.0 in
       let (w, vh) = there.1.1.0 in
-      let one = both (is_column column x && is_known s t low) (is_known s t high) h in
-      let two = both (is_column column x) (is_known s t low) one.0 in
-      let range : Value → Value → Option ScanKey = λ v w. Some (InRange (Inclusive v) (Inclusive w)) in (
-        InRange (Inclusive v) (Inclusive w),
-        ap (λ b. cond b (if_there (λ v. if_there (range v) (value env high)) (value env low)) None) two.0 ∙ ap₂ (λ m n. if_there (λ v. if_there (range v) n) m) vl vh,
-      )
-  some_limit _ h there = absurd (true≢false (sym h))
-
-  some_asked : (k : Condition) → (equals_column s column k || limits_column s column k) ≡ true → AllByRecursion (HasValue env) (values_of k) → SomeAsked k
-  some_asked k h there = pick (either (equals_column s column k) (limits_column s column k) h)
-    where
-      pick : (equals_column s column k ≡ true) ⊎ (limits_column s column k ≡ true) → SomeAsked k
-      pick (inl i) = let (v, e) = some_equal k i there in (EqualTo v, e)
-      pick (inr i) = some_limit k i there
+      let (is_it, lacks, lacks') = bounds s column x low high h in
+      (InRange (Inclusive v) (Inclusive w), between_key x low high is_it ∙ ap₂ (λ m n. if_there (λ v. if_there (range_key v) n) m) vl vh)
+  some_asked _ h there = absurd (true≢false (sym h))
 
   module _ (exist : EarlyValuesExist context block composite) where
     equal_at : (g : ℕ) → equals_at block s column g ≡ true → (v : Value) × (asked_at context block composite t c g ≡ Some (EqualTo v))
     equal_at g h =
-        let (k, is, early, m) = early_is block (equals_column s column) g h in
+        let (k, is, early, m) = early_is block (says (is_equality s t) column) g h in
         let (v, e) = some_equal k m (exist g k is early) in
         (v, ap (option_and_then (scan_key_of env column)) is ∙ e)
 
     any_at : (g : ℕ) → matches_at block s column g ≡ true → (asked : ScanKey) × (asked_at context block composite t c g ≡ Some asked)
     any_at g h =
-        let (k, is, early, m) = early_is block (λ k. equals_column s column k || limits_column s column k) g h in
+        let (k, is, early, m) = early_is block (says (is_range s t) column) g h in
         let (asked, e) = some_asked k m (exist g k is early) in
         (asked, ap (option_and_then (scan_key_of env column)) is ∙ e)
 

@@ -14,6 +14,7 @@ use Rattle.definitions.specs.Queries.CanRaise.{can_raise}
 use Rattle.definitions.specs.Queries.Conjuncts.{conjuncts, tables_named}
 use Rattle.definitions.specs.Queries.Evaluation.{Combination, cell, value, truth}
 use Rattle.definitions.specs.Queries.Combinations.{Context, at, is_surely_true}
+use Rattle.definitions.specs.Estimates.Paths.{turned}
 use Rattle.definitions_execution.specs.Stored.{Composite}
 use Rattle.definitions_execution.specs.OfBlock.{combination_of, stored_of}
 
@@ -35,15 +36,6 @@ asked_by GreaterThan v = Some (InRange (Exclusive v) Unlimited)
 asked_by LessOrEquals v = Some (InRange Unlimited (Inclusive v))
 asked_by GreaterOrEquals v = Some (InRange (Inclusive v) Unlimited)
 
--- value op column is column op' value
-abbrev pub from_other_side : ComparisonOperator → ComparisonOperator
-from_other_side Equals = Equals
-from_other_side NotEquals = NotEquals
-from_other_side LessThan = GreaterThan
-from_other_side GreaterThan = LessThan
-from_other_side LessOrEquals = GreaterOrEquals
-from_other_side GreaterOrEquals = LessOrEquals
-
 -- a condition is true exactly where a column has what is asked of it
 abbrev pub AsksOf : Context → Combination → BlockColumn → Condition → ScanKey → Type 0
 AsksOf context combination column condition asked =
@@ -60,7 +52,7 @@ abbrev pub TurnedComparisonAsks : Type 0
 TurnedComparisonAsks =
     (context : Context) (combination : Combination) (column : BlockColumn) (type : SqlType) (op : ComparisonOperator)
     (e : ValueExpr) (v : Value) (asked : ScanKey)
-    → value (at context combination) e ≡ Is v → asked_by (from_other_side op) v ≡ Some asked
+    → value (at context combination) e ≡ Is v → asked_by (turned op) v ≡ Some asked
     → AsksOf context combination column (Compare op e (Column column type)) asked
 
 abbrev pub BetweenAsks : Type 0
@@ -92,7 +84,7 @@ module _ (context : Context) (block : Block) (composite : Composite) (table colu
       → ((type : SqlType) (op : ComparisonOperator) (e : ValueExpr) (v : Value) (asked : ScanKey) → IsKnownValue e v
       → asked_by op v ≡ Some asked → Asks (Compare op (Column key_column type) e) asked)
       × ((type : SqlType) (op : ComparisonOperator) (e : ValueExpr) (v : Value) (asked : ScanKey) → IsKnownValue e v
-      → asked_by (from_other_side op) v ≡ Some asked → Asks (Compare op e (Column key_column type)) asked)
+      → asked_by (turned op) v ≡ Some asked → Asks (Compare op e (Column key_column type)) asked)
       × ((type : SqlType) (e f : ValueExpr) (v w : Value) → IsKnownValue e v → IsKnownValue f w
       → Asks (Between false (Column key_column type) e f) (InRange (Inclusive v) (Inclusive w)))
 

@@ -10,7 +10,14 @@ use Rattle.plan_tree.specs.Sets.{set_of}
 use Rattle.estimate.specs.declared.plan_conjunct.PlanConjunct.{PlanConjunct}
 
 abbrev pub conjunct_of : PlanConjunct → spec.Conjunct
-conjunct_of c = record { early = c.early; tables = set_of c.tables; equated = option_map pair_of c.equated; selectivity = c.selectivity }
+conjunct_of c =
+    record {
+      early = c.early;
+      tables = set_of c.tables;
+      equated = option_map pair_of c.equated;
+      selectivity =
+          c.selectivity;
+    }
 
 abbrev pub condition_of_conjunct : PlanConjunct → Condition
 condition_of_conjunct c = condition_of c.condition.now

@@ -1,5 +1,6 @@
 -- The blocks of a statement that are ready to be evaluated.
-use Rattle.std.specs.Prelude.{ℕ, ◌<◌, ◌≡◌, sum_by, List, [], ◌∷◌, Option, None, Some, length, map, slice_get, IsPermutation}
+use Rattle.std.specs.Prelude.{ℕ, ◌<◌, ◌≡◌, sum_by, List, [], ◌∷◌, Option, None, Some, length, map, slice_get}
+use Rattle.std.specs.Prelude.{IsPermutation}
 use Rattle.definitions.specs.Arithmetic.{Meaning}
 use Rattle.definitions.specs.Table.{Database, Row}
 use Rattle.definitions.specs.Invariant.{IsDatabase}
@@ -58,7 +59,8 @@ IsReady query number r = IsReadyIn (database_in query) (blocks_in query) number 
 
 -- its plan is a least one, for which there is an exact certificate
 abbrev pub HasLeast : Database → ReadyBlock → Type 0
-HasLeast db r = (certificate : Certificate) × IsCertified (space_of current_version db (block_in r.source)) (plan_of r.plan) certificate
+HasLeast db r = (certificate : Certificate)
+    × IsCertified (space_of current_version db (block_in r.source)) (plan_of r.plan) certificate
 
 abbrev pub AreReady : List ReadyBlock → Type 0
 AreReady query = (number : ℕ) (r : ReadyBlock) → slice_get query number ≡ Some r → IsReady query number r
@@ -70,16 +72,20 @@ subqueries_of (Some r) = r.subqueries.items
 module _ (query : List ReadyBlock) where
   -- the total of a block in rows of the blocks around it
   abbrev pub total_at : List Combination → ℕ → ℕ
-  total_at outer number = total.totals current_version (database_in query) 0 (blocks_in query) (plans_in query) number outer
+  total_at outer number =
+      total.totals current_version (database_in query) 0 (blocks_in query) (plans_in query) number outer
 
   -- what was told last of a block is what it may tell there
   abbrev pub IsToldLast : List Combination → List KeptResults → ℕ → Type 0
-  IsToldLast outer results number = TellsRows (meanings (database_in query) 0 (blocks_in query) number outer) (told_by results number)
+  IsToldLast outer results number =
+      TellsRows (meanings (database_in query) 0 (blocks_in query) number outer) (told_by results number)
 
-  -- results that are kept are right wherever the parameters have their values, and there is a list of them for each block
+  -- results that are kept are right wherever the parameters have their values, and there is a list of them for each
+  -- block
   pub record AreRight (results : List KeptResults) : Type 0 where
     pub count : length results ≡ length query
-    pub each : (number : ℕ) (own : KeptResults) → slice_get results number ≡ Some own → AllKept (IsRight current_version (database_in query) (blocks_in query) (plans_in query) number) own
+    pub each : (number : ℕ) (own : KeptResults) → slice_get results number ≡ Some own
+        → AllKept (IsRight current_version (database_in query) (blocks_in query) (plans_in query) number) own
 
   -- of the blocks below a number nothing is told anew
   abbrev pub AreLeft : ℕ → List KeptResults → List KeptResults → Type 0

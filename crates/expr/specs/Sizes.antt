@@ -20,5 +20,6 @@ abbrev pub safe_size : ValueExpr → Option c.Size
 safe_size e = unless_raising (can_raise e) (size e)
 
 abbrev pub safe_joined : Operator → Option c.Size → Option c.Size → Option c.Size
-safe_joined operator (Some a) (Some b) = unless_raising (is_division operator || nat_lt 38 (joined_size operator a b).digits) (joined_size operator a b)
+safe_joined operator (Some a) (Some b) =
+    unless_raising (is_division operator || nat_lt 38 (joined_size operator a b).digits) (joined_size operator a b)
 safe_joined operator _ _ = None

@@ -43,7 +43,8 @@ abbrev pub arguments_in : List Environment → b.Aggregate → List (Meaning Val
 arguments_in envs f = map (λ env. argument_in env f) envs
 
 abbrev pub function_in : List Environment → b.Aggregate → Meaning Value
-function_in envs f = and_then (λ vs. aggregate (kind_of f) (taken (is_distinct f) vs)) (all_results (arguments_in envs f))
+function_in envs f =
+    and_then (λ vs. aggregate (kind_of f) (taken (is_distinct f) vs)) (all_results (arguments_in envs f))
 
 -- arguments have a shape, that of numbers for a sum
 abbrev pub IsShaped : List Environment → b.Aggregate → Type 0
@@ -54,8 +55,10 @@ pub record IsOf (envs : List Environment) (f : b.Aggregate) (a : Aggregation) : 
   pub kind : function_of a.running.function ≡ kind_of f
   pub distinct : is_some a.seen ≡ is_distinct f
   pub quiet : flat_map raises_of (arguments_in envs f) ≡ []
-  pub values : (shape : Shape) → Sums (kind_of f) shape → AllByRecursion (MeansShape shape) (arguments_in envs f) → Aggregates shape (taken false (results (arguments_in envs f))) a
+  pub values : (shape : Shape) → Sums (kind_of f) shape → AllByRecursion (MeansShape shape) (arguments_in envs f)
+      → Aggregates shape (taken false (results (arguments_in envs f))) a
 
 -- the same with the values of set functions
 abbrev pub with_functions : Environment → List Value → Environment
-with_functions env values = record { combination = env.combination; outer = env.outer; functions = map Is values; inner = env.inner }
+with_functions env values =
+    record { combination = env.combination; outer = env.outer; functions = map Is values; inner = env.inner }

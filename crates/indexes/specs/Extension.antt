@@ -1,5 +1,6 @@
 -- Indexes of a table that gets further rows.
-use Rattle.std.specs.Prelude.{ℕ, ◌≡◌, ◌<◌, true, List, [], Option, Some, None, nat_le, if◌then◌else◌, length, map, take, slice_get, slice_index_or, IsTrue, ⊤}
+use Rattle.std.specs.Prelude.{ℕ, ◌≡◌, ◌<◌, true, List, [], Option, Some, None, nat_le, if◌then◌else◌, length, map, take}
+use Rattle.std.specs.Prelude.{slice_get, slice_index_or, IsTrue, ⊤}
 use Rattle.std.specs.List.{AllByRecursion, AllZip}
 use Rattle.definitions.specs.Table.{Column, Row}
 use Rattle.definitions.specs.Key.{key_of, repeats, AreUnique}
@@ -16,11 +17,13 @@ pub record IsBeginningOf (width : ℕ) (rows : List Row) (i : StoredIndex) : Typ
 
 -- each index on the same columns, of all rows
 abbrev pub AreExtended : List Column → List Row → List StoredIndex → List StoredIndex → Type 0
-AreExtended columns rows = AllZip (λ (old new : StoredIndex). IsIndexOn columns rows old.index.columns old.index.unique new)
+AreExtended columns rows =
+    AllZip (λ (old new : StoredIndex). IsIndexOn columns rows old.index.columns old.index.unique new)
 
 -- no key of a unique index comes twice in the rows
 abbrev pub AreOnce : List Row → List StoredIndex → Type 0
-AreOnce rows = AllByRecursion (λ (i : StoredIndex). i.index.unique ≡ true → AreUnique (map (key_of i.index.columns) rows))
+AreOnce rows =
+    AllByRecursion (λ (i : StoredIndex). i.index.unique ≡ true → AreUnique (map (key_of i.index.columns) rows))
 
 abbrev pub row_of : List Row → ℕ → Row
 row_of rows row = slice_index_or rows row []
@@ -50,4 +53,5 @@ IsMemory e.Memory = ⊤
 -- of two repeated rows the one that stands first
 abbrev pub earlier_repeat : Option RepeatedRow → ℕ → RepeatedKey → RepeatedRow
 earlier_repeat None index key = record { index = index; row = key.row; earlier = key.earlier }
-earlier_repeat (Some r) index key = if nat_le r.row key.row then r else record { index = index; row = key.row; earlier = key.earlier }
+earlier_repeat (Some r) index key =
+    if nat_le r.row key.row then r else record { index = index; row = key.row; earlier = key.earlier }

@@ -22,14 +22,16 @@ pub record AreIndexColumns (width : ℕ) (numbers : List ℕ) : Type 0 where
   pub there : AllByRecursion (λ n. n < width) numbers
 
 -- the index on columns of a table's rows, with its statistics counted over them
-pub record IsIndexOn (columns : List Column) (rows : List Row) (numbers : List ℕ) (unique : Bool) (i : StoredIndex) : Type 0 where
+pub record IsIndexOn (columns : List Column) (rows : List Row) (numbers : List ℕ) (unique : Bool) (i : StoredIndex) :
+    Type 0 where
   pub is : i.index ≡ record { columns = numbers; unique = unique; statistics = index_statistics columns rows numbers }
   pub run : IsRun (map (key_of numbers) rows) i.entries
   pub once : unique ≡ true → AreUnique (map (key_of numbers) rows)
 
 -- why there is none: a key comes again, or memory was wanting
 abbrev pub RefusesIndexOn : List Row → List ℕ → Bool → UniqueFault → Type 0
-RefusesIndexOn rows numbers unique (u.Repeated repeated) = (unique ≡ true) × IsFirstRepeated (map (key_of numbers) rows) repeated
+RefusesIndexOn rows numbers unique (u.Repeated repeated) = (unique ≡ true)
+    × IsFirstRepeated (map (key_of numbers) rows) repeated
 RefusesIndexOn rows numbers unique u.Memory = ⊤
 
 -- an index has the first of some rows, as many as its entries

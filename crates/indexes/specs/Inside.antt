@@ -7,7 +7,12 @@ use Rattle.indexes.specs.declared.index.Index.TheInside.{Inside}
 
 abbrev pub stored_index : Inside → StoredIndex
 stored_index i = record {
-  index = record { columns = i.columns.items; unique = is_unique i.order; statistics = index_statistics_of i.statistics };
+  index = record {
+    columns = i.columns.items;
+    unique = is_unique i.order;
+    statistics =
+        index_statistics_of i.statistics;
+  };
   entries = (run_of i.order).entries;
 }
 

@@ -12,4 +12,5 @@ abbrev pub key_range_of : KeyRange → table.KeyRange
 key_range_of r = record { low = r.low; high = r.high }
 
 abbrev pub index_statistics_of : IndexStatistics → table.IndexStatistics
-index_statistics_of f = record { keys = f.keys; pages = f.pages; clustered = f.clustered; range = option_map key_range_of f.range }
+index_statistics_of f =
+    record { keys = f.keys; pages = f.pages; clustered = f.clustered; range = option_map key_range_of f.range }

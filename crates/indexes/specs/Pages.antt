@@ -13,5 +13,6 @@ paged_values keys = cells_of keys.values
 -- the first value of each page of 256
 pub record IsKeyColumn (keys : Inside) : Type 0 where
   pub pages : length (cells_of keys.heads).values ≡ div_ceil (length (cells_of keys.values).values) 256
-  pub heads : (page : ℕ) → page * 256 < length (cells_of keys.values).values → value_in (cells_of keys.heads) page ≡ value_in (cells_of keys.values) (page * 256)
+  pub heads : (page : ℕ) → page * 256 < length (cells_of keys.values).values
+      → value_in (cells_of keys.heads) page ≡ value_in (cells_of keys.values) (page * 256)
   pub held : AllByRecursion (IsHeld (cells_of keys.values).type) (cells_of keys.values).values

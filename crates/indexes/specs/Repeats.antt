@@ -1,5 +1,6 @@
 -- Keys that come twice.
-use Rattle.std.specs.Prelude.{ℕ, ◌<◌, List, [], take, length, slice_index_or, IsTrue, ◌+◌, ◌&&◌, not, nat_lt, if◌then◌else◌, Option, Some, None}
+use Rattle.std.specs.Prelude.{ℕ, ◌<◌, List, [], take, length, slice_index_or, IsTrue, ◌+◌, ◌&&◌, not, nat_lt}
+use Rattle.std.specs.Prelude.{if◌then◌else◌, Option, Some, None}
 use Rattle.std.specs.Ordering.{is_eq}
 use Rattle.columns.specs.Cells.{CellList}
 use Rattle.indexes.specs.Keys.{key_in}
@@ -26,7 +27,9 @@ IsMemory u.Memory = Unit {0}
 -- the row behind a place of an order of rows, where its key repeats that of the row at the place
 abbrev pub repeat_at : List CellList → List ℕ → ℕ → Option RepeatedKey
 repeat_at columns rows place =
-    if not (has_null (key_in columns (slice_index_or rows (place + 1) 0))) && is_eq (key_rank (key_in columns (slice_index_or rows place 0)) (key_in columns (slice_index_or rows (place + 1) 0)))
+    if not (has_null (key_in columns (slice_index_or rows (place + 1) 0)))
+    && is_eq (key_rank (key_in columns (slice_index_or rows place 0))
+    (key_in columns (slice_index_or rows (place + 1) 0)))
     then Some (record { row = slice_index_or rows (place + 1) 0; earlier = slice_index_or rows place 0 })
     else None
 

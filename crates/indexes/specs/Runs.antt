@@ -14,7 +14,8 @@ pub record Index : Type 0 where
 -- rows, with the keys that stand in columns from a place on
 abbrev pub entries_at : List CellList → ℕ → List ℕ → List Entry
 entries_at columns place [] = []
-entries_at columns place (row ∷ rows) = record { row = row; key = key_in columns place } ∷ entries_at columns (suc place) rows
+entries_at columns place (row ∷ rows) = record { row = row; key = key_in columns place }
+    ∷ entries_at columns (suc place) rows
 
 abbrev pub index_of : Inside → Index
 index_of run = record { types = types_of run.columns.items; entries = entries_at run.columns.items 0 run.rows.items }

@@ -31,7 +31,8 @@ pub record IsStretchOf (values : List Value) (entries : List Entry) (stretch : S
 
 -- a key has no null and differs from the one before it
 abbrev pub begins_anew : List Entry → ℕ → Bool
-begins_anew entries place = not (has_null (key_at entries place)) && (place == 0 || not (is_eq (key_rank (key_at entries (place - 1)) (key_at entries place))))
+begins_anew entries place = not (has_null (key_at entries place))
+    && (place == 0 || not (is_eq (key_rank (key_at entries (place - 1)) (key_at entries place))))
 
 -- from there on values aren't up to a limit any more
 abbrev pub turned_limit : Limit → Limit
@@ -41,4 +42,5 @@ turned_limit (Exclusive value) = Inclusive value
 
 -- in a stretch no value ranks after a later one
 abbrev pub AreInOrder : CellList → Stretch → Type 0
-AreInOrder column stretch = (i j : ℕ) → stretch.from ≤ i → i ≤ j → j < stretch.to → rank (value_in column i) (value_in column j) ≢ Greater
+AreInOrder column stretch = (i j : ℕ) → stretch.from ≤ i → i ≤ j → j < stretch.to
+    → rank (value_in column i) (value_in column j) ≢ Greater

@@ -1,5 +1,6 @@
 -- Orders that are added one after another, none twice.
-use Rattle.std.specs.Prelude.{ℕ, List, [], ◌∷◌, ◌++◌, nat_eq, if◌then◌else◌, length, map, flat_map, option_map, unwrap_or, slice_get}
+use Rattle.std.specs.Prelude.{ℕ, List, [], ◌∷◌, ◌++◌, nat_eq, if◌then◌else◌, length, map, flat_map, option_map}
+use Rattle.std.specs.Prelude.{unwrap_or, slice_get}
 use Rattle.definitions.specs.Table.{Index, Table}
 use Rattle.definitions.specs.Plans.Order.{Order}
 use Rattle.definitions.specs.Plans.Numbering.{number_of}

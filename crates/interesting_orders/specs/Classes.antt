@@ -16,14 +16,16 @@ sets_in c = 2 ^ c.tables
 
 -- no column stands in the list twice
 abbrev pub AreDistinct : List o.BlockColumn → Type 0
-AreDistinct columns = (i j : ℕ) → i < length columns → j < length columns → column_at columns i ≡ column_at columns j → i ≡ j
+AreDistinct columns = (i j : ℕ) → i < length columns → j < length columns → column_at columns i ≡ column_at columns j
+    → i ≡ j
 
 abbrev pub no_equation : Equality
 no_equation = record { left = 0; right = 0 }
 
 -- an equation says that two columns are equal
 abbrev pub Says : List o.BlockColumn → Equality → (a b : o.BlockColumn) → Type 0
-Says columns e a b = ((column_at columns e.left ≡ a) × (column_at columns e.right ≡ b)) ⊎ ((column_at columns e.left ≡ b) × (column_at columns e.right ≡ a))
+Says columns e a b = ((column_at columns e.left ≡ a) × (column_at columns e.right ≡ b))
+    ⊎ ((column_at columns e.left ≡ b) × (column_at columns e.right ≡ a))
 
 -- the equations are those of the early conjuncts
 pub record AreEquations (space : Space) (columns : List o.BlockColumn) (equations : List Equality) : Type 0 where
@@ -35,4 +37,5 @@ pub record AreEquations (space : Space) (columns : List o.BlockColumn) (equation
 abbrev pub AreClasses : Space → List o.BlockColumn → EquivalenceClasses → Type 0
 AreClasses space columns c =
     (set i j : ℕ) → set < sets_in c → i < length columns → j < length columns
-    → (label_at c.labels.items (set * c.columns + i) ≡ label_at c.labels.items (set * c.columns + j)) ↔ SameClass space set (column_at columns i) (column_at columns j)
+    → (label_at c.labels.items (set * c.columns + i) ≡ label_at c.labels.items (set * c.columns + j))
+    ↔ SameClass space set (column_at columns i) (column_at columns j)

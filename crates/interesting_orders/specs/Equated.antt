@@ -45,5 +45,7 @@ IsLead e order lead = IsPlaceOf (columns_of e) (leading_of order) lead
 -- the two columns of a merge conjunct, the inner one being of the table
 abbrev pub AreSides : Space → EquatedColumns → ℕ → ℕ → Option MergeSides → Type 0
 AreSides space e number table None = (x y : BlockColumn) → IsMergeConjunct space number x y → y.table ≡ table → ⊥
-AreSides space e number table (Some s) = IsMergeConjunct space number (column_in e s.outer) (column_in e s.inner) × ((column_in e s.inner).table ≡ table)
-    × ((x y : BlockColumn) → IsMergeConjunct space number x y → y.table ≡ table → (x ≡ column_in e s.outer) × (y ≡ column_in e s.inner))
+AreSides space e number table (Some s) = IsMergeConjunct space number (column_in e s.outer) (column_in e s.inner)
+    × ((column_in e s.inner).table ≡ table)
+    × ((x y : BlockColumn) → IsMergeConjunct space number x y → y.table ≡ table → (x ≡ column_in e s.outer)
+    × (y ≡ column_in e s.inner))

@@ -1,5 +1,6 @@
 -- The orders of keys, of columns and of indexes.
-use Rattle.std.specs.Prelude.{ℕ, Bool, List, [], ◌∷◌, Option, Some, None, if◌then◌else◌, is_some, map, filter_map, position}
+use Rattle.std.specs.Prelude.{ℕ, Bool, List, [], ◌∷◌, Option, Some, None, if◌then◌else◌, is_some, map, filter_map}
+use Rattle.std.specs.Prelude.{position}
 use Rattle.std.specs.List.{list_all}
 use Rattle.definitions.specs.Table.{Table, is_on}
 use Rattle.definitions.specs.Plans.Order as o
@@ -10,7 +11,8 @@ use Rattle.query_tree.specs.declared.leaf.BlockColumn.{BlockColumn}
 
 -- that of ORDER BY, if its keys are all columns
 abbrev pub order_by : List Item → List OrderKey → o.Order
-order_by items keys = if list_all (λ key. is_some (sort_key items key)) keys then filter_map (sort_key items) keys else []
+order_by items keys =
+    if list_all (λ key. is_some (sort_key items key)) keys then filter_map (sort_key items) keys else []
 
 -- the two of a merge, each ascending
 abbrev pub column_orders : Option (BlockColumn × BlockColumn) → List o.Order

@@ -32,7 +32,8 @@ AreSound space tables columns labels =
 -- an equation whose tables are all in a set joins its columns
 abbrev pub Joins : TableSet → List o.BlockColumn → List ℕ → Equality → Type 0
 Joins tables columns labels e =
-    Has tables (column_at columns e.left).table → Has tables (column_at columns e.right).table → label_at labels e.left ≡ label_at labels e.right
+    Has tables (column_at columns e.left).table → Has tables (column_at columns e.right).table
+    → label_at labels e.left ≡ label_at labels e.right
 
 -- an early conjunct of the block says it
 abbrev pub Holds : Space → List o.BlockColumn → Equality → Type 0

@@ -33,7 +33,8 @@ module _ (space : Space) where
 
   abbrev pub IsWithSide : TableSet → (lead from to : BlockColumn) → (before after : Option TableSet) → Type 0
   IsWithSide tables lead from to before after =
-      (OpensSide tables lead from to × (after ≡ reached before to.table)) ⊎ ((OpensSide tables lead from to → ⊥) × (after ≡ before))
+      (OpensSide tables lead from to × (after ≡ reached before to.table))
+      ⊎ ((OpensSide tables lead from to → ⊥) × (after ≡ before))
 
   -- an order of a set's plans goes by the column in the set of a merge conjunct, whose other column is of the table
   abbrev pub GoesBy : TableSet → OrderNumber → ℕ → ℕ → Type 0
@@ -43,4 +44,5 @@ module _ (space : Space) where
   -- the other table of a merge conjunct, by which a table comes next
   abbrev pub IsMergedWith : ℕ → ℕ → Option ℕ → Type 0
   IsMergedWith number table None = (x y : BlockColumn) → IsMergeConjunct space number x y → y.table ≡ table → ⊥
-  IsMergedWith number table (Some other) = (x : BlockColumn) × (y : BlockColumn) × IsMergeConjunct space number x y × (y.table ≡ table) × (x.table ≡ other)
+  IsMergedWith number table (Some other) = (x : BlockColumn) × (y : BlockColumn) × IsMergeConjunct space number x y
+      × (y.table ≡ table) × (x.table ≡ other)

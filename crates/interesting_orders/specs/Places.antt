@@ -1,5 +1,6 @@
 -- The columns that conjuncts equate, and their places in a list.
-use Rattle.std.specs.Prelude.{ℕ, ◌<◌, ◌≤◌, ◌≡◌, ⊤, List, Option, Some, None, if◌then◌else◌, length, slice_get, filter_map}
+use Rattle.std.specs.Prelude.{ℕ, ◌<◌, ◌≤◌, ◌≡◌, ⊤, List, Option, Some, None, if◌then◌else◌, length, slice_get}
+use Rattle.std.specs.Prelude.{filter_map}
 use Rattle.std.specs.Option.{ForSome}
 use Rattle.definitions.specs.Plans.Order.{BlockColumn}
 use Rattle.definitions.specs.Plans.Conjunct.{Conjunct}
@@ -27,7 +28,8 @@ HasSides columns (Some (x, y)) = HasColumn columns x × HasColumn columns y
 
 -- those of all conjuncts are there
 abbrev pub HaveSides : List BlockColumn → List Conjunct → Type 0
-HaveSides columns conjuncts = (number : ℕ) (c : Conjunct) → slice_get conjuncts number ≡ Some c → HasSides columns (sides_of c)
+HaveSides columns conjuncts = (number : ℕ) (c : Conjunct) → slice_get conjuncts number ≡ Some c
+    → HasSides columns (sides_of c)
 
 -- columns are added at the end, none twice
 pub record IsGrown (old new : List BlockColumn) : Type 0 where
@@ -41,7 +43,8 @@ abbrev pub IsEquation : List BlockColumn → Option (BlockColumn × BlockColumn)
 IsEquation columns None None = ⊤
 IsEquation columns None (Some e) = ⊥
 IsEquation columns (Some (x, y)) None = HasSides columns (Some (x, y)) → ⊥
-IsEquation columns (Some (x, y)) (Some e) = IsBetween (length columns) e × (column_at columns e.left ≡ x) × (column_at columns e.right ≡ y)
+IsEquation columns (Some (x, y)) (Some e) = IsBetween (length columns) e × (column_at columns e.left ≡ x)
+    × (column_at columns e.right ≡ y)
 
 abbrev pub AreBetween : ℕ → Option Equality → Type 0
 AreBetween count e = ForSome e (IsBetween count)

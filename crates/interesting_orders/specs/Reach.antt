@@ -19,4 +19,5 @@ is_reached (Some tables) set = is_within tables set
 -- the tables are those of which something holds; none, where it holds of one that no set has
 abbrev pub AreThose : (ℕ → Type 0) → Option TableSet → Type 0
 AreThose Those None = (table : ℕ) × (most_from_tables ≤ table) × Those table
-AreThose Those (Some tables) = ((table : ℕ) → Has tables table → Those table) × ((table : ℕ) → Those table → Has tables table)
+AreThose Those (Some tables) = ((table : ℕ) → Has tables table → Those table)
+    × ((table : ℕ) → Those table → Has tables table)

@@ -15,7 +15,8 @@ tables_of_use u = option_map set_of u.tables
 -- of orders that count on from a number, those whose tables are all in a set
 abbrev pub open_orders : TableSet → ℕ → List (Option TableSet) → List ℕ
 open_orders set number [] = []
-open_orders set number (tables ∷ rest) = if is_reached tables set then number ∷ open_orders set (number + 1) rest else open_orders set (number + 1) rest
+open_orders set number (tables ∷ rest) = if is_reached tables set then number
+    ∷ open_orders set (number + 1) rest else open_orders set (number + 1) rest
 
 -- all orders that rows of the set can be sorted into, each once
 pub record AreSorts (space : Space) (set : TableSet) (orders : List ℕ) : Type 0 where

@@ -27,7 +27,8 @@ pub record IsUse (space : Space) (e : EquatedColumns) (order : Order) (u : Order
 
 -- the same of all tables and the order that is asked for
 abbrev pub IsUseOf : EquatedColumns → TableSet → Order → Order → OrderUse → Type 0
-IsUseOf e tables required order u = (space : Space) → AreEquated space e → whole space ≡ tables → space.required ≡ required → IsUse space e order u
+IsUseOf e tables required order u = (space : Space) → AreEquated space e → whole space ≡ tables
+    → space.required ≡ required → IsUse space e order u
 
 abbrev pub AreUsesOf : EquatedColumns → TableSet → Order → List Order → List OrderUse → Type 0
 AreUsesOf e tables required = AreEach (λ (order : Order) (u : OrderUse). IsUseOf e tables required order u)

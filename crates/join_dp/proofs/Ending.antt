@@ -26,6 +26,7 @@ use Rattle.join_dp.specs.Steps.{Loop, Merge, Step, AccessOf, JoinOn, Candidate}
 use Rattle.join_dp.proofs.Entries.{entries_count}
 use Rattle.join_dp.proofs.Found.{filled_within}
 use Rattle.join_dp.proofs.Growing.{all_told, told_each, all_made, starts_grow}
+use Rattle.definitions.proofs.PlanTheory.Rules.{together}
 use Rattle.definitions.proofs.PlanTheory.Orders.{state_over}
 use Rattle.join_dp.proofs.Planning.{planned}
 use Rattle.join_dp.proofs.RowSteps.{listed_at, none_solved, row_step_told}
@@ -109,12 +110,11 @@ module _ (space : Space) where
       rising = v.rising;
     };
     attained = λ s k c there. of_place s k c (listed_at states s k c there);
-    accesses = λ path folded lt there folds. v.accesses path folded lt (pow-lt lt) there folds;
-    joins = (
-      λ s k path folded listed can folds. v.joins s k (Loop path) folded (next_within (told_all states) v s k (table_of path) listed can.0.0) listed can folds,
-      λ s k number inner folded listed can folds. v.joins s k (Merge number inner) folded (next_within (told_all states) v s k (table_of inner.path) listed can.0.0) listed can folds,
-    );
-    sorts = v.sorts;
+    comparisons = together space (as_bounds (told_all states))
+        (λ path folded lt there folds. v.accesses path folded lt (pow-lt lt) there folds)
+        (λ s k path folded listed can folds. v.joins s k (Loop path) folded (next_within (told_all states) v s k (table_of path) listed can.0.0) listed can folds)
+        (λ s k number inner folded listed can folds. v.joins s k (Merge number inner) folded (next_within (told_all states) v s k (table_of inner.path) listed can.0.0) listed can folds)
+        v.sorts;
   }
     where
       of_place : (s k c : ℕ) → (i : ℕ) × (i < length states) × (told (at states i) ≡ record { tables = s; order = k; cost = c }) → (p : Plan) × IsOn space s k p × (cost_of space p ≡ c)

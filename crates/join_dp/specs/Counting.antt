@@ -10,19 +10,25 @@ use Rattle.interesting_orders.specs.Sorts.{AreSorts}
 
 -- a set has at most so many states, by where the sets begin
 abbrev pub AreFew : ℕ → List ℕ → Type 0
-AreFew most starts = (tables : ℕ) → tables + 1 < length starts → get_or starts (tables + 1) 0 ≤ get_or starts tables 0 + most
+AreFew most starts = (tables : ℕ) → tables + 1 < length starts
+    → get_or starts (tables + 1) 0 ≤ get_or starts tables 0 + most
 
 module _ (space : Space) (sorts : TableSet → ℕ) (joins : TableSet → ℕ → ℕ) where
   -- no more sorts of a set, and joins of it with a table that may follow, than so many
   pub record AreCounts : Type 0 where
-    pub of_sorts : (tables : TableSet) (orders : List OrderNumber) → AreSorts space tables orders → length orders ≤ sorts tables
-    pub of_joins : (tables : TableSet) (table : ℕ) (merges : List CostedMerge) → MayFollow space tables table → AreMerges space tables table merges
+    pub of_sorts : (tables : TableSet) (orders : List OrderNumber) → AreSorts space tables orders
+        → length orders ≤ sorts tables
+    pub of_joins : (tables : TableSet) (table : ℕ) (merges : List CostedMerge) → MayFollow space tables table
+        → AreMerges space tables table merges
         → length (space.paths tables table) + length merges ≤ joins tables table
 
-  -- the steps by which a table comes last to a set: its accesses, or its joins on top of each state of the set without it
+  -- the steps by which a table comes last to a set: its accesses, or its joins on top of each state of the set without
+  -- it
   abbrev pub most_last : TableSet → ℕ → ℕ
   most_last tables table =
-      if has tables table then (if tables - 2 ^ table == no_tables then length (space.paths no_tables table) else length space.orders * joins (tables - 2 ^ table) table)
+      if has tables table then (if tables - 2 ^ table ==
+      no_tables then length (space.paths no_tables table) else length space.orders * joins (tables - 2 ^ table)
+      table)
       else 0
 
   -- of the first tables

@@ -15,13 +15,15 @@ module _ (space : Space) (states : List Solved) where
   abbrev pub IsCheapestAmong : ℕ → ℕ → Option ℕ → Type 0
   IsCheapestAmong start end None = (place : ℕ) → start ≤ place → place < end → GivesAt place → ⊥
   IsCheapestAmong start end (Some best) = (start ≤ best) × (best < end) × GivesAt best
-      × ((place : ℕ) → start ≤ place → place < end → GivesAt place → (at states best).found.cost ≤ (at states place).found.cost)
+      × ((place : ℕ) → start ≤ place → place < end → GivesAt place
+      → (at states best).found.cost ≤ (at states place).found.cost)
 
   -- the same among those of all tables
   abbrev pub IsCheapestOf : Option ℕ → Type 0
   IsCheapestOf None = (place : ℕ) → place < length states → (at states place).tables ≡ whole space → GivesAt place → ⊥
   IsCheapestOf (Some best) = (best < length states) × ((at states best).tables ≡ whole space) × GivesAt best
-      × ((place : ℕ) → place < length states → (at states place).tables ≡ whole space → GivesAt place → (at states best).found.cost ≤ (at states place).found.cost)
+      × ((place : ℕ) → place < length states → (at states place).tables ≡ whole space → GivesAt place
+      → (at states best).found.cost ≤ (at states place).found.cost)
 
 -- so many states of the space there are, at least, each with a folded order and none twice
 abbrev pub AreSolutions : Space → ℕ → Type 0

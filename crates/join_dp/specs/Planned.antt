@@ -17,9 +17,11 @@ AreFromBefore states = (place : ℕ) → place < length states → IsFromBefore 
 module _ (space : Space) (states : List Solved) where
   -- a plan of the state at a place, at its cost
   abbrev pub IsPlanAt : ℕ → Plan → Type 0
-  IsPlanAt place plan = IsPlanOf space (at states place).tables (at states place).order (at states place).found.cost plan
+  IsPlanAt place plan =
+      IsPlanOf space (at states place).tables (at states place).order (at states place).found.cost plan
 
   -- a plan of whatever its last step makes
   abbrev pub IsStepPlanAt : ℕ → Plan → Type 0
-  IsStepPlanAt place plan = (order cost : ℕ) → StepMakes space states place (at states place).tables order cost (at states place).found.step
+  IsStepPlanAt place plan = (order cost : ℕ)
+      → StepMakes space states place (at states place).tables order cost (at states place).found.step
       → IsStepOf space (at states place).tables order cost plan

@@ -41,11 +41,13 @@ abbrev pub one_step_more : ℕ → ℕ
 one_step_more steps = min (steps + 1) (2 ^ 64 - 1)
 
 abbrev pub offered : SetCandidates → OrderNumber → Candidate → SetCandidates
-offered candidates order candidate = record { found = improved candidates.found order candidate; steps = one_step_more candidates.steps }
+offered candidates order candidate =
+    record { found = improved candidates.found order candidate; steps = one_step_more candidates.steps }
 
 -- each plan fits its order
 abbrev pub EachFits : (OrderNumber → Candidate → Type 0) → List (Option Candidate) → Type 0
-EachFits Fits found = (order : OrderNumber) (candidate : Candidate) → found_at found order ≡ Some candidate → Fits order candidate
+EachFits Fits found = (order : OrderNumber) (candidate : Candidate) → found_at found order ≡ Some candidate
+    → Fits order candidate
 
 -- no cost has risen
 pub record Below (new old : List (Option Candidate)) : Type 0 where

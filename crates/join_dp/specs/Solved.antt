@@ -23,14 +23,20 @@ pub record IsSolvedBelow (space : Space) (count : TableSet) (states : List State
   pub tables : All (λ (state : StateCost). (0 < state.tables) × (state.tables ≤ whole space)) states
   pub rising : AreRising states
   pub below : All (λ (state : StateCost). state.tables < count) states
-  pub accesses : (path : Path) (folded : OrderNumber) → table_of path < space.table_count → only (table_of path) < count → IsPath space no_tables path
-      → Folds space (only (table_of path)) (space.path_order path) folded → bound (as_bounds states) (only (table_of path)) folded ≤ space.path_cost no_tables path
-  pub joins : (tables : TableSet) (order : OrderNumber) (join : Join) (folded : OrderNumber) → with_table tables (table_in join) < count
-      → IsListed (as_bounds states) tables order → CanJoin space tables order join → Folds space (with_table tables (table_in join)) order folded
-      → bound (as_bounds states) (with_table tables (table_in join)) folded ≤ saturated (bound (as_bounds states) tables order + join_cost space tables join)
+  pub accesses : (path : Path) (folded : OrderNumber) → table_of path < space.table_count → only (table_of path) < count
+      → IsPath space no_tables path
+      → Folds space (only (table_of path)) (space.path_order path) folded
+      → bound (as_bounds states) (only (table_of path)) folded ≤ space.path_cost no_tables path
+  pub joins : (tables : TableSet) (order : OrderNumber) (join : Join) (folded : OrderNumber)
+      → with_table tables (table_in join) < count
+      → IsListed (as_bounds states) tables order → CanJoin space tables order join
+      → Folds space (with_table tables (table_in join)) order folded
+      → bound (as_bounds states) (with_table tables (table_in join)) folded ≤ saturated
+      (bound (as_bounds states) tables order + join_cost space tables join)
   pub sorts : (tables : TableSet) (order into folded : OrderNumber)
       → IsListed (as_bounds states) tables order → CanSort space tables into → Folds space tables into folded
-      → bound (as_bounds states) tables folded ≤ saturated (bound (as_bounds states) tables order + space.sort_cost tables)
+      → bound (as_bounds states) tables folded ≤ saturated
+      (bound (as_bounds states) tables order + space.sort_cost tables)
 
 -- with the steps that made them, and where their sets begin, up to the next set
 pub record AreSolvedBelow (space : Space) (count : TableSet) (states : List Solved) (starts : List ℕ) : Type 0 where

@@ -22,13 +22,21 @@ told state = record { tables = state.tables; order = state.order; cost = state.f
 
 -- the state at a place
 abbrev pub at : List Solved → ℕ → Solved
-at states place = get_or states place (record { tables = no_tables; order = 0; found = record { step = AccessOf (SegmentScan 0); sorted = None; cost = 0 } })
+at states place =
+    get_or states place
+    (record {
+      tables = no_tables;
+      order = 0;
+      found =
+          record { step = AccessOf (SegmentScan 0); sorted = None; cost = 0 };
+    })
 
 -- the states of a row, whose orders count from a number
 abbrev pub entries_from : TableSet → OrderNumber → List (Option Candidate) → List Solved
 entries_from tables order [] = []
 entries_from tables order (None ∷ found) = entries_from tables (order + 1) found
-entries_from tables order (Some candidate ∷ found) = record { tables = tables; order = order; found = candidate } ∷ entries_from tables (order + 1) found
+entries_from tables order (Some candidate ∷ found) = record { tables = tables; order = order; found = candidate }
+    ∷ entries_from tables (order + 1) found
 
 module _ (space : Space) where
   -- no access leads below the costs of a row
@@ -38,26 +46,32 @@ module _ (space : Space) where
 
   -- no sort does
   abbrev pub LowBySorts : TableSet → List (Option Candidate) → Type 0
-  LowBySorts tables found = (order into folded : OrderNumber) → cost_at found order ≤ limit → CanSort space tables into → Folds space tables into folded
+  LowBySorts tables found = (order into folded : OrderNumber) → cost_at found order ≤ limit → CanSort space tables into
+      → Folds space tables into folded
       → cost_at found folded ≤ saturated (cost_at found order + space.sort_cost tables)
 
   -- into each order there is a plan of that cost or less
   abbrev pub SortsAreLow : TableSet → ℕ → List (Option Candidate) → Type 0
-  SortsAreLow tables cost found = (into folded : OrderNumber) → CanSort space tables into → Folds space tables into folded → cost_at found folded ≤ cost
+  SortsAreLow tables cost found = (into folded : OrderNumber) → CanSort space tables into
+      → Folds space tables into folded → cost_at found folded ≤ cost
 
 module _ (space : Space) (states : List Solved) where
   -- the step leads to the state at that cost, a join from one of the first states
   abbrev pub StepMakes : ℕ → TableSet → OrderNumber → ℕ → Step → Type 0
-  StepMakes first tables order cost (AccessOf path) = (table_of path < space.table_count) × IsPath space no_tables path × (tables ≡ only (table_of path))
+  StepMakes first tables order cost (AccessOf path) = (table_of path < space.table_count) × IsPath space no_tables path
+      × (tables ≡ only (table_of path))
       × Folds space tables (space.path_order path) order × (cost ≡ space.path_cost no_tables path)
-  StepMakes first tables order cost (JoinOn from join) = (from < first) × CanJoin space (at states from).tables (at states from).order join
+  StepMakes first tables order cost (JoinOn from join) = (from < first)
+      × CanJoin space (at states from).tables (at states from).order join
       × (tables ≡ with_table (at states from).tables (table_in join))
-      × Folds space tables (at states from).order order × (cost ≡ saturated ((at states from).found.cost + join_cost space (at states from).tables join))
+      × Folds space tables (at states from).order order
+      × (cost ≡ saturated ((at states from).found.cost + join_cost space (at states from).tables join))
 
   -- the step and the sort behind it, if there is one
   abbrev pub SortMakes : ℕ → TableSet → OrderNumber → ℕ → Step → Option OrderNumber → Type 0
   SortMakes first tables order cost step None = StepMakes first tables order cost step
-  SortMakes first tables order cost step (Some into) = (before : OrderNumber) × (less : ℕ) × StepMakes first tables before less step
+  SortMakes first tables order cost step (Some into) = (before : OrderNumber) × (less : ℕ)
+      × StepMakes first tables before less step
       × CanSort space tables into × Folds space tables into order × (cost ≡ saturated (less + space.sort_cost tables))
 
   abbrev pub Makes : ℕ → TableSet → OrderNumber → Candidate → Type 0
@@ -84,17 +98,20 @@ module _ (space : Space) (states : List Solved) where
 
   -- a join on top of the state at a place doesn't lead below the costs of a row
   abbrev pub LowByJoinOn : TableSet → ℕ → Join → ℕ → List (Option Candidate) → Type 0
-  LowByJoinOn tables table join place found = (folded : OrderNumber) → GoesWith space tables (at states place).order table join
+  LowByJoinOn tables table join place found = (folded : OrderNumber)
+      → GoesWith space tables (at states place).order table join
       → Folds space (with_table tables table) (at states place).order folded
       → cost_at found folded ≤ saturated ((at states place).found.cost + join_cost space tables join)
 
   -- nor on top of any state of the set
   abbrev pub LowByJoin : TableSet → ℕ → Join → List (Option Candidate) → Type 0
-  LowByJoin tables table join found = (place : ℕ) → place < length states → (at states place).tables ≡ tables → LowByJoinOn tables table join place found
+  LowByJoin tables table join found = (place : ℕ) → place < length states → (at states place).tables ≡ tables
+      → LowByJoinOn tables table join place found
 
   -- a join with the table that adds so much or more to the costs of plans doesn't
   abbrev pub LowByDearer : TableSet → ℕ → ℕ → List (Option Candidate) → Type 0
-  LowByDearer tables table cost found = (join : Join) → cost ≤ join_cost space tables join → LowByJoin tables table join found
+  LowByDearer tables table cost found = (join : Join) → cost ≤ join_cost space tables join
+      → LowByJoin tables table join found
 
   -- a step by which a table comes last
   pub record LowByLast (next : TableSet) (table : ℕ) (found : List (Option Candidate)) : Type 0 where

@@ -1,5 +1,6 @@
 -- What the lexemes of this crate stand for, and what begins a text.
-use Rattle.std.specs.Prelude.{ℕ, ◌≤◌, ◌≡◌, List, [], ◌∷◌, ◌++◌, Option, Some, Result, Ok, Err, Bool, false, ◌&&◌, ◌||◌, ◌==◌, IsTrue, length, take, drop, option_map, unwrap_or, if◌then◌else◌}
+use Rattle.std.specs.Prelude.{ℕ, ◌≤◌, ◌≡◌, List, [], ◌∷◌, ◌++◌, Option, Some, Result, Ok, Err, Bool, false, ◌&&◌, ◌||◌}
+use Rattle.std.specs.Prelude.{◌==◌, IsTrue, length, take, drop, option_map, unwrap_or, if◌then◌else◌}
 use Rattle.definitions.specs.Characters.{minus_sign, period, underscore, is_letter, is_digit, is_blank}
 use Rattle.definitions.specs.Token as token
 use Rattle.definitions.specs.Lexing as lexing
@@ -45,7 +46,8 @@ begins_comment _ = false
 
 -- what a byte is that begins no longer lexeme
 abbrev pub lexeme_of_byte : ℕ → lexing.Lexeme
-lexeme_of_byte c = unwrap_or (option_map lexing.Sign (lexing.symbol (c ∷ []))) (if is_blank c then lexing.Gap else lexing.Stray)
+lexeme_of_byte c =
+    unwrap_or (option_map lexing.Sign (lexing.symbol (c ∷ []))) (if is_blank c then lexing.Gap else lexing.Stray)
 
 -- no text that goes on with the next byte is a number
 abbrev pub EndsNumeral : (own rest : List ℕ) → Type 0
@@ -59,6 +61,8 @@ pub record IsNumeralLength (text : List ℕ) (n : ℕ) : Type 0 where
   pub longest : EndsNumeral (take n text) (drop n text)
 
 -- the token, the gap or the fault that a lexeme at a place is told as
-abbrev pub outcome_of : (start : ℕ) → (own : List ℕ) → Result (Option TokenKind) LexFault → Option (Result (Option token.Token) lexing.LexFault)
-outcome_of start own (Ok kind) = Some (Ok (option_map (λ (k : TokenKind). record { at = start; text = own; kind = kind_of own k }) kind))
+abbrev pub outcome_of : (start : ℕ) → (own : List ℕ) → Result (Option TokenKind) LexFault
+    → Option (Result (Option token.Token) lexing.LexFault)
+outcome_of start own (Ok kind) =
+    Some (Ok (option_map (λ (k : TokenKind). record { at = start; text = own; kind = kind_of own k }) kind))
 outcome_of start own (Err fault) = option_map Err (fault_of fault)

@@ -99,7 +99,8 @@ numeral_parts n = (n.units, n.digits, n.fraction)
 abbrev pub kind_of : (text : List ℕ) → TokenKind → token.TokenKind
 kind_of text (k.Reserved word) = token.Reserved (word_of word)
 kind_of text k.Name = token.Name (folded text)
-kind_of text k.Numeral = token.Numeral (digits_value 10 (lexing.digits_of text)) (length (lexing.digits_of text)) (lexing.behind_point text)
+kind_of text k.Numeral =
+    token.Numeral (digits_value 10 (lexing.digits_of text)) (length (lexing.digits_of text)) (lexing.behind_point text)
 kind_of text k.String = token.String (quoted_text text)
 kind_of text (k.Mark symbol) = token.Mark (symbol_of symbol)
 
@@ -117,7 +118,8 @@ kinds_of tokens = kinds (tokens_of tokens)
 abbrev pub AreSlices : (script : List ℕ) → (from : ℕ) → List Token → Type 0
 AreSlices script from [] = ⊤
 AreSlices script from (t ∷ ts) =
-    (from ≤ t.start) × (slice_range script t.start (t.start + length t.text.now) ≡ t.text.now) × AreSlices script (t.start + length t.text.now) ts
+    (from ≤ t.start) × (slice_range script t.start (t.start + length t.text.now) ≡ t.text.now)
+    × AreSlices script (t.start + length t.text.now) ts
 
 -- the lexical fault that an error tells; none where memory was wanting
 abbrev pub fault_of : LexFault → Option lexing.LexFault

@@ -10,7 +10,8 @@ use Rattle.loading.specs.declared.fault.PushFault.TheVariants as p
 
 -- one more cell has the value that a field loads as
 abbrev pub PushesField : List ℕ → CellList → CellList → Type 0
-PushesField field old new = (v : Value) × FieldLoads old.type field (Ok v) × (new ≡ record old { values = old.values ++ v ∷ [] })
+PushesField field old new = (v : Value) × FieldLoads old.type field (Ok v)
+    × (new ≡ record old { values = old.values ++ v ∷ [] })
 
 -- the fault of a push has a property, if it is not want of memory
 abbrev pub IfRefused : {F : Type 0} → (F → Type 0) → PushFault F → Type 0

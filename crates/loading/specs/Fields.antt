@@ -14,7 +14,8 @@ number_of w = Number (negated w.negative (pos w.digits)) w.scale
 
 -- a field writes this number, of not too many digits
 abbrev pub WritesShort : List ℕ → WrittenNumber → Type 0
-WritesShort field w = (digits : ℕ) × WritesNumber field (number_of w) digits × (digits ≤ most_digits) × (w.digits < 10 ^ most_digits) × (w.scale ≤ most_digits)
+WritesShort field w = (digits : ℕ) × WritesNumber field (number_of w) digits × (digits ≤ most_digits)
+    × (w.digits < 10 ^ most_digits) × (w.scale ≤ most_digits)
 
 -- why a field writes no such number
 abbrev pub WritesNone : List ℕ → FieldFault → Type 0
@@ -32,7 +33,8 @@ Stores type field w = (v : Value) × (digits : ℕ) × Writes (kind_of type) fie
 
 -- a field writes a value, and none that the type has is equal to it
 abbrev pub Unfit : SqlType → List ℕ → Type 0
-Unfit type field = (v : Value) × (digits : ℕ) × Writes (kind_of type) field v digits × ((w : Value) → StoresAs type v digits w → ⊥)
+Unfit type field = (v : Value) × (digits : ℕ) × Writes (kind_of type) field v digits
+    × ((w : Value) → StoresAs type v digits w → ⊥)
 
 -- why it is not stored
 abbrev pub StoresNone : SqlType → List ℕ → FieldError → Type 0

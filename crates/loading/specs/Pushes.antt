@@ -8,15 +8,18 @@ use Rattle.loading.specs.declared.pushed.Pushed.{Pushed}
 use Rattle.loading.specs.declared.pushed.StopReason.{StopReason}
 use Rattle.loading.specs.declared.pushed.StopReason.TheVariants as stop
 
--- why no more records than so many become rows, where there is room for some: none is left, the next is no row, or there is no room for it
+-- why no more records than so many become rows, where there is room for some: none is left, the next is no row, or
+-- there is no room for it
 abbrev pub StopsAt : List Column → (room rows : ℕ) → (left : List Record) → Option StopReason → Type 0
 StopsAt columns room rows [] None = ⊤
-StopsAt columns room rows (faulty ∷ left) (Some (stop.Record r)) = (rows < room) × RecordReads columns faulty (Err (record_refusal r.fault)) × (r.number ≡ rows + 1)
+StopsAt columns room rows (faulty ∷ left) (Some (stop.Record r)) = (rows < room)
+    × RecordReads columns faulty (Err (record_refusal r.fault)) × (r.number ≡ rows + 1)
 StopsAt columns room rows (further ∷ left) (Some stop.Full) = rows ≡ room
 StopsAt columns room rows _ _ = ⊥
 
 -- the first records of a file become rows of columns
-pub record Pushes (old : List StoredColumn) (bytes : List ℕ) (room : ℕ) (pushed : Pushed) (new : List StoredColumn) : Type 0 where
+pub record Pushes (old : List StoredColumn) (bytes : List ℕ) (room : ℕ) (pushed : Pushed) (new : List StoredColumn) :
+    Type 0 where
   pub first : List Record
   pub left : List Record
   pub rows : List Row

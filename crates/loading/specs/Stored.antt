@@ -13,7 +13,8 @@ pub record StoredColumn : Type 0 where
 
 -- cells under a name, of which something is asked
 abbrev pub named : Name → Constraint → CellList → StoredColumn
-named name constraint l = record { header = record { name = name; type = l.type; constraint = constraint }; values = l.values }
+named name constraint l =
+    record { header = record { name = name; type = l.type; constraint = constraint }; values = l.values }
 
 -- a column with one more value, or the first values of it alone
 abbrev pub with_value : StoredColumn → Value → StoredColumn

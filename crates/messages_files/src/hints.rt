@@ -1,6 +1,6 @@
 //! What may be wrong with a record of a file, as a hint.
 
-use crate::record::FileRecord;
+use crate::record::{FileRecord, Format};
 use crate::spelling::{Spelling, has_digit, spelling_of};
 use catalog::{ColumnFault, RecordFault, RefusedRecord, Table};
 use sqlvalue::{FieldFault, SqlType};
@@ -29,8 +29,8 @@ pub fn write_record_hint<W: fmt::Write>(
 }
 
 fn hint_of(table: &Table, refused: &RefusedRecord, record: &FileRecord) -> Option<&'static str> {
-    if record.is_utf16() {
-        return Some("this file is UTF-16: save it as UTF-8");
+    if let Some(hint) = format_hint(record.format()) {
+        return Some(hint);
     }
     if record.runs_on() {
         return Some(
@@ -52,6 +52,18 @@ fn hint_of(table: &Table, refused: &RefusedRecord, record: &FileRecord) -> Optio
     }
 }
 
+/// A hint for a file that is no text.
+fn format_hint(format: Format) -> Option<&'static str> {
+    match format {
+        Format::Text => None,
+        Format::Utf16 => Some("this file is UTF-16: save it as UTF-8"),
+        Format::Gzip => Some("this file is packed by gzip: unpack it first"),
+        Format::Zip => Some(
+            "this file is an archive, as those of spreadsheets are: save it as CSV",
+        ),
+    }
+}
+
 /// A hint for a field that is no number.
 fn number_hint(
     table: &Table,
@@ -59,8 +71,7 @@ fn number_hint(
     record: &FileRecord,
     column: usize,
 ) -> Option<&'static str> {
-    let field = record.field(column);
-    match spelling_of(field) {
+    match spelling_of(record.read_field(column)?) {
         Spelling::Empty | Spelling::Missing => Some("write \\N for null"),
         _ if refused.number == 1 && is_heading(table, record, column) => Some(HEADINGS),
         Spelling::Spaced => Some("no space stands before or behind a number"),

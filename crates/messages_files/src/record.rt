@@ -19,8 +19,17 @@ pub struct FileRecord<'a> {
     /// The bytes of the file from the record on, and how many of them are its own.
     rest: &'a [u8],
     length: usize,
-    /// Whether the file begins with a mark of UTF-16.
-    is_utf16: bool,
+    format: Format,
+}
+
+/// What a file's first bytes say that it is (own).
+#[derive(Clone, Copy, PartialEq, Eq)]
+pub(crate) enum Format {
+    Text,
+    Utf16,
+    Gzip,
+    /// An archive, as the files of spreadsheets are.
+    Zip,
 }
 
 impl<'a> FileRecord<'a> {
@@ -39,16 +48,21 @@ impl<'a> FileRecord<'a> {
             fields,
             rest,
             length,
-            is_utf16: is_utf16(bytes),
+            format: format_of(bytes),
         }
     }
 
-    /// The bytes of a field; none where there is no such one.
-    pub(crate) fn field(&self, place: usize) -> &[u8] {
+    /// The bytes of a field; nothing where there is no such one, or memory was wanting for it.
+    pub(crate) fn read_field(&self, place: usize) -> Option<&[u8]> {
         match &self.fields {
-            Some(fields) => fields.get(place).unwrap_or(b""),
-            None => b"",
+            Some(fields) => fields.get(place),
+            None => None,
         }
+    }
+
+    /// The bytes of a field; none where nothing was read.
+    pub(crate) fn field(&self, place: usize) -> &[u8] {
+        self.read_field(place).unwrap_or(b"")
     }
 
     /// Whether a quote that is not closed made it run on over line ends to the end of the file.
@@ -64,9 +78,9 @@ impl<'a> FileRecord<'a> {
         self.field(0).contains(&byte)
     }
 
-    /// Whether the file begins with a mark of UTF-16.
-    pub(crate) fn is_utf16(&self) -> bool {
-        self.is_utf16
+    /// What the file is, by its first bytes.
+    pub(crate) fn format(&self) -> Format {
+        self.format
     }
 }
 
@@ -91,9 +105,14 @@ fn count_of(wanted: u8, bytes: &[u8]) -> usize {
     count
 }
 
-/// Whether bytes begin with a mark of UTF-16.
-pub(crate) fn is_utf16(bytes: &[u8]) -> bool {
-    matches!(bytes, [0xff, 0xfe, ..] | [0xfe, 0xff, ..])
+/// What begins with these bytes: a mark of UTF-16, that of gzip (RFC 1952, 2.3.1) or that of an archive, or else a text.
+pub(crate) fn format_of(bytes: &[u8]) -> Format {
+    match bytes {
+        [0xff, 0xfe, ..] | [0xfe, 0xff, ..] => Format::Utf16,
+        [0x1f, 0x8b, ..] => Format::Gzip,
+        [b'P', b'K', 3, 4, ..] => Format::Zip,
+        _ => Format::Text,
+    }
 }
 
 /// The first record of some bytes, and how many bytes it takes.
@@ -124,7 +143,7 @@ pub fn write_record<W: fmt::Write>(
             match fault {
                 ColumnFault::Null => f.write_str("NULL in a column that is NOT NULL"),
                 ColumnFault::Value(fault) => {
-                    write_field(f, fault, table.sql_type(column), record.field(column))
+                    write_field(f, fault, table.sql_type(column), record.read_field(column))
                 }
             }
         }
@@ -155,18 +174,12 @@ fn write_field<W: fmt::Write>(
     f: &mut Formatter<W>,
     fault: FieldFault,
     sql_type: SqlType,
-    field: &[u8],
+    field: Option<&[u8]>,
 ) -> fmt::Result {
-    if field.is_empty() {
-        return f.write_str("the field is empty");
-    }
-    match fault {
-        FieldFault::ManyDigits | FieldFault::TooFine | FieldFault::TooGreat => {
-            write!(f, "{} ", VisibleBytes(field))?;
-        }
-        FieldFault::NoNumber | FieldFault::Unprintable | FieldFault::TooLong => {
-            write!(f, "'{}' ", VisibleBytes(field))?;
-        }
+    match field {
+        Some(b"") => return f.write_str("the field is empty"),
+        Some(bytes) => write_bytes(f, fault, bytes)?,
+        None => f.write_str("the field ")?,
     }
     match fault {
         FieldFault::NoNumber => f.write_str("is no number"),
@@ -175,6 +188,22 @@ fn write_field<W: fmt::Write>(
         FieldFault::TooFine => write_too_fine(f, sql_type),
         FieldFault::TooGreat => write_too_great(f, sql_type),
         FieldFault::TooLong => write_too_long(f, sql_type),
+    }
+}
+
+/// The bytes of a field: a number as it stands, and anything else between quotes.
+fn write_bytes<W: fmt::Write>(
+    f: &mut Formatter<W>,
+    fault: FieldFault,
+    bytes: &[u8],
+) -> fmt::Result {
+    match fault {
+        FieldFault::ManyDigits | FieldFault::TooFine | FieldFault::TooGreat => {
+            write!(f, "{} ", VisibleBytes(bytes))
+        }
+        FieldFault::NoNumber | FieldFault::Unprintable | FieldFault::TooLong => {
+            write!(f, "'{}' ", VisibleBytes(bytes))
+        }
     }
 }
 

@@ -1,6 +1,6 @@
 //! What is wrong with the records of a file, counted by column and kind.
 
-use crate::record::is_utf16;
+use crate::record::{Format, format_of};
 use crate::spelling::{Spelling, spelling_of};
 use catalog::{ColumnFault, Table};
 use csv::{ByteRecord, ReaderBuilder};
@@ -237,7 +237,7 @@ pub fn write_survey<W: fmt::Write>(
     table: &Table,
     bytes: &[u8],
 ) -> fmt::Result {
-    if is_utf16(bytes) {
+    if format_of(bytes) != Format::Text {
         return Ok(());
     }
     match Survey::of(alloc, table, bytes) {

@@ -16,7 +16,8 @@ use Rattle.parse_tree.specs.declared.leaf.SetFunction.TheVariants as f
 use Rattle.parse_tree.specs.declared.expr.Expr.{Expr}
 use Rattle.parse_tree.specs.declared.expr.Expr.TheOpen.{Expr-F, SelectList-F, Item-F, Operand-F, Block-F}
 use Rattle.parse_tree.specs.declared.expr.Expr.TheOpen as e
-use Rattle.parse_tree.specs.declared.expr.Expr.TheFolds.{fold-Expr, fold-SelectList, fold-Item, fold-Operand, fold-Block}
+use Rattle.parse_tree.specs.declared.expr.Expr.TheFolds.{fold-Expr, fold-SelectList, fold-Item, fold-Operand}
+use Rattle.parse_tree.specs.declared.expr.Expr.TheFolds.{fold-Block}
 use Rattle.parse_tree.specs.declared.expr.SelectList.{SelectList}
 use Rattle.parse_tree.specs.declared.expr.Item.{Item}
 use Rattle.parse_tree.specs.declared.expr.Operand.{Operand}
@@ -79,7 +80,8 @@ abbrev pub condition_layer : Option spec.Expr → spec.SearchClause
 condition_layer None = spec.Absent
 condition_layer (Some e) = spec.Present e
 
-abbrev pub expr_layer : Expr-F spec.Expr spec.SelectList spec.QuerySpecification spec.DerivedColumn OperandTree → spec.Expr
+abbrev pub expr_layer : Expr-F spec.Expr spec.SelectList spec.QuerySpecification spec.DerivedColumn OperandTree
+    → spec.Expr
 expr_layer (e.Column r) = spec.Column (column_of r)
 expr_layer (e.Numeral n) = numeral_of n
 expr_layer (e.String t) = spec.String (text_of t)
@@ -98,33 +100,45 @@ expr_layer (e.Scalar p b) = spec.Scalar b.value
 expr_layer (e.CountRows p) = spec.CountRows
 expr_layer (e.Function p g d a) = spec.Function (function_of g) d a.value
 
-abbrev pub list_layer : SelectList-F spec.Expr spec.SelectList spec.QuerySpecification spec.DerivedColumn OperandTree → spec.SelectList
+abbrev pub list_layer : SelectList-F spec.Expr spec.SelectList spec.QuerySpecification spec.DerivedColumn OperandTree
+    → spec.SelectList
 list_layer (e.Asterisk p) = spec.Asterisk
 list_layer (e.Items xs) = spec.Listed (items xs.items)
 
-abbrev pub block_layer : Block-F spec.Expr spec.SelectList spec.QuerySpecification spec.DerivedColumn OperandTree → spec.QuerySpecification
-block_layer b = spec.Specification b.distinct b.list (map source_of b.sources.tables.items) (condition_layer b.condition) (map column_of b.groups.items) (condition_layer b.having)
+abbrev pub block_layer : Block-F spec.Expr spec.SelectList spec.QuerySpecification spec.DerivedColumn OperandTree
+    → spec.QuerySpecification
+block_layer b =
+    spec.Specification b.distinct b.list (map source_of b.sources.tables.items) (condition_layer b.condition)
+    (map column_of b.groups.items) (condition_layer b.having)
 
-abbrev pub item_layer : Item-F spec.Expr spec.SelectList spec.QuerySpecification spec.DerivedColumn OperandTree → spec.DerivedColumn
+abbrev pub item_layer : Item-F spec.Expr spec.SelectList spec.QuerySpecification spec.DerivedColumn OperandTree
+    → spec.DerivedColumn
 item_layer i = record { value = i.value; alias = option_map name_of i.alias }
 
-abbrev pub operand_layer : Operand-F spec.Expr spec.SelectList spec.QuerySpecification spec.DerivedColumn OperandTree → OperandTree
+abbrev pub operand_layer : Operand-F spec.Expr spec.SelectList spec.QuerySpecification spec.DerivedColumn OperandTree
+    → OperandTree
 operand_layer x = (operator_of x.operator, x.value)
 
 abbrev pub expr_of : Expr → spec.Expr
-expr_of = fold-Expr spec.Expr spec.SelectList spec.QuerySpecification spec.DerivedColumn OperandTree expr_layer list_layer block_layer item_layer operand_layer
+expr_of = fold-Expr spec.Expr spec.SelectList spec.QuerySpecification spec.DerivedColumn OperandTree expr_layer
+    list_layer block_layer item_layer operand_layer
 
 abbrev pub list_of : SelectList → spec.SelectList
-list_of = fold-SelectList spec.Expr spec.SelectList spec.QuerySpecification spec.DerivedColumn OperandTree expr_layer list_layer block_layer item_layer operand_layer
+list_of = fold-SelectList spec.Expr spec.SelectList spec.QuerySpecification spec.DerivedColumn OperandTree expr_layer
+    list_layer block_layer item_layer operand_layer
 
 abbrev pub block_of : Block → spec.QuerySpecification
-block_of = fold-Block spec.Expr spec.SelectList spec.QuerySpecification spec.DerivedColumn OperandTree expr_layer list_layer block_layer item_layer operand_layer
+block_of = fold-Block spec.Expr spec.SelectList spec.QuerySpecification spec.DerivedColumn OperandTree expr_layer
+    list_layer block_layer item_layer operand_layer
 
 abbrev pub item_of : Item → spec.DerivedColumn
-item_of = fold-Item spec.Expr spec.SelectList spec.QuerySpecification spec.DerivedColumn OperandTree expr_layer list_layer block_layer item_layer operand_layer
+item_of = fold-Item spec.Expr spec.SelectList spec.QuerySpecification spec.DerivedColumn OperandTree expr_layer
+    list_layer block_layer item_layer operand_layer
 
 abbrev pub operand_of : Operand → OperandTree
-operand_of = fold-Operand spec.Expr spec.SelectList spec.QuerySpecification spec.DerivedColumn OperandTree expr_layer list_layer block_layer item_layer operand_layer
+operand_of =
+    fold-Operand spec.Expr spec.SelectList spec.QuerySpecification spec.DerivedColumn OperandTree expr_layer list_layer
+    block_layer item_layer operand_layer
 
 abbrev pub member_of : Option Expr → Option spec.Expr
 member_of None = None
@@ -156,7 +170,8 @@ constraint_of c.Unique = spec.Unique
 constraint_of c.PrimaryKey = spec.PrimaryKey
 
 abbrev pub definition_of : ColumnDefinition → spec.ColumnDefinition
-definition_of d = record { name = name_of d.name; type = declared_of d.declared; constraint = constraint_of d.constraint }
+definition_of d =
+    record { name = name_of d.name; type = declared_of d.declared; constraint = constraint_of d.constraint }
 
 abbrev pub definitions_of : List ColumnDefinition → List spec.ColumnDefinition
 definitions_of = map definition_of
@@ -168,14 +183,16 @@ abbrev pub range_of : Range → spec.Range
 range_of r = record { low = bound_of r.low; high = bound_of r.high }
 
 abbrev pub statistics_of : IndexStatistics → spec.GivenStatistics
-statistics_of f = record { keys = f.keys.units; pages = f.pages.units; clustered = f.clustered; range = option_map range_of f.range }
+statistics_of f =
+    record { keys = f.keys.units; pages = f.pages.units; clustered = f.clustered; range = option_map range_of f.range }
 
 abbrev pub statement_of : Statement → spec.Statement
 statement_of (s.CreateTable name columns) = spec.CreateTable (name_of name) (definitions_of columns.items)
 statement_of (s.CreateIndex unique table columns) = spec.CreateIndex unique (name_of table) (map name_of columns.items)
 statement_of (s.Load table file) = spec.Load (name_of table) (text_of file)
 statement_of (s.SetTableStatistics table rows pages) = spec.SetTableStatistics (name_of table) rows.units pages.units
-statement_of (s.SetIndexStatistics table columns statistics) = spec.SetIndexStatistics (name_of table) (map name_of columns.items) (statistics_of statistics)
+statement_of (s.SetIndexStatistics table columns statistics) =
+    spec.SetIndexStatistics (name_of table) (map name_of columns.items) (statistics_of statistics)
 statement_of (s.Query q) = spec.Query (select_of q)
 statement_of (s.Explain q) = spec.Explain (select_of q)
 

@@ -20,7 +20,8 @@ with_rows rows x = record { path = x.0.path; order = x.1; cost = cost_with x.0.c
 -- of listed paths those that need no more than a set of tables, each scan handing on so many rows
 abbrev pub open_items : TableSet → ℕ → List (FoundPath × ℕ) → List Item
 open_items known rows [] = []
-open_items known rows (x ∷ xs) = if is_open known x.0 then with_rows rows x ∷ open_items known rows xs else open_items known rows xs
+open_items known rows (x ∷ xs) = if is_open known x.0 then with_rows rows x
+    ∷ open_items known rows xs else open_items known rows xs
 
 module _ (space : Space) (known : TableSet) (table : ℕ) where
   -- it reads the table, and what stands beside it is its order and its cost

@@ -7,4 +7,5 @@ use Rattle.plan_space.specs.declared.join_graph.JoinGraph.{JoinGraph}
 -- there are none where products are free
 abbrev pub LinksSay : Space → Option JoinGraph → Type 0
 LinksSay space None = space.free_products ≡ true
-LinksSay space (Some links) = (space.free_products ≡ false) × (tables_in links ≡ space.table_count) × AreLinks space links
+LinksSay space (Some links) = (space.free_products ≡ false) × (tables_in links ≡ space.table_count)
+    × AreLinks space links

@@ -28,9 +28,11 @@ module _ (space : Space) where
   -- a path where the rows of some tables are known, or none
   abbrev pub IsPathFound : TableSet → Path → Option Item → Type 0
   IsPathFound known path None = table_of path < space.table_count → IsPath space known path → ⊥
-  IsPathFound known path (Some item) = (item.path ≡ path) × IsPath space known path × IsItem space known (table_of path) item
+  IsPathFound known path (Some item) = (item.path ≡ path) × IsPath space known path
+      × IsItem space known (table_of path) item
 
   -- a merge on top of plans on some tables, or none
   abbrev pub IsMergeFound : TableSet → ℕ → Inner → Option Merge → Type 0
   IsMergeFound tables number inner None = IsMerge space tables (table_of inner.path) number inner → ⊥
-  IsMergeFound tables number inner (Some item) = (item.conjunct ≡ number) × (item.inner ≡ inner) × IsMergeItem space tables (table_of inner.path) item
+  IsMergeFound tables number inner (Some item) = (item.conjunct ≡ number) × (item.inner ≡ inner)
+      × IsMergeItem space tables (table_of inner.path) item

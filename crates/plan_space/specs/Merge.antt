@@ -16,7 +16,8 @@ pub record Merge : Type 0 where
   pub inner : Inner
   pub cost : ℕ
 
--- a merge, the table that the outer plan has to have, what the inner side costs, and the share of pairs that the conjunct leaves
+-- a merge, the table that the outer plan has to have, what the inner side costs, and the share of pairs that the
+-- conjunct leaves
 pub record FoundMerge : Type 0 where
   pub conjunct : ℕ
   pub other : ℕ
@@ -29,18 +30,21 @@ abbrev pub AreDistinct : List FoundMerge → Type 0
 AreDistinct xs = AllPairs (λ (a b : FoundMerge). a.conjunct ≡ b.conjunct → a.inner ≢ b.inner) xs
 
 abbrev pub with_pairs : ℕ → FoundMerge → Merge
-with_pairs pairs x = record { conjunct = x.conjunct; inner = x.inner; cost = saturated (x.cost + share pairs x.selectivity) }
+with_pairs pairs x =
+    record { conjunct = x.conjunct; inner = x.inner; cost = saturated (x.cost + share pairs x.selectivity) }
 
 -- of found merges those whose other table is in a set, of so many pairs of rows
 abbrev pub open_merges : TableSet → ℕ → List FoundMerge → List Merge
 open_merges tables pairs [] = []
-open_merges tables pairs (x ∷ xs) = if has tables x.other then with_pairs pairs x ∷ open_merges tables pairs xs else open_merges tables pairs xs
+open_merges tables pairs (x ∷ xs) = if has tables x.other then with_pairs pairs x
+    ∷ open_merges tables pairs xs else open_merges tables pairs xs
 
 module _ (space : Space) where
   -- a conjunct by which a table can be merged with a set, and an inner side for it
   abbrev pub IsMerge : TableSet → ℕ → ℕ → Inner → Type 0
   IsMerge tables table number inner = (table_of inner.path ≡ table)
-      × ((x : BlockColumn) × (y : BlockColumn) × IsMergeConjunct space number x y × Has tables x.table × (y.table ≡ table) × IsInner space y inner)
+      × ((x : BlockColumn) × (y : BlockColumn) × IsMergeConjunct space number x y × Has tables x.table
+      × (y.table ≡ table) × IsInner space y inner)
 
   -- what stands beside a merge is what it costs
   pub record IsMergeItem (tables : TableSet) (table : ℕ) (item : Merge) : Type 0 where
@@ -64,16 +68,25 @@ module _ (space : Space) where
 
   abbrev pub found : ℕ → ℕ → Inner → FoundMerge
   found number other inner =
-      record { conjunct = number; other = other; inner = inner; cost = inner_cost space inner; selectivity = selectivity_of (slice_get space.conjuncts number) }
+      record {
+        conjunct = number;
+        other = other;
+        inner = inner;
+        cost = inner_cost space inner;
+        selectivity =
+            selectivity_of (slice_get space.conjuncts number);
+      }
 
   pub record IsFound (table : ℕ) (x : FoundMerge) : Type 0 where
     pub reads : table_of x.inner.path ≡ table
-    pub merges : (a : BlockColumn) × (b : BlockColumn) × MergesBy table x.conjunct a b × (a.table ≡ x.other) × IsInner space b x.inner
+    pub merges : (a : BlockColumn) × (b : BlockColumn) × MergesBy table x.conjunct a b × (a.table ≡ x.other)
+        × IsInner space b x.inner
     pub exact : x ≡ found x.conjunct x.other x.inner
 
   -- the merges of a conjunct with paths of which something holds are there
   abbrev pub HasMerges : (Path → Type 0) → ℕ → ℕ → List FoundMerge → Type 0
-  HasMerges Of table number xs = (inner : Inner) (x y : BlockColumn) → MergesBy table number x y → table_of inner.path ≡ table → Of inner.path
+  HasMerges Of table number xs = (inner : Inner) (x y : BlockColumn) → MergesBy table number x y
+      → table_of inner.path ≡ table → Of inner.path
       → IsInner space y inner → Contains xs (found number x.table inner)
 
   -- no path of the table alone is listed twice
@@ -95,7 +108,8 @@ module _ (space : Space) where
 
   pub record AddsMerges (table number : ℕ) (old new : List FoundMerge) : Type 0 where
     pub grown : IsGrown table old new
-    pub there : (inner : Inner) (x y : BlockColumn) → MergesBy table number x y → table_of inner.path ≡ table → IsInner space y inner
+    pub there : (inner : Inner) (x y : BlockColumn) → MergesBy table number x y → table_of inner.path ≡ table
+        → IsInner space y inner
         → Contains new (found number x.table inner)
     pub added : (x : FoundMerge) → Contains new x → Contains old x ⊎ (x.conjunct ≡ number)
     pub distinct : AreDistinct old → ((x : FoundMerge) → Contains old x → x.conjunct ≢ number) → AreDistinct new

@@ -14,7 +14,15 @@ use Rattle.plan_space.specs.declared.listed.MergeJoinPath.{MergeJoinPath}
 use Rattle.plan_space.specs.declared.listed.MergeClause.{MergeClause}
 
 abbrev pub found_merge_of : MergeJoinPath → FoundMerge
-found_merge_of x = record { conjunct = x.conjunct; other = x.other; inner = record { path = path_of x.path; sorted = x.sorted }; cost = x.cost; selectivity = x.selectivity }
+found_merge_of x =
+    record {
+      conjunct = x.conjunct;
+      other = x.other;
+      inner = record { path = path_of x.path; sorted = x.sorted };
+      cost =
+          x.cost;
+      selectivity = x.selectivity;
+    }
 
 module _ (space : Space) where
   -- how a conjunct may merge a table, if it does
@@ -22,11 +30,13 @@ module _ (space : Space) where
   IsWay table number None = (x y : BlockColumn) → MergesBy space table number x y → ⊥
   IsWay table number (Some clause) = (clause.table ≡ table) × (clause.conjunct ≡ number)
       × ((x : BlockColumn) × (y : BlockColumn) × MergesBy space table number x y × (x.table ≡ clause.other))
-      × (clause.selectivity ≡ selectivity_of (slice_get space.conjuncts number)) × (clause.sort_cost ≡ space.sort_cost (only table))
+      × (clause.selectivity ≡ selectivity_of (slice_get space.conjuncts number))
+      × (clause.sort_cost ≡ space.sort_cost (only table))
 
   -- each is one that brings the table, those of all conjuncts are there, and none twice
   pub record AreMergesOf (table : ℕ) (xs : List FoundMerge) : Type 0 where
     pub each : AllByRecursion (IsFound space table) xs
-    pub all : (number : ℕ) (inner : Inner) (x y : BlockColumn) → MergesBy space table number x y → table_of inner.path ≡ table → IsInner space y inner
+    pub all : (number : ℕ) (inner : Inner) (x y : BlockColumn) → MergesBy space table number x y
+        → table_of inner.path ≡ table → IsInner space y inner
         → Contains xs (found space number x.table inner)
     pub distinct : AreDistinct xs

@@ -4,4 +4,10 @@ use Rattle.plan_space.specs.Merge.{Merge}
 use Rattle.plan_space.specs.declared.merge_joins.CostedMerge.{CostedMerge}
 
 abbrev pub merge_of : CostedMerge → Merge
-merge_of item = record { conjunct = item.conjunct; inner = record { path = path_of item.path.now; sorted = item.sorted }; cost = item.cost }
+merge_of item =
+    record {
+      conjunct = item.conjunct;
+      inner = record { path = path_of item.path.now; sorted = item.sorted };
+      cost =
+          item.cost;
+    }

@@ -16,16 +16,21 @@ use Rattle.access_paths.specs.Found.{FoundPath, is_open, CostsAsPath, Reads}
 use Rattle.plan_space.specs.declared.path_lists.NumberedPath.{NumberedPath}
 
 abbrev pub listed_path_of : NumberedPath → FoundPath × ℕ
-listed_path_of x = (record { path = path_of x.path; required_outer = set_of x.required_outer; cost = scan_cost_of x.cost }, x.order)
+listed_path_of x =
+    (record { path = path_of x.path; required_outer = set_of x.required_outer; cost = scan_cost_of x.cost }, x.order)
 
 -- with the number of its order
 abbrev pub with_number : Database → Block → List Order → FoundPath → FoundPath × ℕ
 with_number db block orders x = (x, number_of orders (order_of_path db block x.path))
 
--- those that need no more than a set of tables are its paths, each costs as its path where it is open, reads the table, and has its
--- order's number
-pub record AreListed (version : Version) (db : Database) (block : Block) (table : ℕ) (xs : List (FoundPath × ℕ)) : Type 0 where
-  pub paths : (known : TableSet) → map (λ (x : FoundPath). x.path) (filter (is_open known) (map (λ (x : FoundPath × ℕ). x.0) xs)) ≡ paths_of version db block known table
+-- those that need no more than a set of tables are its paths, each costs as its path where it is open, reads the table,
+-- and has its order's number
+pub record AreListed (version : Version) (db : Database) (block : Block) (table : ℕ) (xs : List (FoundPath × ℕ)) : Type
+    0 where
+  pub paths : (known : TableSet)
+      → map (λ (x : FoundPath). x.path) (filter (is_open known) (map (λ (x : FoundPath × ℕ). x.0) xs))
+      ≡ paths_of version db block known table
   pub costs : AllByRecursion (λ (x : FoundPath × ℕ). CostsAsPath db block table x.0) xs
   pub reads : AllByRecursion (λ (x : FoundPath × ℕ). Reads db block table x.0.path) xs
-  pub orders : AllByRecursion (λ (x : FoundPath × ℕ). x.1 ≡ number_of (orders_of version db block) (order_of_path db block x.0.path)) xs
+  pub orders : AllByRecursion (λ (x : FoundPath × ℕ). x.1
+      ≡ number_of (orders_of version db block) (order_of_path db block x.0.path)) xs

@@ -17,4 +17,5 @@ paths_at p table = get_or (map (λ (xs : Vec NumberedPath). map listed_path_of x
 
 -- of each table they are its paths
 abbrev pub AreBlockPaths : Version → Database → Block → BlockPaths → Type 0
-AreBlockPaths version db block p = (table : ℕ) → table < tables_in p → AreListed version db block table (paths_at p table)
+AreBlockPaths version db block p = (table : ℕ) → table < tables_in p
+    → AreListed version db block table (paths_at p table)

@@ -26,7 +26,8 @@ names_by Asterisk items = map header_of items
 names_by (Listed items) bound = result_names (listed items)
 
 abbrev pub bound_keys : List (Option Name) → List t.SortSpecification → List b.OrderKey
-bound_keys names = map (λ (k : t.SortSpecification). record { item = key_item names k.named; descending = k.descending })
+bound_keys names =
+    map (λ (k : t.SortSpecification). record { item = key_item names k.named; descending = k.descending })
 
 abbrev pub IsKnownKey : List (Option Name) → t.KeyName → Type 0
 IsKnownKey names key = IsUnknownKey names key → ⊥
@@ -35,4 +36,5 @@ abbrev pub SomeKeyIsUnknown : List (Option Name) → List t.SortSpecification �
 SomeKeyIsUnknown names = AnyOf (λ (k : t.SortSpecification). IsUnknownKey names k.named)
 
 abbrev pub RefusesOrder : List (Option Name) → List t.SortSpecification → Refusal → Type 0
-RefusesOrder names keys r = (SomeKeyIsUnknown names keys × (r ≡ UnknownKey)) ⊎ ((most_keys < length keys) × (r ≡ OverQueryLimit))
+RefusesOrder names keys r = (SomeKeyIsUnknown names keys × (r ≡ UnknownKey))
+    ⊎ ((most_keys < length keys) × (r ≡ OverQueryLimit))

@@ -20,7 +20,8 @@ pub record InSight (db : Database) (scopes : Scopes) : Type 0 where
   pub are : scopes ≡ map (scope_of db) froms
 
 -- a column or a literal is bound, and its type is known
-pub record BindsLeaf (db : Database) (scopes : Scopes) (place : ClauseKind) (e : Expr) (value : ValueExpr) (type : ValueType) : Type 0 where
+pub record BindsLeaf (db : Database) (scopes : Scopes) (place : ClauseKind) (e : Expr) (value : ValueExpr)
+    (type : ValueType) : Type 0 where
   pub bound : (next : Next) → value ≡ bound_value db scopes next e
   pub typed : expr_type db scopes e ≡ Some type
   pub fine : IsFine type
@@ -29,11 +30,13 @@ pub record BindsLeaf (db : Database) (scopes : Scopes) (place : ClauseKind) (e :
 -- a column of a level may stand in a place
 pub record MayStand (place : ClauseKind) (level : ℕ) (column : BlockColumn) : Type 0 where
   pub inside : place ≡ InArgument → level ≡ 0
-  pub grouped : (columns : List BlockColumn) → place ≡ InShown true columns → level ≡ 0 → AnyOf (λ c. c ≡ column) columns
+  pub grouped : (columns : List BlockColumn) → place ≡ InShown true columns → level ≡ 0
+      → AnyOf (λ c. c ≡ column) columns
 
 pub data MayNotStand (place : ClauseKind) (level : ℕ) (column : BlockColumn) : Refusal → Type 0 where
   outer : place ≡ InArgument → 0 < level → MayNotStand place level column MisplacedFunction
-  ungrouped : (columns : List BlockColumn) → place ≡ InShown true columns → level ≡ 0 → (AnyOf (λ c. c ≡ column) columns → ⊥) → MayNotStand place level column UngroupedColumn
+  ungrouped : (columns : List BlockColumn) → place ≡ InShown true columns → level ≡ 0
+      → (AnyOf (λ c. c ≡ column) columns → ⊥) → MayNotStand place level column UngroupedColumn
 
 -- SUM and AVG take numbers (ISO/IEC 9075:1992, 6.5, syntax rule 6)
 abbrev pub WantsNumbers : SetFunction → Type 0

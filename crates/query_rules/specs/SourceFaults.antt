@@ -12,7 +12,8 @@ use Rattle.query_rules.specs.declared.scope_fault.SourceFault.TheVariants as f
 
 -- the faults of a FROM, which are those of its block (Binding.Faults)
 pub data SourcesFaulty (db : Database) (sources : List Source) : Refusal → Type 0 where
-  name_twice : ¬ (AreDistinct (map (λ (t : NamedTable). t.name) (scope_of db sources))) → SourcesFaulty db sources r.NameTaken
+  name_twice : ¬ (AreDistinct (map (λ (t : NamedTable). t.name) (scope_of db sources)))
+      → SourcesFaulty db sources r.NameTaken
   no_table : AnyOf (λ (s : Source). table_named db s.table ≡ None) sources → SourcesFaulty db sources r.NotFound
   many_tables : most_from_tables < length sources → SourcesFaulty db sources r.ManyTables
 

@@ -81,7 +81,8 @@ conditions (c ∷ cs) = spec.Part c (conditions cs)
 
 abbrev pub condition_layer : Condition-F spec.Condition → spec.Condition
 condition_layer (c.Compare op a b) = spec.Compare (op_of op) (value_of a) (value_of b)
-condition_layer (c.Quantified op quantifier a block) = spec.Quantified (op_of op) (quantifier_of quantifier) (value_of a) block
+condition_layer (c.Quantified op quantifier a block) =
+    spec.Quantified (op_of op) (quantifier_of quantifier) (value_of a) block
 condition_layer (c.IsNull negated a) = spec.IsNull negated (value_of a)
 condition_layer (c.Between negated a low high) = spec.Between negated (value_of a) (value_of low) (value_of high)
 condition_layer (c.Like negated a pattern) = spec.Like negated (value_of a) (string_bytes pattern)
@@ -99,7 +100,8 @@ condition_of = fold-Condition spec.Condition condition_layer
 
 abbrev pub bound_function_of : Aggregate → spec.Aggregate
 bound_function_of f.CountRows = spec.CountRows
-bound_function_of (f.OfValues function distinct start argument) = spec.OfValues (function_of function) distinct (value_of argument)
+bound_function_of (f.OfValues function distinct start argument) =
+    spec.OfValues (function_of function) distinct (value_of argument)
 
 abbrev pub item_of : Item → spec.Item
 item_of i = record { name = string_bytes i.name; value = value_of i.value }

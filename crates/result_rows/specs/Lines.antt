@@ -17,4 +17,5 @@ joined_lines = flat_map (λ line. line)
 abbrev pub IsNotedLine : Option DistinctLines → Option DistinctLines → Bool → Row → Type 0
 IsNotedLine None seen new row = new ≡ true
 IsNotedLine (Some lines) seen new row =
-    IfSome seen (λ after. lines_of after ≡ with_line (lines_of lines) (row_line row)) × (new ≡ not (list_any (pointwise nat_eq (row_line row)) (lines_of lines)))
+    IfSome seen (λ after. lines_of after ≡ with_line (lines_of lines) (row_line row))
+    × (new ≡ not (list_any (pointwise nat_eq (row_line row)) (lines_of lines)))

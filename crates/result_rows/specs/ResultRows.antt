@@ -27,7 +27,8 @@ pub record HasPrinted (names : List (List ℕ)) (rows : List Row) (p : PrintedRo
 
 -- lines are those of rows, each once, where the rows have shapes; numbers of all rows have at most 38 digits
 pub record AreLinesOf (rows : List Row) (lines : DistinctLines) : Type 0 where
-  pub each : (shapes : List Shape) → AllByRecursion (HasShapes shapes) rows → lines_of lines ≡ map row_line (without_repeats same_values rows)
+  pub each : (shapes : List Shape) → AllByRecursion (HasShapes shapes) rows
+      → lines_of lines ≡ map row_line (without_repeats same_values rows)
   pub bounded : AllByRecursion (AllByRecursion IsInBounds) rows
 
 -- printed once each
@@ -38,12 +39,14 @@ pub record HasDistinct (names : List (List ℕ)) (rows : List Row) (d : Distinct
 -- kept to be ordered, under DISTINCT each once
 pub record HasOrdered (names : List (List ℕ)) (rows : List Row) (o : OrderedRows) : Type 0 where
   pub header : o.header.items ≡ fields_line names
-  pub kept : (shapes : List Shape) → AllByRecursion (HasShapes shapes) rows → rows_of o.rows.items ≡ distinct_rows (is_some o.seen) rows
+  pub kept : (shapes : List Shape) → AllByRecursion (HasShapes shapes) rows
+      → rows_of o.rows.items ≡ distinct_rows (is_some o.seen) rows
   pub seen : IfSome o.seen (AreLinesOf rows)
 
 -- the first value of each is kept, under DISTINCT of each that did not come before
 pub record HasFirstValues (rows : List Row) (f : FirstValueRows) : Type 0 where
-  pub kept : (shapes : List Shape) → AllByRecursion (HasShapes shapes) rows → map owned_value f.values.items ≡ column_values (distinct_rows (is_some f.seen) rows)
+  pub kept : (shapes : List Shape) → AllByRecursion (HasShapes shapes) rows
+      → map owned_value f.values.items ≡ column_values (distinct_rows (is_some f.seen) rows)
   pub seen : IfSome f.seen (AreLinesOf rows)
 
 -- rows are arranged by the keys

@@ -19,7 +19,8 @@ Holds (store.Distinct d) names rows = HasDistinct names rows d
 Holds (store.Ordered o) names rows = HasOrdered names rows o
 Holds (store.FirstValues f) names rows = HasFirstValues rows f
 
--- whether rows are printed at their end, or their first values handed out; whether in the order of keys; whether repeats are left out
+-- whether rows are printed at their end, or their first values handed out; whether in the order of keys; whether
+-- repeats are left out
 pub record StoreKind : Type 0 where
   pub prints : Bool
   pub in_order : Bool
@@ -55,8 +56,10 @@ Tells names rows raises told = TellsBy told.raised names rows raises told
 -- they tell of one row more, and of what result columns raise in it
 abbrev pub TellsOneMore : Environment → List Item → ResultRows → ResultRows → Type 0
 TellsOneMore env items told told' =
-    (names : List (List ℕ)) (rows : List Row) (raises : List arithmetic.Raise) → Tells names rows raises told → Tells names (rows ++ row_in env items ∷ []) (raises ++ row_raises_in env items) told'
+    (names : List (List ℕ)) (rows : List Row) (raises : List arithmetic.Raise) → Tells names rows raises told
+    → Tells names (rows ++ row_in env items ∷ []) (raises ++ row_raises_in env items) told'
 
 -- what is told of rows where a result column raises
 abbrev pub IsRaiseOf : ResultRows → arithmetic.Raise → Type 0
-IsRaiseOf told raise = (names : List (List ℕ)) (rows : List Row) (raises : List arithmetic.Raise) → Tells names rows raises told → Contains raises raise
+IsRaiseOf told raise = (names : List (List ℕ)) (rows : List Row) (raises : List arithmetic.Raise)
+    → Tells names rows raises told → Contains raises raise

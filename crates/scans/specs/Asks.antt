@@ -23,4 +23,5 @@ pub record CanEvaluate (env : Environment) (condition : Condition) : Type 0 wher
 
 -- the conjunct of a number is there, and its values can be evaluated
 abbrev pub CanAsk : Environment → Block → ℕ → Type 0
-CanAsk env block number = (condition : Condition) × (slice_get (conjuncts block) number ≡ Some condition) × CanEvaluate env condition
+CanAsk env block number = (condition : Condition) × (slice_get (conjuncts block) number ≡ Some condition)
+    × CanEvaluate env condition

@@ -29,7 +29,8 @@ block_in source = block_of source.block
 -- the block is formed in blocks whose rows have types
 abbrev pub IsSurrounded : BlockSource → List Combination → Type 0
 IsSurrounded source outer =
-    (blocks : Blocks) × (around : Blocks) × (n : ℕ) × IsFormedBlock source.database blocks around n (block_in source) × AreTypedAround source.database around outer
+    (blocks : Blocks) × (around : Blocks) × (n : ℕ) × IsFormedBlock source.database blocks around n (block_in source)
+    × AreTypedAround source.database around outer
 
 -- an index of a table of the block, by number
 abbrev pub IsIndexOf : BlockSource → ℕ → ℕ → Type 0
@@ -40,7 +41,8 @@ abbrev pub context_in : BlockSource → List Combination → Context
 context_in source outer = record { database = source.database; outer = outer; inner = λ block combinations. Is [] }
 
 abbrev pub environment_at : BlockSource → List Combination → Composite → Environment
-environment_at source outer composite = at (context_in source outer) (combination_of source.database (block_in source) composite)
+environment_at source outer composite =
+    at (context_in source outer) (combination_of source.database (block_in source) composite)
 
 abbrev pub stored_in : BlockSource → List Combination → Stored
 stored_in source outer = stored_of (context_in source outer) (block_in source)

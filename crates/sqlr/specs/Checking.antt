@@ -31,21 +31,26 @@ abbrev pub end_of_file : FileEnded → Ended
 end_of_file ended = ended_of (check_ended_of ended)
 
 -- certificates are checked against a script's last statement: the sink took all that is printed
-abbrev pub Checks : {L : Type 0} → Answering L → State L → List ℕ → List ℕ → State L → Option (List ℕ) → Option (List ℕ) → Ended → Type 0
+abbrev pub Checks : {L : Type 0} → Answering L → State L → List ℕ → List ℕ → State L → Option (List ℕ) → Option (List ℕ)
+    → Ended → Type 0
 Checks answers old script file new taken taken' ended =
-    (text : List ℕ) × (how : ends.Ended) × Checked answers current_version old script file new text how × (ended ≡ ended_of how) × Took taken text taken'
+    (text : List ℕ) × (how : ends.Ended) × Checked answers current_version old script file new text how
+    × (ended ≡ ended_of how) × Took taken text taken'
 
 -- the check breaks off: the sink took a beginning of what it prints
-abbrev pub BreaksChecking : {L : Type 0} → Answering L → Failing L → State L → List ℕ → List ℕ → State L → Option (List ℕ) → Option (List ℕ) → RunFault → Type 0
+abbrev pub BreaksChecking : {L : Type 0} → Answering L → Failing L → State L → List ℕ → List ℕ → State L
+    → Option (List ℕ) → Option (List ℕ) → RunFault → Type 0
 BreaksChecking answers fails old script file new taken taken' fault =
-    (begun : List ℕ) × CheckBreaks answers fails current_version old script file (break_of fault) new begun × TookUpTo taken [] begun taken'
+    (begun : List ℕ) × CheckBreaks answers fails current_version old script file (break_of fault) new begun
+    × TookUpTo taken [] begun taken'
 
 -- ---- the statements before the last
 
 -- a statement is prepared, or it is refused and prints this
 abbrev pub IsPrepared : {L : Type 0} → Answering L → State L → Statement → State L → Option Printed → Type 0
 IsPrepared answers old s new None = Prepared answers old s new (asked s)
-IsPrepared answers old s new (Some p) = (asked s ≡ None) × Step answers old s new p.text.items ends.Faulted × (p.ended ≡ e.Faulted)
+IsPrepared answers old s new (Some p) = (asked s ≡ None) × Step answers old s new p.text.items ends.Faulted
+    × (p.ended ≡ e.Faulted)
 
 -- a statement's text is kept where it is refused
 abbrev pub IsIfRefused : Printed → Option Printed → Type 0
@@ -56,23 +61,28 @@ IsIfRefused p (Some kept) = (kept ≡ p) × (p.ended ≢ e.Well)
 abbrev pub ArePrepared : {L : Type 0} → Answering L → State L → List Statement → State L → Option Printed → Type 0
 ArePrepared answers old ss new None = Prepares answers old ss new
 ArePrepared {L} answers old ss new (Some p) =
-    (front rest : List Statement) × (s : Statement) × (mid : State L) × (ss ≡ front ++ s ∷ rest) × Prepares answers old front mid × IsPrepared answers mid s new (Some p)
+    (front rest : List Statement) × (s : Statement) × (mid : State L) × (ss ≡ front ++ s ∷ rest)
+    × Prepares answers old front mid × IsPrepared answers mid s new (Some p)
 
 -- a statement that has no query broke off
 abbrev pub BreaksPrepared : {L : Type 0} → Answering L → Failing L → State L → Statement → State L → StepFault → Type 0
 BreaksPrepared answers fails old s new fault = (asked s ≡ None) × BreaksAt answers fails old s new fault
 
 -- some are prepared, and the next one broke off
-abbrev pub BreaksPreparing : {L : Type 0} → Answering L → Failing L → State L → List Statement → State L → RunFault → Type 0
+abbrev pub BreaksPreparing : {L : Type 0} → Answering L → Failing L → State L → List Statement → State L → RunFault
+    → Type 0
 BreaksPreparing {L} answers fails old ss new fault =
-    (front rest : List Statement) × (s : Statement) × (mid : State L) × (ss ≡ front ++ s ∷ rest) × Prepares answers old front mid × (asked s ≡ None) × StepBreaks answers fails mid s (break_of fault) new
+    (front rest : List Statement) × (s : Statement) × (mid : State L) × (ss ≡ front ++ s ∷ rest)
+    × Prepares answers old front mid × (asked s ≡ None) × StepBreaks answers fails mid s (break_of fault) new
 
 -- ---- the last statement
 
 -- what is printed of certificates for a query
 pub data QueryChecked (db : Database) (q : Select) (file text : List ℕ) (how : ends.Ended) : Type 0 where
-  refused : (r : Refusal) → QueryFaulty db q r → text ≡ refusal_text r → how ≡ ends.Faulted → QueryChecked db q file text how
-  told : (blocks : Blocks) → Binds db q blocks → AreTold current_version (certified_from db 0 blocks) (lines_of file) text how → QueryChecked db q file text how
+  refused : (r : Refusal) → QueryFaulty db q r → text ≡ refusal_text r → how ≡ ends.Faulted
+      → QueryChecked db q file text how
+  told : (blocks : Blocks) → Binds db q blocks
+      → AreTold current_version (certified_from db 0 blocks) (lines_of file) text how → QueryChecked db q file text how
 
 -- for a statement, whose query they are for if it has one
 abbrev pub LastChecked : Database → Option Select → List ℕ → List ℕ → ends.Ended → Type 0
@@ -81,15 +91,19 @@ LastChecked db (Some q) file text how = QueryChecked db q file text how
 
 abbrev pub ChecksLast : Database → Statement → List ℕ → Option (List ℕ) → Option (List ℕ) → Ended → Type 0
 ChecksLast db s file taken taken' ended =
-    (text : List ℕ) × (how : ends.Ended) × LastChecked db (asked s) file text how × (ended ≡ ended_of how) × Took taken text taken'
+    (text : List ℕ) × (how : ends.Ended) × LastChecked db (asked s) file text how × (ended ≡ ended_of how)
+    × Took taken text taken'
 
 abbrev pub BreaksLast : Database → Statement → List ℕ → Option (List ℕ) → Option (List ℕ) → RunFault → Type 0
 BreaksLast db s file taken taken' (r.Memory offset) = taken' ≡ taken
 BreaksLast db s file taken taken' (r.Library offset) = ⊥
-BreaksLast db s file taken taken' r.Sink = (text : List ℕ) × (how : ends.Ended) × LastChecked db (asked s) file text how × TookBeginning taken text taken'
+BreaksLast db s file taken taken' r.Sink = (text : List ℕ) × (how : ends.Ended) × LastChecked db (asked s) file text how
+    × TookBeginning taken text taken'
 
 -- what comes of a query's certificates
 abbrev pub IsChecked : Database → Select → List ℕ → own.Checked → Type 0
 IsChecked db q file (c.Refused p) = (p.ended ≡ e.Faulted) × QueryChecked db q file p.text.items ends.Faulted
 IsChecked db q file (c.Told checked) =
-    Binds db q (map block_of checked.blocks.items) × AreTold current_version (certified_from db 0 (map block_of checked.blocks.items)) (lines_of file) checked.told.text.items (check_ended_of checked.told.ended)
+    Binds db q (map block_of checked.blocks.items)
+    × AreTold current_version (certified_from db 0 (map block_of checked.blocks.items)) (lines_of file)
+    checked.told.text.items (check_ended_of checked.told.ended)

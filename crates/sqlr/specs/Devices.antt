@@ -27,4 +27,5 @@ TookBeginning (Some before) bytes after = (n : ℕ) × (n ≤ length bytes) × (
 -- a sink has taken all of one text, and a beginning of another behind it
 abbrev pub TookUpTo : Option (List ℕ) → List ℕ → List ℕ → Option (List ℕ) → Type 0
 TookUpTo None printed begun after = ⊤
-TookUpTo (Some before) printed begun after = (n : ℕ) × (n ≤ length begun) × (after ≡ Some ((before ++ printed) ++ take n begun))
+TookUpTo (Some before) printed begun after = (n : ℕ) × (n ≤ length begun)
+    × (after ≡ Some ((before ++ printed) ++ take n begun))

@@ -14,6 +14,8 @@ use Rattle.sqlr.specs.declared.outcome.Printed.{Printed}
 
 -- the line of a refusal, or the texts of least plans
 pub data Explains (db : Database) (q : Select) (p : Printed) : Type 0 where
-  refused : (r : Refusal) → Faulty db (Explain q) r → p.text.items ≡ refusal_text r → p.ended ≡ e.Faulted → Explains db q p
-  told : (blocks : Blocks) → IsAccepted db (Explain q) → Binds db q blocks → AreExplained current_version (certified_from db 0 blocks) p.text.items
+  refused : (r : Refusal) → Faulty db (Explain q) r → p.text.items ≡ refusal_text r → p.ended ≡ e.Faulted
+      → Explains db q p
+  told : (blocks : Blocks) → IsAccepted db (Explain q) → Binds db q blocks
+      → AreExplained current_version (certified_from db 0 blocks) p.text.items
       → p.ended ≡ e.Well → Explains db q p

@@ -18,6 +18,8 @@ pub record Tells (refusal : Option Refusal) (p : Printed) : Type 0 where
 
 -- a statement that reads no file takes one database to the next, and this is printed
 pub data Changes (db : Database) (s : Statement) (db' : Database) (p : Printed) : Type 0 where
-  refused : (r : Refusal) → Faulty db s r → db' ≡ db → p.text.items ≡ refusal_text r → p.ended ≡ e.Faulted → Changes db s db' p
-  repeated : IsAccepted db s → RepeatsKeys db s → db' ≡ db → p.text.items ≡ refusal_text NullOrRepeated → p.ended ≡ e.Faulted → Changes db s db' p
+  refused : (r : Refusal) → Faulty db s r → db' ≡ db → p.text.items ≡ refusal_text r → p.ended ≡ e.Faulted
+      → Changes db s db' p
+  repeated : IsAccepted db s → RepeatsKeys db s → db' ≡ db → p.text.items ≡ refusal_text NullOrRepeated
+      → p.ended ≡ e.Faulted → Changes db s db' p
   made : IsAccepted db s → Makes db s db' → p.text.items ≡ done_text → p.ended ≡ e.Well → Changes db s db' p

@@ -23,6 +23,9 @@ IsWorkTold db blocks plans (Exception raise) work = work ≡ None
 
 -- the line of a refusal, or what is told of its answer
 pub data Answers (db : Database) (q : Select) (p : Printed) : Type 0 where
-  refused : (r : Refusal) → Faulty db (Query q) r → p.text.items ≡ refusal_text r → p.ended ≡ e.Faulted → p.work ≡ None → Answers db q p
-  told : (blocks : Blocks) (told : Told) (plans : List Plan) → IsAccepted db (Query q) → Binds db q blocks → AllowedOf db blocks told → AreCertified current_version db blocks plans
-      → p.text.items ≡ shown (names_of blocks) told → p.ended ≡ ended_of (told_ended told) → IsWorkTold db blocks plans told p.work → Answers db q p
+  refused : (r : Refusal) → Faulty db (Query q) r → p.text.items ≡ refusal_text r → p.ended ≡ e.Faulted → p.work ≡ None
+      → Answers db q p
+  told : (blocks : Blocks) (told : Told) (plans : List Plan) → IsAccepted db (Query q) → Binds db q blocks
+      → AllowedOf db blocks told → AreCertified current_version db blocks plans
+      → p.text.items ≡ shown (names_of blocks) told → p.ended ≡ ended_of (told_ended told)
+      → IsWorkTold db blocks plans told p.work → Answers db q p

@@ -5,7 +5,8 @@ use Rattle.definitions.specs.Ended as ends
 use Rattle.definitions.specs.Statement.{Name, Statement}
 use Rattle.definitions.specs.Table.{Table, Database, table_named}
 use Rattle.definitions.specs.Loading.{Record, AreFileRecords}
-use Rattle.definitions_execution.specs.Step.{Answering, Failing, State, Step, Steps, Run, Loaded, Break, NoMemory, LibraryFailed, SinkFailed, StepBreaks, StepsBreak, Breaks}
+use Rattle.definitions_execution.specs.Step.{Answering, Failing, State, Step, Steps, Run, Loaded, Break, NoMemory}
+use Rattle.definitions_execution.specs.Step.{LibraryFailed, SinkFailed, StepBreaks, StepsBreak, Breaks}
 use Rattle.sqlr.specs.declared.ended.Ended.{Ended}
 use Rattle.sqlr.specs.declared.ended.Ended.TheVariants as e
 use Rattle.sqlr.specs.declared.ended.RunFault.{RunFault}
@@ -40,22 +41,30 @@ pub record TakesBytes (db : Database) (name : Name) (bytes : List ℕ) (db' : Da
   pub ended : p.ended ≡ ended_of how
 
 -- a script is run: the sink took all that it prints
-abbrev pub Runs : {L : Type 0} → Answering L → State L → List ℕ → State L → Option (List ℕ) → Option (List ℕ) → Ended → Type 0
-Runs answers old script new taken taken' ended = (text : List ℕ) × (how : ends.Ended) × Run answers old script new text how × (ended ≡ ended_of how) × Took taken text taken'
+abbrev pub Runs : {L : Type 0} → Answering L → State L → List ℕ → State L → Option (List ℕ) → Option (List ℕ) → Ended
+    → Type 0
+Runs answers old script new taken taken' ended = (text : List ℕ) × (how : ends.Ended)
+    × Run answers old script new text how × (ended ≡ ended_of how) × Took taken text taken'
 
 -- a script's run breaks off: the sink took the beginning of what it prints
-abbrev pub BreaksOff : {L : Type 0} → Answering L → Failing L → State L → List ℕ → State L → Option (List ℕ) → Option (List ℕ) → RunFault → Type 0
+abbrev pub BreaksOff : {L : Type 0} → Answering L → Failing L → State L → List ℕ → State L → Option (List ℕ)
+    → Option (List ℕ) → RunFault → Type 0
 BreaksOff answers fails old script new taken taken' fault =
-    (printed begun : List ℕ) × Breaks answers fails old script (break_of fault) new printed begun × TookUpTo taken printed begun taken'
+    (printed begun : List ℕ) × Breaks answers fails old script (break_of fault) new printed begun
+    × TookUpTo taken printed begun taken'
 
 -- statements are run: the sink took all that they print
-abbrev pub RunsAll : {L : Type 0} → Answering L → State L → List Statement → State L → Option (List ℕ) → Option (List ℕ) → Ended → Type 0
-RunsAll answers old ss new taken taken' ended = (text : List ℕ) × (how : ends.Ended) × Steps answers old ss new text how × (ended ≡ ended_of how) × Took taken text taken'
+abbrev pub RunsAll : {L : Type 0} → Answering L → State L → List Statement → State L → Option (List ℕ) → Option (List ℕ)
+    → Ended → Type 0
+RunsAll answers old ss new taken taken' ended = (text : List ℕ) × (how : ends.Ended) × Steps answers old ss new text how
+    × (ended ≡ ended_of how) × Took taken text taken'
 
 -- statements break off: the sink took the beginning of what they print
-abbrev pub BreaksIn : {L : Type 0} → Answering L → Failing L → State L → List Statement → State L → Option (List ℕ) → Option (List ℕ) → RunFault → Type 0
+abbrev pub BreaksIn : {L : Type 0} → Answering L → Failing L → State L → List Statement → State L → Option (List ℕ)
+    → Option (List ℕ) → RunFault → Type 0
 BreaksIn answers fails old ss new taken taken' fault =
-    (printed begun : List ℕ) × StepsBreak answers fails old ss (break_of fault) new printed begun × TookUpTo taken printed begun taken'
+    (printed begun : List ℕ) × StepsBreak answers fails old ss (break_of fault) new printed begun
+    × TookUpTo taken printed begun taken'
 
 -- a line is printed, or breaks off
 abbrev pub Prints : List ℕ → Option (List ℕ) → Option (List ℕ) → Ended → Type 0
@@ -68,7 +77,8 @@ BreaksLine line taken taken' r.Sink = TookBeginning taken line taken'
 
 -- how two statements ended, one behind the other
 abbrev pub IsBoth : Ended → Ended → Ended → Type 0
-IsBoth first second both = (a b : ends.Ended) → first ≡ ended_of a → second ≡ ended_of b → both ≡ ended_of (both_ended a b)
+IsBoth first second both = (a b : ends.Ended) → first ≡ ended_of a → second ≡ ended_of b
+    → both ≡ ended_of (both_ended a b)
 
 -- why a statement broke off, in the words of the definitions
 abbrev pub step_break : StepFault → Break

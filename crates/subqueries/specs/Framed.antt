@@ -9,7 +9,8 @@ use Rattle.subqueries.specs.declared.frames.Frame.{Frame}
 use Rattle.subqueries.specs.declared.frames.Frames.{Frames}
 
 abbrev pub combination_in : BlockSource → Composite → Combination
-combination_in source composite = combination_of source.database (block_in source) (numbers_in (length (block_in source).tables) composite)
+combination_in source composite =
+    combination_of source.database (block_in source) (numbers_in (length (block_in source).tables) composite)
 
 abbrev pub frame_combination : Frame → Combination
 frame_combination f = combination_in f.source.now f.composite

@@ -1,5 +1,6 @@
 -- The results of blocks that are kept.
-use Rattle.std.specs.Prelude.{ℕ, ◌≡◌, List, [], Option, Some, None, Result, Ok, IfSome, get_or, map, option_map, set, slice_get}
+use Rattle.std.specs.Prelude.{ℕ, ◌≡◌, List, [], Option, Some, None, Result, Ok, IfSome, get_or, map, option_map, set}
+use Rattle.std.specs.Prelude.{slice_get}
 use Rattle.std.specs.List.{AllByRecursion}
 use Rattle.definitions.specs.Value.{Value}
 use Rattle.definitions.specs.Arithmetic.{Raise}
@@ -19,7 +20,8 @@ kept_in r = record { key = map owned_value r.key.items; told = told_in r.told; t
 
 -- what is told of a block in the rows around, and its total there, to be kept
 abbrev pub kept_of : List Combination → List OuterColumn → Told → ℕ → Kept
-kept_of outer parameters told total = record { key = outer_values outer (outer_columns_of parameters); told = told_in told; total = total }
+kept_of outer parameters told total =
+    record { key = outer_values outer (outer_columns_of parameters); told = told_in told; total = total }
 
 -- all places, and what is in each
 abbrev pub places_in : KeptResults → List (Option Kept)

@@ -8,7 +8,8 @@ use Rattle.sqlvalue.specs.NumberKeys.{HasNumberKey}
 
 -- the first so many values rank before a null or a number of the scale where their keys are less than its key
 abbrev pub RankByKeys : ℕ → ℕ → List OwnedValue → List ℤ → Type 0
-RankByKeys count scale values keys = (i : ℕ) (value : OwnedValue) (key : ℤ) (other : Value) (k : ℤ) → i < count → HasNumberKey scale other k
+RankByKeys count scale values keys = (i : ℕ) (value : OwnedValue) (key : ℤ) (other : Value) (k : ℤ) → i < count
+    → HasNumberKey scale other k
     → is_lt (rank (owned_value (get_or values i value)) other) ≡ int_lt (get_or keys i key) k
 
 -- each value has such a key

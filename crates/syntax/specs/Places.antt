@@ -9,7 +9,8 @@ use Rattle.parse_tree.specs.declared.leaf.ColumnReference.{ColumnReference}
 use Rattle.parse_tree.specs.declared.expr.Expr.{Expr}
 use Rattle.parse_tree.specs.declared.expr.Expr.TheOpen.{Expr-F, SelectList-F, Item-F, Operand-F, Block-F}
 use Rattle.parse_tree.specs.declared.expr.Expr.TheOpen as e
-use Rattle.parse_tree.specs.declared.expr.Expr.TheFolds.{fold-Expr, fold-SelectList, fold-Item, fold-Operand, fold-Block}
+use Rattle.parse_tree.specs.declared.expr.Expr.TheFolds.{fold-Expr, fold-SelectList, fold-Item, fold-Operand}
+use Rattle.parse_tree.specs.declared.expr.Expr.TheFolds.{fold-Block}
 use Rattle.parse_tree.specs.declared.expr.SelectList.{SelectList}
 use Rattle.parse_tree.specs.declared.expr.Item.{Item}
 use Rattle.parse_tree.specs.declared.expr.Operand.{Operand}
@@ -25,7 +26,8 @@ use Rattle.parse_tree.specs.declared.statement.Range.{Range}
 use Rattle.parse_tree.specs.declared.statement.IndexStatistics.{IndexStatistics}
 use Rattle.parse_tree.specs.declared.statement.Statement.{Statement}
 use Rattle.parse_tree.specs.declared.statement.Statement.TheVariants as s
-use Rattle.syntax_cursor.specs.Places.{Leaf, Placed, Reserved, Mark, one, if_there, name_leaves, numeral_leaves, string_leaves, count_leaves}
+use Rattle.syntax_cursor.specs.Places.{Leaf, Placed, Reserved, Mark, one, if_there, name_leaves, numeral_leaves}
+use Rattle.syntax_cursor.specs.Places.{string_leaves, count_leaves}
 
 -- ---- operators
 
@@ -99,7 +101,8 @@ list_layer (e.Items xs) = all same xs.items
 
 abbrev pub block_layer : Block-F (List Placed) (List Placed) (List Placed) (List Placed) (List Placed) → List Placed
 block_layer b =
-    ((((one (Reserved w.Select) b.start ++ b.list) ++ all source_leaves b.sources.tables.items) ++ if_there same b.condition) ++ all reference_leaves b.groups.items) ++ if_there same b.having
+    ((((one (Reserved w.Select) b.start ++ b.list) ++ all source_leaves b.sources.tables.items)
+    ++ if_there same b.condition) ++ all reference_leaves b.groups.items) ++ if_there same b.having
 
 abbrev pub item_layer : Item-F (List Placed) (List Placed) (List Placed) (List Placed) (List Placed) → List Placed
 item_layer i = i.value ++ if_there name_leaves i.alias
@@ -108,19 +111,29 @@ abbrev pub operand_layer : Operand-F (List Placed) (List Placed) (List Placed) (
 operand_layer x = one (operator_leaf (operator_of x.operator)) x.start ++ x.value
 
 abbrev pub expr_leaves : Expr → List Placed
-expr_leaves = fold-Expr (List Placed) (List Placed) (List Placed) (List Placed) (List Placed) expr_layer list_layer block_layer item_layer operand_layer
+expr_leaves =
+    fold-Expr (List Placed) (List Placed) (List Placed) (List Placed) (List Placed) expr_layer list_layer block_layer
+    item_layer operand_layer
 
 abbrev pub list_leaves : SelectList → List Placed
-list_leaves = fold-SelectList (List Placed) (List Placed) (List Placed) (List Placed) (List Placed) expr_layer list_layer block_layer item_layer operand_layer
+list_leaves =
+    fold-SelectList (List Placed) (List Placed) (List Placed) (List Placed) (List Placed) expr_layer list_layer
+    block_layer item_layer operand_layer
 
 abbrev pub block_leaves : Block → List Placed
-block_leaves = fold-Block (List Placed) (List Placed) (List Placed) (List Placed) (List Placed) expr_layer list_layer block_layer item_layer operand_layer
+block_leaves =
+    fold-Block (List Placed) (List Placed) (List Placed) (List Placed) (List Placed) expr_layer list_layer block_layer
+    item_layer operand_layer
 
 abbrev pub item_leaves : Item → List Placed
-item_leaves = fold-Item (List Placed) (List Placed) (List Placed) (List Placed) (List Placed) expr_layer list_layer block_layer item_layer operand_layer
+item_leaves =
+    fold-Item (List Placed) (List Placed) (List Placed) (List Placed) (List Placed) expr_layer list_layer block_layer
+    item_layer operand_layer
 
 abbrev pub operand_leaves : Operand → List Placed
-operand_leaves = fold-Operand (List Placed) (List Placed) (List Placed) (List Placed) (List Placed) expr_layer list_layer block_layer item_layer operand_layer
+operand_leaves =
+    fold-Operand (List Placed) (List Placed) (List Placed) (List Placed) (List Placed) expr_layer list_layer block_layer
+    item_layer operand_layer
 
 -- ---- statements
 
@@ -151,7 +164,9 @@ abbrev pub statement_leaves : Statement → List Placed
 statement_leaves (s.CreateTable name columns) = name_leaves name ++ all definition_leaves columns.items
 statement_leaves (s.CreateIndex unique table columns) = name_leaves table ++ all name_leaves columns.items
 statement_leaves (s.Load table file) = name_leaves table ++ string_leaves file
-statement_leaves (s.SetTableStatistics table rows pages) = (name_leaves table ++ count_leaves rows) ++ count_leaves pages
-statement_leaves (s.SetIndexStatistics table columns statistics) = (name_leaves table ++ all name_leaves columns.items) ++ statistics_leaves statistics
+statement_leaves (s.SetTableStatistics table rows pages) = (name_leaves table ++ count_leaves rows)
+    ++ count_leaves pages
+statement_leaves (s.SetIndexStatistics table columns statistics) = (name_leaves table ++ all name_leaves columns.items)
+    ++ statistics_leaves statistics
 statement_leaves (s.Query q) = select_leaves q
 statement_leaves (s.Explain q) = select_leaves q

@@ -1,5 +1,6 @@
 -- Where the leaves of trees stand among the tokens: names, literals and operators.
-use Rattle.std.specs.Prelude.{ℕ, ◌≡◌, Bool, true, false, List, [], ◌∷◌, Option, Some, None, drop, map, slice_get, unwrap_or}
+use Rattle.std.specs.Prelude.{ℕ, ◌≡◌, Bool, true, false, List, [], ◌∷◌, Option, Some, None, drop, map, slice_get}
+use Rattle.std.specs.Prelude.{unwrap_or}
 use Rattle.definitions.specs.Word as w
 use Rattle.definitions.specs.Word.{Word}
 use Rattle.definitions.specs.Token as t
@@ -85,7 +86,8 @@ is_operator_mark t.LessOrEquals = true
 is_operator_mark t.GreaterOrEquals = true
 is_operator_mark _ = false
 
--- the tokens that always have a leaf; a number has none in a type, and the other words and symbols also stand where no operator is written
+-- the tokens that always have a leaf; a number has none in a type, and the other words and symbols also stand where no
+-- operator is written
 abbrev pub has_leaf : Leaf → Bool
 has_leaf (Name n) = true
 has_leaf (Number units scale) = false
@@ -93,11 +95,14 @@ has_leaf (String codes) = true
 has_leaf (Reserved word) = is_operator_word word
 has_leaf (Mark symbol) = is_operator_mark symbol
 
--- leaves are those of some tokens, in their order, up to the tokens that are left; none that always has a leaf is passed over
+-- leaves are those of some tokens, in their order, up to the tokens that are left; none that always has a leaf is
+-- passed over
 pub data Stand : (tokens leaves left : List Placed) → Type 0 where
   none : (tokens left : List Placed) → tokens ≡ left → Stand tokens [] left
-  passed : (token : Placed) (tokens leaves left : List Placed) → has_leaf token.leaf ≡ false → Stand tokens leaves left → Stand (token ∷ tokens) leaves left
-  leaf : (token : Placed) (tokens leaves left : List Placed) → Stand tokens leaves left → Stand (token ∷ tokens) (token ∷ leaves) left
+  passed : (token : Placed) (tokens leaves left : List Placed) → has_leaf token.leaf ≡ false → Stand tokens leaves left
+      → Stand (token ∷ tokens) leaves left
+  leaf : (token : Placed) (tokens leaves left : List Placed) → Stand tokens leaves left
+      → Stand (token ∷ tokens) (token ∷ leaves) left
 
 -- leaves are those of all the tokens
 abbrev pub StandIn : List Placed → List Token → Type 0

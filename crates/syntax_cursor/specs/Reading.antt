@@ -1,5 +1,6 @@
 -- What it means that a rule is read at a place of the tokens, or stopped.
-use Rattle.std.specs.Prelude.{ℕ, ◌≡◌, ◌+◌, ◌<◌, ◌≤◌, List, Bool, true, false, Option, Some, None, Result, Ok, Err, slice_get, take, map, unwrap_or}
+use Rattle.std.specs.Prelude.{ℕ, ◌≡◌, ◌+◌, ◌<◌, ◌≤◌, List, Bool, true, false, Option, Some, None, Result, Ok, Err}
+use Rattle.std.specs.Prelude.{slice_get, take, map, unwrap_or}
 use Rattle.definitions.specs.Token as token
 use Rattle.definitions.specs.Token.{TokenKind}
 use Rattle.definitions.specs.Rule.{Rule, At, NotAt}
@@ -52,7 +53,8 @@ Takes says meaning p q None = (says (slice_get p.tokens p.at) ≡ None) × (q �
 -- a number is passed if it stands there
 abbrev pub TakesNumber : Place → Place → Option tree.Numeral → Type 0
 TakesNumber p q (Some n) =
-    ((says : ℕ × ℕ × Option ℕ) × (numeral_in (slice_get p.tokens p.at) ≡ Some says) × (numeral_of n ≡ Numeral says.0 says.1 (unwrap_or says.2 0))) × IsNext p q
+    ((says : ℕ × ℕ × Option ℕ) × (numeral_in (slice_get p.tokens p.at) ≡ Some says)
+    × (numeral_of n ≡ Numeral says.0 says.1 (unwrap_or says.2 0))) × IsNext p q
 TakesNumber p q None = (numeral_in (slice_get p.tokens p.at) ≡ None) × (q ≡ p)
 
 -- ---- rules
@@ -69,11 +71,14 @@ Nowhere {X} rule us at = (to : ℕ) (x : X) → rule us at to x → ⊥
 abbrev pub opened : List TokenKind → ℕ → ℕ
 opened ts n = openers (take n ts)
 
--- a rule that begins at a place is stopped there or behind, whatever follows the place of the stop: within no levels does it read anything;
--- or it does not within so many, though more than a number of tokens from where it begins could have opened one
+-- a rule that begins at a place is stopped there or behind, whatever follows the place of the stop: within no levels
+-- does it read anything; or it does not within so many, though more than a number of tokens from where it begins could
+-- have opened one
 pub data Stops {X : Type 0} (rule : ℕ → Rule X) (ts : List TokenKind) (levels least at : ℕ) : ParseStop → Type 0 where
-  at_token : (n : ℕ) → at ≤ n → ((us : List TokenKind) → Agree ts us n → (m : ℕ) → Nowhere (rule m) us at) → Stops rule ts levels least at (s.Token n)
-  too_deep : (n : ℕ) (k : TokenKind) → at ≤ n → slice_get ts n ≡ Some k → opened ts at + least < opened ts (n + 1) → ((us : List TokenKind) → Agree ts us n → Nowhere (rule levels) us at) → Stops rule ts levels least at (s.Deep n)
+  at_token : (n : ℕ) → at ≤ n → ((us : List TokenKind) → Agree ts us n → (m : ℕ) → Nowhere (rule m) us at)
+      → Stops rule ts levels least at (s.Token n)
+  too_deep : (n : ℕ) (k : TokenKind) → at ≤ n → slice_get ts n ≡ Some k → opened ts at + least < opened ts (n + 1)
+      → ((us : List TokenKind) → Agree ts us n → Nowhere (rule levels) us at) → Stops rule ts levels least at (s.Deep n)
   for_memory : Stops rule ts levels least at s.Memory
 
 -- a rule is read from a place to another, or stopped

@@ -7,7 +7,13 @@ use Rattle.tuple_sort.specs.Packing.{tables_in, unpacked}
 use Rattle.tuple_sort.specs.declared.list.Composites.TheInside.{Inside}
 
 abbrev pub list_of : Inside → CompositeList
-list_of s = record { tables = set_of s.tables; width = s.width; items = map (unpacked s.width s.members.items) (rows_of s.kept) }
+list_of s =
+    record {
+      tables = set_of s.tables;
+      width = s.width;
+      items =
+          map (unpacked s.width s.members.items) (rows_of s.kept);
+    }
 
 -- the rows of the set's tables, and there is room for them
 pub record IsKept (s : Inside) : Type 0 where

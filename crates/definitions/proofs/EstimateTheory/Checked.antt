@@ -18,7 +18,8 @@ use Rattle.definitions.specs.Plans.PlanSpace.{MayFollow, IsInner, InSpace, Gives
 use Rattle.definitions.specs.Plans.Cost.{limit, saturated, loop_cost, merge_cost, cost_of}
 use Rattle.definitions.specs.Plans.Folding.{Folds}
 use Rattle.definitions.specs.Plans.Certificate.{StateCost, Certificate, Lists, bound, Precedes, AreRising, IsCertificate}
-use Rattle.definitions.specs.Plans.Validity.{AccessesHold, LoopsHold, MergesHold, SortsHold, NoneFinal, KeepsBounds, IsValid}
+use Rattle.definitions.specs.Plans.Validity.{NoneFinal, KeepsBounds, IsValid}
+use Rattle.definitions.proofs.PlanTheory.Rules.{AccessesHold, LoopsHold, MergesHold, SortsHold, together}
 use Rattle.definitions.specs.Estimates.BlockTables.{has}
 use Rattle.definitions.proofs.EstimateTheory.Tests.{left_of, right_of, other_of, le_of, lt_of, eq_of, passes, all_pass, range_pass, below_length, bit_is, bit_is_not, has_is, some_test, second_test, both_tests, not_true}
 use Rattle.definitions.proofs.EstimateTheory.Waiting.{waits, may_not_follow}
@@ -252,7 +253,7 @@ module _ (space : Space) (certificate : Certificate) where
   pub keeps : passes_test ≡ true → KeepsBounds space certificate
   keeps h =
       let rest = right_of _ _ h in let last = right_of _ _ rest in
-      record { form = form (left_of _ _ h); accesses = accesses (left_of _ _ rest); joins = (loops (left_of _ _ last), merges (left_of _ _ last)); sorts = sorts (right_of _ _ last) }
+      record { form = form (left_of _ _ h); comparisons = together space certificate (accesses (left_of _ _ rest)) (loops (left_of _ _ last)) (merges (left_of _ _ last)) (sorts (right_of _ _ last)) }
 
   pub valid_by_test : (plan : Plan) → passes_test ≡ true → InSpace space plan → GivesRequired space plan → cost_of space plan ≡ certificate.target → IsValid space plan certificate
   valid_by_test plan h inside gives costs = (keeps h, (none_final (left_of _ _ h), (inside, gives, costs)))

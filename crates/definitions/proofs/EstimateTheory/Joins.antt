@@ -13,6 +13,7 @@ use Rattle.definitions.specs.Plans.PlanSpace.{tables_of, order_of, IsPlan, acces
 use Rattle.definitions.specs.Plans.Cost.{cost_of}
 use Rattle.definitions.specs.Plans.Folding.{OpensMerge, IsUseful, Folds, IsOn}
 use Rattle.definitions.specs.Plans.Certificate.{StateCost, Certificate, bound}
+use Rattle.definitions.specs.Plans.Comparisons.{AccessStep, SortStep, by_access, by_sort}
 use Rattle.definitions.specs.Plans.Validity.{KeepsBounds, IsValid}
 use Rattle.definitions.specs.Plans.Exact.{AreAttained}
 use Rattle.definitions.specs.Estimates.Version.{One, Two, Three}
@@ -21,6 +22,7 @@ use Rattle.definitions.specs.Examples.Estimates.Setups.{column_at, scan_of, stat
 use Rattle.definitions.specs.Examples.Estimates.Joins.{unindexed, join, by_y, key_indexed, sorted_and_merged, key_join, join_certificate, ordered_certificate, key_certificate, JoinIsCertified, OrderedIsCertified, KeyJoinIsCertified, unsorted_certificate, HigherBoundsAreRefused}
 use Rattle.definitions.specs.Examples.Estimates.Products.{small_and_great, product_pays, product_first, product_certificate, ProductIsCertified, late_space, LateProductsCostMore}
 use Rattle.definitions.specs.Plans.Exact.{IsCertified}
+use Rattle.definitions.proofs.PlanTheory.Rules.{accesses_rule, joins_rule}
 use Rattle.definitions.proofs.PlanTheory.Bounds.{bounded, least}
 use Rattle.definitions.proofs.PlanTheory.TableSets.{by_cases}
 use Rattle.definitions.proofs.PlanTheory.Orders.{fold_of}
@@ -374,81 +376,87 @@ no_order space tables e f (inr opens) = let none : OpensMerge space tables [] = 
 pub refused : HigherBoundsAreRefused
 refused One = (
   (
-    accesses (space_of One key_indexed join) (key_certificate 320 1219) refl,
-    (loops (space_of One key_indexed join) (key_certificate 320 1219) refl, merges (space_of One key_indexed join) (key_certificate 320 1219) refl),
-    (1219, (2, lit≤ tt, refl)),
+    accesses_rule (space_of One key_indexed join) (key_certificate 320 1219) (accesses (space_of One key_indexed join) (key_certificate 320 1219) refl),
+    joins_rule (space_of One key_indexed join) (key_certificate 320 1219) (loops (space_of One key_indexed join) (key_certificate 320 1219) refl) (merges (space_of One key_indexed join) (key_certificate 320 1219) refl),
     (
       2,
       2,
-      (λ e. absurd (omega (arith, e)), (lit≤ tt, over_of (space_of One key_indexed join) (key_certificate 320 1219) 2 2 refl)),
-      inl (inr (refl, (0, column_at 1 0, column_at 0 0, ((_, refl, refl, inr refl), λ e. absurd (omega (arith, e))), refl, itself _)), refl),
+      SortStep 2,
+      2299,
+      by_sort 2 0 2 2 (1219, (2, lit≤ tt, refl)) (λ e. absurd (omega (arith, e)), (lit≤ tt, over_of (space_of One key_indexed join) (key_certificate 320 1219) 2 2 refl)) (inl (inr (refl, (0, column_at 1 0, column_at 0 0, ((_, refl, refl, inr refl), λ e. absurd (omega (arith, e))), refl, itself _)), refl)),
+      refl,
       lit≤ tt,
     ),
   ),
-  (SegmentScan 1, lit≤ tt, (0, lit≤ tt, refl), refl, inr (no_order (space_of One key_indexed join) 2 refl refl, refl), lit≤ tt),
+  (2, 0, AccessStep (SegmentScan 1), 2000, by_access (SegmentScan 1) 0 (lit≤ tt) (0, lit≤ tt, refl) (inr (no_order (space_of One key_indexed join) 2 refl refl, refl)), refl, lit≤ tt),
   (
-    accesses (space_of One key_indexed join) unsorted_certificate refl,
-    (loops (space_of One key_indexed join) unsorted_certificate refl, merges (space_of One key_indexed join) unsorted_certificate refl),
-    (200, (0, lit≤ tt, refl)),
+    accesses_rule (space_of One key_indexed join) unsorted_certificate (accesses (space_of One key_indexed join) unsorted_certificate refl),
+    joins_rule (space_of One key_indexed join) unsorted_certificate (loops (space_of One key_indexed join) unsorted_certificate refl) (merges (space_of One key_indexed join) unsorted_certificate refl),
     (
       1,
       1,
-      (λ e. absurd (omega (arith, e)), (lit≤ tt, over_of (space_of One key_indexed join) unsorted_certificate 1 1 refl)),
-      inl (inr (refl, (0, column_at 0 0, column_at 1 0, ((_, refl, refl, inl refl), λ e. absurd (omega (arith, e))), refl, itself _)), refl),
+      SortStep 1,
+      320,
+      by_sort 1 0 1 1 (200, (0, lit≤ tt, refl)) (λ e. absurd (omega (arith, e)), (lit≤ tt, over_of (space_of One key_indexed join) unsorted_certificate 1 1 refl)) (inl (inr (refl, (0, column_at 0 0, column_at 1 0, ((_, refl, refl, inl refl), λ e. absurd (omega (arith, e))), refl, itself _)), refl)),
+      refl,
       lit≤ tt,
     ),
   ),
 )
 refused Two = (
   (
-    accesses (space_of Two key_indexed join) (key_certificate 320 1219) refl,
-    (loops (space_of Two key_indexed join) (key_certificate 320 1219) refl, merges (space_of Two key_indexed join) (key_certificate 320 1219) refl),
-    (1219, (2, lit≤ tt, refl)),
+    accesses_rule (space_of Two key_indexed join) (key_certificate 320 1219) (accesses (space_of Two key_indexed join) (key_certificate 320 1219) refl),
+    joins_rule (space_of Two key_indexed join) (key_certificate 320 1219) (loops (space_of Two key_indexed join) (key_certificate 320 1219) refl) (merges (space_of Two key_indexed join) (key_certificate 320 1219) refl),
     (
       2,
       2,
-      (λ e. absurd (omega (arith, e)), (lit≤ tt, over_of (space_of Two key_indexed join) (key_certificate 320 1219) 2 2 refl)),
-      inl (inr (refl, (0, column_at 1 0, column_at 0 0, ((_, refl, refl, inr refl), λ e. absurd (omega (arith, e))), refl, itself _)), refl),
+      SortStep 2,
+      2299,
+      by_sort 2 0 2 2 (1219, (2, lit≤ tt, refl)) (λ e. absurd (omega (arith, e)), (lit≤ tt, over_of (space_of Two key_indexed join) (key_certificate 320 1219) 2 2 refl)) (inl (inr (refl, (0, column_at 1 0, column_at 0 0, ((_, refl, refl, inr refl), λ e. absurd (omega (arith, e))), refl, itself _)), refl)),
+      refl,
       lit≤ tt,
     ),
   ),
-  (SegmentScan 1, lit≤ tt, (0, lit≤ tt, refl), refl, inr (no_order (space_of Two key_indexed join) 2 refl refl, refl), lit≤ tt),
+  (2, 0, AccessStep (SegmentScan 1), 2000, by_access (SegmentScan 1) 0 (lit≤ tt) (0, lit≤ tt, refl) (inr (no_order (space_of Two key_indexed join) 2 refl refl, refl)), refl, lit≤ tt),
   (
-    accesses (space_of Two key_indexed join) unsorted_certificate refl,
-    (loops (space_of Two key_indexed join) unsorted_certificate refl, merges (space_of Two key_indexed join) unsorted_certificate refl),
-    (200, (0, lit≤ tt, refl)),
+    accesses_rule (space_of Two key_indexed join) unsorted_certificate (accesses (space_of Two key_indexed join) unsorted_certificate refl),
+    joins_rule (space_of Two key_indexed join) unsorted_certificate (loops (space_of Two key_indexed join) unsorted_certificate refl) (merges (space_of Two key_indexed join) unsorted_certificate refl),
     (
       1,
       1,
-      (λ e. absurd (omega (arith, e)), (lit≤ tt, over_of (space_of Two key_indexed join) unsorted_certificate 1 1 refl)),
-      inl (inr (refl, (0, column_at 0 0, column_at 1 0, ((_, refl, refl, inl refl), λ e. absurd (omega (arith, e))), refl, itself _)), refl),
+      SortStep 1,
+      320,
+      by_sort 1 0 1 1 (200, (0, lit≤ tt, refl)) (λ e. absurd (omega (arith, e)), (lit≤ tt, over_of (space_of Two key_indexed join) unsorted_certificate 1 1 refl)) (inl (inr (refl, (0, column_at 0 0, column_at 1 0, ((_, refl, refl, inl refl), λ e. absurd (omega (arith, e))), refl, itself _)), refl)),
+      refl,
       lit≤ tt,
     ),
   ),
 )
 refused Three = (
   (
-    accesses (space_of Three key_indexed join) (key_certificate 320 1219) refl,
-    (loops (space_of Three key_indexed join) (key_certificate 320 1219) refl, merges (space_of Three key_indexed join) (key_certificate 320 1219) refl),
-    (1219, (2, lit≤ tt, refl)),
+    accesses_rule (space_of Three key_indexed join) (key_certificate 320 1219) (accesses (space_of Three key_indexed join) (key_certificate 320 1219) refl),
+    joins_rule (space_of Three key_indexed join) (key_certificate 320 1219) (loops (space_of Three key_indexed join) (key_certificate 320 1219) refl) (merges (space_of Three key_indexed join) (key_certificate 320 1219) refl),
     (
       2,
       2,
-      (λ e. absurd (omega (arith, e)), (lit≤ tt, over_of (space_of Three key_indexed join) (key_certificate 320 1219) 2 2 refl)),
-      inl (inr (refl, (0, column_at 1 0, column_at 0 0, ((_, refl, refl, inr refl), λ e. absurd (omega (arith, e))), refl, itself _)), refl),
+      SortStep 2,
+      2299,
+      by_sort 2 0 2 2 (1219, (2, lit≤ tt, refl)) (λ e. absurd (omega (arith, e)), (lit≤ tt, over_of (space_of Three key_indexed join) (key_certificate 320 1219) 2 2 refl)) (inl (inr (refl, (0, column_at 1 0, column_at 0 0, ((_, refl, refl, inr refl), λ e. absurd (omega (arith, e))), refl, itself _)), refl)),
+      refl,
       lit≤ tt,
     ),
   ),
-  (SegmentScan 1, lit≤ tt, (0, lit≤ tt, refl), refl, inr (no_order (space_of Three key_indexed join) 2 refl refl, refl), lit≤ tt),
+  (2, 0, AccessStep (SegmentScan 1), 2000, by_access (SegmentScan 1) 0 (lit≤ tt) (0, lit≤ tt, refl) (inr (no_order (space_of Three key_indexed join) 2 refl refl, refl)), refl, lit≤ tt),
   (
-    accesses (space_of Three key_indexed join) unsorted_certificate refl,
-    (loops (space_of Three key_indexed join) unsorted_certificate refl, merges (space_of Three key_indexed join) unsorted_certificate refl),
-    (200, (0, lit≤ tt, refl)),
+    accesses_rule (space_of Three key_indexed join) unsorted_certificate (accesses (space_of Three key_indexed join) unsorted_certificate refl),
+    joins_rule (space_of Three key_indexed join) unsorted_certificate (loops (space_of Three key_indexed join) unsorted_certificate refl) (merges (space_of Three key_indexed join) unsorted_certificate refl),
     (
       1,
       1,
-      (λ e. absurd (omega (arith, e)), (lit≤ tt, over_of (space_of Three key_indexed join) unsorted_certificate 1 1 refl)),
-      inl (inr (refl, (0, column_at 0 0, column_at 1 0, ((_, refl, refl, inl refl), λ e. absurd (omega (arith, e))), refl, itself _)), refl),
+      SortStep 1,
+      320,
+      by_sort 1 0 1 1 (200, (0, lit≤ tt, refl)) (λ e. absurd (omega (arith, e)), (lit≤ tt, over_of (space_of Three key_indexed join) unsorted_certificate 1 1 refl)) (inl (inr (refl, (0, column_at 0 0, column_at 1 0, ((_, refl, refl, inl refl), λ e. absurd (omega (arith, e))), refl, itself _)), refl)),
+      refl,
       lit≤ tt,
     ),
   ),

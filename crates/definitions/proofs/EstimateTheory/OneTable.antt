@@ -1,6 +1,7 @@
 -- Least costs that a target alone shows, of blocks over one table.
 use Prim.Native.Nat.{zero}
 use Rattle.std.proofs.Common.{suc, ℕ, Option, Some, ◌≡◌, inl, inr, arith, slice_get, refl, [], ◌∷◌, None, lit≤, false, true}
+use Rattle.definitions.specs.Plans.Comparisons.{AccessStep, by_access}
 use Rattle.definitions.specs.Plans.Plan.{Access}
 use Rattle.definitions.specs.Plans.ColumnClass.{Equates, itself}
 use Rattle.definitions.specs.Plans.TableSet.{TableSet}
@@ -84,14 +85,14 @@ of_no_use version tables order (inr opens) = no_use version tables _ opens
 
 pub other_targets : OtherTargetsAreRefused
 other_targets One = (
-  (match_of_a, lit≤ tt, (2, lit≤ tt, refl), refl, inr (of_no_use One 1 1, refl), lit≤ tt),
+  (1, 0, AccessStep match_of_a, _, by_access match_of_a 0 (lit≤ tt) (2, lit≤ tt, refl) (inr (of_no_use One 1 1, refl)), refl, lit≤ tt),
   not_met (space_of One (one_index None) (select_b a_is_seven)) (Access match_of_a) 19 (lit≤ tt) ((lit≤ tt, (lit≤ tt, (lit≤ tt, tt))), tt) (λ e. absurd (omega (arith, e))),
 )
 other_targets Two = (
-  (match_of_a, lit≤ tt, (2, lit≤ tt, refl), refl, inr (of_no_use Two 1 1, refl), lit≤ tt),
+  (1, 0, AccessStep match_of_a, _, by_access match_of_a 0 (lit≤ tt) (2, lit≤ tt, refl) (inr (of_no_use Two 1 1, refl)), refl, lit≤ tt),
   not_met (space_of Two (one_index None) (select_b a_is_seven)) (Access match_of_a) 19 (lit≤ tt) ((lit≤ tt, (lit≤ tt, (lit≤ tt, (lit≤ tt, (lit≤ tt, tt))))), tt) (λ e. absurd (omega (arith, e))),
 )
 other_targets Three = (
-  (match_of_a, lit≤ tt, (2, lit≤ tt, refl), refl, inr (of_no_use Three 1 1, refl), lit≤ tt),
+  (1, 0, AccessStep match_of_a, _, by_access match_of_a 0 (lit≤ tt) (2, lit≤ tt, refl) (inr (of_no_use Three 1 1, refl)), refl, lit≤ tt),
   not_met (space_of Three (one_index None) (select_b a_is_seven)) (Access match_of_a) 19 (lit≤ tt) ((lit≤ tt, (lit≤ tt, (lit≤ tt, (lit≤ tt, (lit≤ tt, tt))))), tt) (λ e. absurd (omega (arith, e))),
 )

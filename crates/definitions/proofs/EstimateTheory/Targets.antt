@@ -13,10 +13,11 @@ use Rattle.definitions.specs.Plans.PlanSpace.{InSpace, GivesRequired}
 use Rattle.definitions.specs.Plans.Cost.{limit, cost_of}
 use Rattle.definitions.specs.Plans.Certificate.{StateCost}
 use Rattle.definitions.specs.Plans.Validity.{NoneFinal, KeepsBounds, IsValid}
-use Rattle.definitions.specs.Plans.Checking.{Target, Refused, IsVerdict}
+use Rattle.definitions.specs.Plans.Checking.{Accesses, Joins, Sorts, Target, Refused, IsVerdict}
 use Rattle.definitions.specs.Plans.Exact.{IsCertified}
 use Rattle.definitions.specs.Estimates.Laws.{bare, NoAccessBelow}
 use Rattle.definitions.proofs.PlanTheory.Elements.{not_in_empty}
+use Rattle.definitions.proofs.PlanTheory.Rules.{together, each_rule}
 use Rattle.definitions.proofs.PlanTheory.Bounds.{least}
 use Rattle.definitions.proofs.PlanTheory.Exactness.{exact}
 
@@ -44,12 +45,13 @@ bare_keeps space target small below = record {
       rising = tt;
     };
   };
-  accesses = λ path folded lt there folds.
+  comparisons = together space (bare target)
+      (λ path folded lt there folds.
       All-contains (λ (path : Path). target ≤ space.path_cost no_tables path) (space.paths no_tables (table_of path)) path
       (All-from_recursion (λ (path : Path). target ≤ space.path_cost no_tables path) (space.paths no_tables (table_of path))
-      (of_range (λ table. AllByRecursion (λ (path : Path). target ≤ space.path_cost no_tables path) (space.paths no_tables table)) 0 space.table_count (table_of path) below (omega arith) (omega (arith, lt)))) there;
-  joins = (λ tables order path folded listed can folds. absurd (not_in_empty _ listed.1), λ tables order number inner folded listed can folds. absurd (not_in_empty _ listed.1));
-  sorts = λ tables order into folded listed can folds. absurd (not_in_empty _ listed.1);
+      (of_range (λ table. AllByRecursion (λ (path : Path). target ≤ space.path_cost no_tables path) (space.paths no_tables table)) 0 space.table_count (table_of path) below (omega arith) (omega (arith, lt)))) there)
+      (λ tables order path folded listed can folds. absurd (not_in_empty _ listed.1)) (λ tables order number inner folded listed can folds. absurd (not_in_empty _ listed.1))
+      (λ tables order into folded listed can folds. absurd (not_in_empty _ listed.1));
 }
 
 pub bare_none_final : (space : Space) (target : ℕ) → NoneFinal space (bare target)
@@ -66,4 +68,5 @@ pub not_met : (space : Space) (plan : Plan) (target : ℕ) → target ≤ limit 
     → IsVerdict space (bare target) plan (Refused Target (whole space) 0)
 not_met space plan target small below other =
     let keeps = bare_keeps space target small below in
-    (keeps.accesses, keeps.joins, keeps.sorts, (refl, inr (bare_none_final space target, refl, λ met. other met.2)))
+    let each = each_rule space (bare target) keeps.comparisons in
+    (each Accesses, each Joins, each Sorts, (refl, inr (bare_none_final space target, refl, λ met. other met.2)))

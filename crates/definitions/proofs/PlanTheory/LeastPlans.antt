@@ -19,6 +19,7 @@ use Rattle.definitions.specs.Plans.Certificate.{StateCost, Certificate, Lists, I
 use Rattle.definitions.specs.Plans.Exact.{IsCertified}
 use Rattle.definitions.specs.Certificates.Form.{word_count}
 use Rattle.definitions.specs.Plans.Search.{as_bounds, IsSolved, IsCheapest, certificate_below, IsComplete}
+use Rattle.definitions.proofs.PlanTheory.Rules.{together}
 use Rattle.definitions.proofs.PlanTheory.TableSets.{Decided}
 use Rattle.definitions.proofs.PlanTheory.Elements.{first_or_rest, later, not_in_empty}
 use Rattle.definitions.proofs.PlanTheory.Orders.{merge_order, refold, state_over}
@@ -225,9 +226,7 @@ module _ (space : Space) (complete : IsComplete space) where
         rising = v.rising;
       };
       attained = λ s k w there. let (after, (by, under)) = v.each s k w there in by;
-      accesses = λ path f below is_path folds. low (only (table_of path)) f (Access path) (access path below is_path, refl, folds);
-      joins = (loops, merges);
-      sorts = sorts;
+      comparisons = together space (as_bounds xs) (λ path f below is_path folds. low (only (table_of path)) f (Access path) (access path below is_path, refl, folds)) loops merges sorts;
     }
 
     cheapest : (p : Plan) → IsLeast space p → IsCheapest space xs p

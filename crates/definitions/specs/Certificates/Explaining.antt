@@ -1,4 +1,5 @@
--- What is printed for EXPLAIN (own): for each block of the query, in the order of their numbers, the text of a least plan and its certificate.
+-- What is printed for EXPLAIN (own): for each block of the query, in the order of their numbers, the text of a least
+-- plan and its certificate.
 use Rattle.std.specs.Prelude.{ℕ, ◌+◌, ◌≡◌, List, [], ◌∷◌, ◌++◌, map, option_map, unwrap_or, slice_get}
 use Rattle.definitions.specs.Table.{Index, Table, Database}
 use Rattle.definitions.specs.Plans.Exact.{IsCertified}
@@ -29,7 +30,8 @@ abbrev pub certified_from : Database → ℕ → Blocks → List (Version → Ce
 certified_from db number [] = []
 certified_from db number (block ∷ blocks) = certified db number block ∷ certified_from db (number + 1) blocks
 
--- the bytes are the text of a least plan of the block, and of the one certificate that lists every cheaper state, which is valid for it
+-- the bytes are the text of a least plan of the block, and of the one certificate that lists every cheaper state,
+-- which is valid for it
 abbrev pub IsExplained : CertifiedBlock → List ℕ → Type 0
 IsExplained block bytes = SpellsSome block bytes (IsCertified block.space)
 

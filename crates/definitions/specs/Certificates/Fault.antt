@@ -5,7 +5,8 @@ use Rattle.definitions.specs.Certificates.Text.{Written}
 use Rattle.definitions.specs.Certificates.Form.{Says}
 use Rattle.definitions.specs.Certificates.Spelling.{AreThere, AreBelow}
 
--- the bytes are no certificate; one of its numbers isn't there; its states don't rise, or one of them isn't below the target
+-- the bytes are no certificate; one of its numbers isn't there; its states don't rise, or one of them isn't below the
+-- target
 pub data Fault : Type 0 where
   BadForm NoSuchNumber BadStates : Fault
 

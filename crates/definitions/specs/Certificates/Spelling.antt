@@ -1,5 +1,6 @@
--- What plan and certificate of a block a text spells (own). Blocks, tables, indexes, columns and conjuncts count from 0 in the definitions and
--- from 1 in texts; sets of tables, orders and costs are written as they are. In version 1 an index is named by its column.
+-- What plan and certificate of a block a text spells (own). Blocks, tables, indexes, columns and conjuncts count from 0
+-- in the definitions and from 1 in texts; sets of tables, orders and costs are written as they are. In version 1 an
+-- index is named by its column.
 use Rattle.std.specs.Prelude.{ℕ, ◌+◌, ◌-◌, ◌<◌, ◌≤◌, ◌≡◌, List, length, map, position, unwrap_or, IsSome, All}
 use Rattle.definitions.specs.Plans.Order.{OrderNumber}
 use Rattle.definitions.specs.Plans.Path.{Path, SegmentScan, IndexScan, MatchingScan}
@@ -84,7 +85,8 @@ abbrev pub AreBelow : Certificate → Type 0
 AreBelow certificate =
     AreRising certificate.states × All (λ (state : StateCost). state.cost < certificate.target) certificate.states
 
--- the bytes spell a plan and a certificate of the block: they have the form, their numbers are there, and that is what they mean
+-- the bytes spell a plan and a certificate of the block: they have the form, their numbers are there, and that is what
+-- they mean
 pub record Spells (block : CertifiedBlock) (bytes : List ℕ) (plan : Plan) (certificate : Certificate) : Type 0 where
   pub said : Written
   pub says : Says block.version bytes said

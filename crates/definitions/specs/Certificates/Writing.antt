@@ -1,5 +1,6 @@
--- How a plan and a certificate of a block are written: Spelling the other way round. Bytes spell a plan and a certificate if and only if they can be
--- spelled and the bytes are their text_written (SpelledIsWritten, WrittenIsSpelled in Laws).
+-- How a plan and a certificate of a block are written: Spelling the other way round. Bytes spell a plan and a
+-- certificate if and only if they can be spelled and the bytes are their text_written (SpelledIsWritten,
+-- WrittenIsSpelled in Laws).
 use Rattle.std.specs.Prelude.{ℕ, ◌+◌, ◌≡◌, List, [], map, get_or, IsTrue}
 use Rattle.definitions.specs.Plans.Path.{Path, SegmentScan, IndexScan, MatchingScan}
 use Rattle.definitions.specs.Plans.Plan.{Plan, Access, Loop, Merge, Sort}

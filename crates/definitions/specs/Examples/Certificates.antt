@@ -37,17 +37,15 @@ OneTableIsSpelled =
     (Access (MatchingScan 0 0 (0 ∷ []) false)) (claim 20 [])
 
 -- here that of the only index is the second
+abbrev pub second_indexed_block : CertifiedBlock
+second_indexed_block = record one_table_block { indexes = ((1 ∷ []) ∷ []) ∷ [] }
+
 abbrev pub ColumnIsNamed : Type 0
 ColumnIsNamed =
-    Spells (record one_table_block {
-      indexes = ((1 ∷ []) ∷ []) ∷
-          [];
-    }) (codes "CERTIFICATE 1\nBLOCK 1\nPLAN ACCESS(IDX 1.2)\nTARGET 560\nEND\n")
+    Spells second_indexed_block (codes "CERTIFICATE 1\nBLOCK 1\nPLAN ACCESS(IDX 1.2)\nTARGET 560\nEND\n")
     (Access (IndexScan 0 0 false)) (claim 560 [])
-    × HasFault (record one_table_block {
-      indexes = ((1 ∷ []) ∷ []) ∷
-          [];
-    }) (codes "CERTIFICATE 1\nBLOCK 1\nPLAN ACCESS(IDX 1.1)\nTARGET 560\nEND\n") NoSuchNumber
+    × HasFault second_indexed_block (codes "CERTIFICATE 1\nBLOCK 1\nPLAN ACCESS(IDX 1.1)\nTARGET 560\nEND\n")
+    NoSuchNumber
 
 -- ---- two tables, merged
 
@@ -55,21 +53,22 @@ abbrev pub two_tables_block : CertifiedBlock
 two_tables_block = record { version = One; number = 0; space = two_tables; indexes = [] ∷ [] ∷ [] }
 
 abbrev pub two_sorts_text : List ℕ
-two_sorts_text = codes "CERTIFICATE 1\nBLOCK 1\nPLAN MERGE(SORT(ACCESS(SEG 1),1),1,SORTED SEG 2)\nTARGET 13400\nSTATE 1 0 200\nSTATE 1 1 320\nSTATE 2 0 2000\nSTATE 2 2 3080\nEND\n"
+two_sorts_text =
+    codes "CERTIFICATE 1\nBLOCK 1\nPLAN MERGE(SORT(ACCESS(SEG 1),1),1,SORTED SEG 2)\nTARGET 13400\n"
+    ++ codes "STATE 1 0 200\nSTATE 1 1 320\nSTATE 2 0 2000\nSTATE 2 2 3080\nEND\n"
 
 abbrev pub TwoTablesAreSpelled : Type 0
 TwoTablesAreSpelled = Spells two_tables_block two_sorts_text two_sorts two_tables_certificate
 
 -- with ORDER BY Y the orders have other numbers
+abbrev pub two_tables_by_y : Space
+two_tables_by_y = record two_tables { orders = numbered (ascending y_column) (x_is_y ∷ []) [] }
+
 abbrev pub OrderedIsSpelled : Type 0
 OrderedIsSpelled =
-    Spells (record two_tables_block {
-      space = record two_tables {
-        orders = numbered (ascending y_column) (x_is_y ∷
-            []) [];
-      };
-    })
-    (codes "CERTIFICATE 1\nBLOCK 1\nPLAN MERGE(SORT(ACCESS(SEG 1),2),1,SORTED SEG 2)\nTARGET 13400\nSTATE 1 0 200\nSTATE 1 2 320\nSTATE 2 0 2000\nSTATE 2 1 3080\nEND\n")
+    Spells (record two_tables_block { space = two_tables_by_y })
+    (codes "CERTIFICATE 1\nBLOCK 1\nPLAN MERGE(SORT(ACCESS(SEG 1),2),1,SORTED SEG 2)\nTARGET 13400\n"
+    ++ codes "STATE 1 0 200\nSTATE 1 2 320\nSTATE 2 0 2000\nSTATE 2 1 3080\nEND\n")
     (Merge (Sort (scan_of 0) 2) 0 (record { path = SegmentScan 1; sorted = true }))
     (claim 13400 (state 1 0 200 ∷ state 1 2 320 ∷ state 2 0 2000 ∷ state 2 1 3080 ∷ []))
 
@@ -77,7 +76,8 @@ OrderedIsSpelled =
 abbrev pub LoopIsSpelled : Type 0
 LoopIsSpelled =
     Spells (record two_tables_block { indexes = [] ∷ ((0 ∷ []) ∷ []) ∷ [] })
-    (codes "CERTIFICATE 1\nBLOCK 1\nPLAN LOOP(ACCESS(SEG 1),MATCH 2.1/1)\nTARGET 2300\nSTATE 1 0 200\nSTATE 1 1 320\nSTATE 2 0 2000\nEND\n")
+    (codes "CERTIFICATE 1\nBLOCK 1\nPLAN LOOP(ACCESS(SEG 1),MATCH 2.1/1)\nTARGET 2300\n"
+    ++ codes "STATE 1 0 200\nSTATE 1 1 320\nSTATE 2 0 2000\nEND\n")
     (Loop (scan_of 0) (MatchingScan 1 0 (0 ∷ []) false)) (claim 2300 (state 1 0 200 ∷ state 1 1 320 ∷ state 2 0 2000 ∷
     []))
 
@@ -215,7 +215,9 @@ three_tables_block = record {
 abbrev pub ProductIsSpelled : Type 0
 ProductIsSpelled =
     Spells three_tables_block
-    (codes "CERTIFICATE 3\nBLOCK 1\nPLAN LOOP(LOOP(ACCESS(SEG 1),SEG 2),MATCH 3.1/1/2)\nTARGET 2320\nSTATE 1 0 20\nSTATE 1 1 50\nSTATE 2 0 20\nSTATE 2 3 50\nSTATE 3 0 220\nSTATE 3 1 250\nSTATE 3 3 250\nEND\n")
+    (codes "CERTIFICATE 3\nBLOCK 1\nPLAN LOOP(LOOP(ACCESS(SEG 1),SEG 2),MATCH 3.1/1/2)\nTARGET 2320\n"
+    ++ codes "STATE 1 0 20\nSTATE 1 1 50\nSTATE 2 0 20\nSTATE 2 3 50\n"
+    ++ codes "STATE 3 0 220\nSTATE 3 1 250\nSTATE 3 3 250\nEND\n")
     (Loop (Loop (scan_of 0) (SegmentScan 1)) (MatchingScan 2 0 (0 ∷ 1 ∷ []) false))
     (claim 2320 (state 1 0 20 ∷ state 1 1 50 ∷ state 2 0 20 ∷ state 2 3 50 ∷ state 3 0 220 ∷ state 3 1 250 ∷
     state 3 3 250 ∷ []))

@@ -5,11 +5,11 @@ use Rattle.plan_tree.specs.Certificates.{certificate_of}
 use Rattle.plan_space.proofs.Deciding.{yes, no_never, holds, fails}
 use Rattle.plan_space.proofs.Lists.{one_more}
 use Rattle.cert_check.specs.Checks.{JoinFailsBy}
-use Rattle.cert_check.proofs.JoinRule.{join_fails_at, join_holds_at}
+use Rattle.cert_check.proofs.JoinRule.{join_holds_at}
 use Rattle.cert_check.proofs.joins.join_fails_at.Goals as goal
 
 pub returns-then-join_fails_by : goal.returns-then-join_fails_by
-returns-then-join_fails_by c = yes _ (join_fails_at (space_in c.args.space.now) (certificate_of c.args.certificate.now) (set_of c.args.state.tables) c.args.state.order c.tables.table (holds _ c.if-join_fails_by.ensures))
+returns-then-join_fails_by c = yes _ (c.tables.table, holds _ c.if-join_fails_by.ensures)
 
 pub tables-preserved : goal.tables-preserved
 tables-preserved c = one_more (λ t. JoinFailsBy (space_in c.args.space.now) (certificate_of c.args.certificate.now) (set_of c.args.state.tables) c.args.state.order t → ⊥) c.tables.table c.tables.invariant (fails _ c.if-join_fails_by.ensures)

@@ -1,6 +1,6 @@
 use Rattle.plan_space.specs.Planned.{space_in}
 use Rattle.std.proofs.Common.{ℕ, ◌<◌, get_or}
-use Rattle.definitions.specs.Plans.Checking.{SortFails}
+use Rattle.cert_check.specs.Checks.{SortFails}
 use Rattle.plan_tree.specs.declared.states.State.{State}
 use Rattle.plan_tree.specs.Certificates.{state_of, certificate_of}
 use Rattle.cert_check.proofs.sorts.sort_failing.Given as goal

@@ -1,12 +1,11 @@
 use Rattle.plan_space.specs.Planned.{space_in}
 use Rattle.std.proofs.Common.{◌∙◌}
-use Rattle.definitions.specs.Plans.Checking.{SortFails}
 use Rattle.definitions.specs.Plans.PlanSpace.{CanSort}
 use Rattle.plan_tree.specs.Sets.{set_of}
 use Rattle.plan_tree.specs.Certificates.{certificate_of}
 use Rattle.plan_space.proofs.Deciding.{yes}
 use Rattle.plan_space.proofs.Lists.{goes_on, head_has}
-use Rattle.cert_check.specs.Checks.{SortStays}
+use Rattle.cert_check.specs.Checks.{SortStays, SortFails}
 use Rattle.cert_check.proofs.SortRule.{sum_is, sorts_stay, sort_stays, sort_fails}
 use Rattle.cert_check.proofs.sorts.sort_fails_at.Goals as goal
 

@@ -1,5 +1,6 @@
 use Rattle.std.proofs.Common.{◌≢◌, inl, inr, refl, [], ◌∷◌, true, lit≤, arith}
 use Rattle.definitions.specs.Plans.Path.{SegmentScan}
+use Rattle.definitions.specs.Plans.Comparisons.{AccessStep, by_access}
 use Rattle.definitions.specs.Plans.ColumnClass.{itself}
 use Rattle.definitions.specs.Plans.PlanSpace.{IsPlan, access, sort}
 use Rattle.definitions.specs.Plans.Folding.{IsUseful}
@@ -28,5 +29,5 @@ returns c = (
   refl,
   certified (space_of One by_two descending) sorted_scan sorted_certificate refl (sorted, refl) (refl, itself _, (refl, itself _, tt)) refl
       ((scan_of 0, (access (SegmentScan 0) (lit≤ tt) (0, lit≤ tt, refl), refl, inr (no_use, refl)), refl), tt),
-  (match_of (0 ∷ []) true, lit≤ tt, (4, lit≤ tt, refl), refl, inl (inl (asked, (refl, itself _, (refl, itself _, tt))), refl), lit≤ tt),
+  (1, 1, AccessStep (match_of (0 ∷ []) true), _, by_access (match_of (0 ∷ []) true) 1 (lit≤ tt) (4, lit≤ tt, refl) (inl (inl (asked, (refl, itself _, (refl, itself _, tt))), refl)), refl, lit≤ tt),
 )
