@@ -11,15 +11,16 @@ error the beginning is compared; where nothing is expected there, it is empty.
 import collections
 import os
 import pathlib
+import shutil
 import subprocess
 import sys
 import tempfile
 
 ROOT = pathlib.Path(__file__).resolve().parent.parent
 
-# Where the program's standard output and standard error go is what subprocess takes for them.
+# Where the program's standard output and standard error go is what subprocess takes for them; `first` is called before the program begins.
 Case = collections.namedtuple(
-    "Case", "name words status printed complaint output typed errors", defaults=(b"", b"", subprocess.PIPE, b"", subprocess.PIPE)
+    "Case", "name words status printed complaint output typed errors first", defaults=(b"", b"", subprocess.PIPE, b"", subprocess.PIPE, None)
 )
 
 HELP = b"""An engine for Entry SQL over tables in memory
@@ -135,7 +136,28 @@ SELECT B FROM T;
 """
 
 
-def cases(folder, full, closed):
+def without_output():
+    os.close(1)
+
+
+def as_nobody():
+    """Whoever may read everything becomes one who may not."""
+    if os.geteuid() == 0:
+        os.setgroups([])
+        os.setuid(65534)
+
+
+def full_pipe():
+    """The end of a pipe that nobody reads, has no room left, and doesn't wait."""
+    reader, writer = os.pipe2(os.O_NONBLOCK)
+    try:
+        while True:
+            os.write(writer, bytes(1 << 16))
+    except BlockingIOError:
+        return reader, writer
+
+
+def cases(folder, full, closed, waiting):
     not_text = folder / "not_text.sql"
     not_text.write_bytes(b"-- \xc3\xbc\nSELECT A FROM \xff;\n")
     utf16 = folder / "utf16.sql"
@@ -197,11 +219,27 @@ def cases(folder, full, closed):
     yield Case("full output", ["run", parts], 2, complaint=no_room, output=full)
     yield Case("full output for help", ["--help"], 2, complaint=no_room, output=full)
     yield Case("output that no one reads", ["run", parts], 2, output=closed)
+    no_output = b"sqlr: standard output: Bad file descriptor\n"
+    yield Case("output that is closed", ["run", parts], 2, complaint=no_output, first=without_output)
+    no_wait = b"sqlr: standard output: Resource temporarily unavailable\n"
+    yield Case("output that would wait", ["run", parts], 2, complaint=no_wait, output=waiting)
+    secret = folder / "secret.sql"
+    secret.write_text("SELECT A FROM T;\n")
+    secret.chmod(0)
+    yield Case("unreadable script", ["run", str(secret)], 2, complaint=f"sqlr: {secret}: Permission denied\n".encode(), first=as_nobody)
 
 
 def differences(program, case):
     # Help names the program as it is called.
-    run = subprocess.run(["sqlr", *case.words], executable=program, cwd=ROOT, input=case.typed, stdout=case.output, stderr=case.errors)
+    run = subprocess.run(
+        ["sqlr", *case.words],
+        executable=program,
+        cwd=ROOT,
+        input=case.typed,
+        stdout=case.output,
+        stderr=case.errors,
+        preexec_fn=case.first,
+    )
     printed, complained = run.stdout or b"", run.stderr or b""
     if run.returncode != case.status:
         yield f"status {run.returncode}, not {case.status}"
@@ -222,9 +260,13 @@ def main():
     failed = 0
     reader, writer = os.pipe()
     os.close(reader)
+    _, waiting = full_pipe()
     with tempfile.TemporaryDirectory() as folder, open("/dev/full", "wb") as full, open(writer, "wb") as closed:
-        for case in cases(pathlib.Path(folder), full, closed):
-            found = list(differences(program, case))
+        # Where others may go, and a program that they may call.
+        os.chmod(folder, 0o755)
+        for case in cases(pathlib.Path(folder), full, closed, waiting):
+            own = shutil.copy(program, pathlib.Path(folder, "program")) if case.first is as_nobody else program
+            found = list(differences(own, case))
             failed += bool(found)
             print(f"{case.name}: {'; '.join(found) if found else f'as expected, status {case.status}'}", flush=True)
     sys.exit(1 if failed else 0)

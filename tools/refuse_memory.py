@@ -1,21 +1,25 @@
 #!/usr/bin/env python3
 """Refuses each allocation of the program in turn, and looks at what such a run prints.
 
-usage: refuse_memory.py [PROGRAM]
+usage: refuse_memory.py PROGRAM [--words] [SCRIPT ..]
 
-The program is ./release/sqlr, or the one that is named. It runs scripts under a library that refuses one call of malloc or realloc: the
-first, then the second, and on to the last. Each such run has to print what the script prints, with status 0, where notes for people may be
-left out; or it ends with status 2 and 'out of memory', and what it printed is what whole statements print. A line tells of each script, and how many runs went on without what was
-refused; the status is 1 where a run is not so. A C compiler is needed.
+The scripts are those of memory, or the named ones: a statement a line, and files beside them that they load. Each is run under a
+library that refuses one call of malloc or realloc: the first, then the second, and on to the last. Where its last statement is an EXPLAIN,
+what that printed is a file of certificates, and `check` of it is run so as well. Such a run has to print what the script prints, with its
+status; or it ends with status 2 and `out of memory`, and what it printed is what whole statements print, of a check nothing. Words for people
+may be fewer where memory was wanting for them: --words prints the lines that no run with ample memory has, to be read. A line tells of each
+script and command; the status is 1 where a run is not so. A C compiler is needed.
 """
+import concurrent.futures
 import os
 import pathlib
+import shutil
 import subprocess
 import sys
 import tempfile
+from dataclasses import dataclass
 
-ROOT = pathlib.Path(__file__).resolve().parent.parent
-
+SCRIPTS = pathlib.Path(__file__).resolve().parent.parent / "memory"
 LIBRARY = r"""
 #include <errno.h>
 #include <stddef.h>
@@ -45,65 +49,92 @@ void *malloc(size_t size) { return is_refused() ? NULL : __libc_malloc(size); }
 void *realloc(void *old, size_t size) { return is_refused() ? NULL : __libc_realloc(old, size); }
 """
 
-ROWS = "1,2.50,ab\n2,3.00,cd\n1,4.25,ab\n3,0.01,\\N\n2,-7.00,ef\n\\N,\\N,ab\n"
-TABLE = ["CREATE TABLE T (K INTEGER, V NUMERIC(9,2), C CHAR(6));", "LOAD T FROM 't.csv';"]
-SCRIPTS = {
-    "a grouped query": [*TABLE, "SELECT K, COUNT(*), SUM(V), AVG(V), MIN(C), COUNT(DISTINCT V) FROM T GROUP BY K HAVING COUNT(*) > 0;"],
-    "an ordered query": [*TABLE, "SELECT C, V FROM T ORDER BY C DESC, V;"],
-    "a DISTINCT query": [*TABLE, "SELECT DISTINCT C, K FROM T;", "SELECT DISTINCT K, COUNT(*) FROM T GROUP BY K ORDER BY 2 DESC, K;"],
-    "a join by an index": [*TABLE, "CREATE INDEX ON T (K);", "SELECT A.C, B.V FROM T A, T B WHERE A.K = B.K AND A.V < B.V;"],
-    "nested queries": [
-        *TABLE,
-        "SELECT K FROM T A WHERE V >= ALL (SELECT V FROM T B WHERE B.K = A.K AND EXISTS (SELECT * FROM T WHERE C = B.C AND K = A.K));",
-        "SELECT C, COUNT(*) FROM T WHERE C IN (SELECT MIN(C) FROM T GROUP BY K) GROUP BY C ORDER BY C DESC;",
-    ],
-    "an explanation": [*TABLE, "SET STATISTICS T ROWS 1000 PAGES 50;", "EXPLAIN SELECT A.K, COUNT(*) FROM T A, T B WHERE A.K = B.K GROUP BY A.K;"],
-    "a product with notes": [*TABLE, "SELECT COUNT(*) FROM T A, T B WHERE EXISTS (SELECT * FROM T C, T D WHERE C.K = A.K);"],
-    "an explanation with notes": [*TABLE, "SET STATISTICS T ROWS 0 PAGES 1;", "EXPLAIN SELECT A.K FROM T A, T B;"],
-}
+
+@dataclass(frozen=True)
+class Ran:
+    """How a run ended and what it printed."""
+
+    status: int
+    output: bytes
+    errors: bytes
+
+    def end(self, whole, beginnings):
+        """`whole` where it answers as the run in which nothing is refused, `cut` where it broke off as it may, or `wrong`."""
+        if (self.status, self.output) == (whole.status, whole.output):
+            return "whole"
+        is_cut = self.status == 2 and self.output in beginnings and self.errors.endswith(b"out of memory\n")
+        return "cut" if is_cut else "wrong"
 
 
-class Runs:
-    """Runs of scripts in a folder, by the program under the library."""
+class Room:
+    """A folder with the scripts' files, in which the program runs under the library."""
 
     def __init__(self, program, folder):
         self.program, self.folder = program, pathlib.Path(folder)
-        (self.folder / "t.csv").write_text(ROWS)
+        shutil.copytree(SCRIPTS, folder, dirs_exist_ok=True)
         (self.folder / "refuse.c").write_text(LIBRARY)
         subprocess.run(["cc", "-shared", "-fPIC", "-o", "refuse.so", "refuse.c"], cwd=folder, check=True)
 
-    def run(self, statements, refused):
-        """Status, standard output and standard error with the allocation of a number refused; of number 0 there is none."""
-        (self.folder / "script.sql").write_text("\n".join(statements) + "\n")
+    def written(self, name, content):
+        (self.folder / name).write_bytes(content)
+        return name
+
+    def ran(self, words, refused):
+        """What a command of the program does with the allocation of a number refused; of number 0 there is none."""
         environment = {**os.environ, "LD_PRELOAD": str(self.folder / "refuse.so"), "REFUSED": str(refused)}
-        run = subprocess.run([self.program, "run", "script.sql"], cwd=self.folder, env=environment, capture_output=True)
-        return run.returncode, run.stdout, run.stderr
+        run = subprocess.run([self.program, *words], cwd=self.folder, env=environment, capture_output=True)
+        return Ran(run.returncode, run.stdout, run.stderr)
 
-    def judge(self, statements):
-        """How many allocations a script takes, how many it does without, and the numbers of those whose refusal isn't answered as it has to be."""
-        whole = [self.run(statements[:count], 0) for count in range(len(statements) + 1)]
-        *notes, last = whole[-1][2].splitlines()
-        printed, allocations = [it[1] for it in whole], int(last)
-        assert all(status == 0 for status, _, _ in whole), whole
-        ends = [end_of(self.run(statements, number), printed, notes) for number in range(1, allocations + 1)]
-        return allocations, ends.count("whole"), [number for number, end in enumerate(ends, 1) if end == "wrong"]
+    def counted(self, words):
+        """What a command does where nothing is refused, and how many allocations it takes."""
+        ran = self.ran(words, 0)
+        *lines, count = ran.errors.splitlines(keepends=True)
+        return Ran(ran.status, ran.output, b"".join(lines)), int(count)
+
+    def judged(self, words, beginnings, pool):
+        """How often the runs of a command end in each way, the numbers of those that are wrong, and the lines that they alone have."""
+        whole, allocations = self.counted(words)
+        numbers = range(1, allocations + 1)
+        runs = list(pool.map(lambda number: self.ran(words, number), numbers))
+        ends = [it.end(whole, beginnings) for it in runs]
+        wrong = [number for number, end in zip(numbers, ends) if end == "wrong"]
+        lines = {line for it in runs for line in it.errors.splitlines() if not line.endswith(b"out of memory")}
+        own = lines - set(whole.errors.splitlines())
+        return {end: ends.count(end) for end in ("whole", "cut")}, wrong, own
 
 
-def end_of(run, printed, notes):
-    status, output, errors = run
-    if (status, output) == (0, printed[-1]) and set(errors.splitlines()) <= set(notes):
-        return "whole"
-    return "cut" if status == 2 and output in printed and errors.endswith(b"out of memory\n") else "wrong"
+def statements_of(script):
+    return [line for line in script.read_text().splitlines(keepends=True) if not line.startswith("--")]
+
+
+def commands_of(room, script):
+    """The commands of a script, each with what it may have printed where it breaks off."""
+    lines = statements_of(script)
+    beginnings = []
+    for count in range(len(lines) + 1):
+        name = room.written(f"{script.stem}_{count}.sql", "".join(lines[:count]).encode())
+        beginnings.append(room.counted(["run", name])[0].output)
+    yield ["run", name], beginnings
+    if lines[-1].startswith("EXPLAIN"):
+        certificates = room.written(f"{script.stem}.certificates", beginnings[-1][len(beginnings[-2]) :])
+        yield ["check", name, certificates], [b""]
 
 
 def main():
-    program, failed = str(pathlib.Path(sys.argv[1] if sys.argv[1:] else ROOT / "release/sqlr").resolve()), 0
-    with tempfile.TemporaryDirectory() as folder:
-        runs = Runs(program, folder)
-        for name, statements in SCRIPTS.items():
-            allocations, spared, wrong = runs.judge(statements)
-            failed += len(wrong)
-            print(f"{name}: {allocations} allocations, {spared} of them done without: {f'wrong are {wrong}' if wrong else 'all right'}")
+    program, *named = [it for it in sys.argv[1:] if it != "--words"]
+    scripts = sorted(map(pathlib.Path, named)) or sorted(SCRIPTS.glob("*.sql"))
+    failed = refused = 0
+    with tempfile.TemporaryDirectory() as folder, concurrent.futures.ThreadPoolExecutor(os.cpu_count()) as pool:
+        room = Room(str(pathlib.Path(program).resolve()), folder)
+        for script in scripts:
+            for words, beginnings in commands_of(room, script):
+                ends, wrong, own = room.judged(words, beginnings, pool)
+                failed += len(wrong)
+                refused += sum(ends.values()) + len(wrong)
+                print(f"{words[0]} {script.name}: {ends['cut']} cut, {ends['whole']} done without" + (f", wrong are {wrong}" if wrong else ""))
+                if "--words" in sys.argv:
+                    print(*(f"    {line.decode()}" for line in sorted(own)), sep="\n")
+    print(f"{refused} allocations refused in turn, {failed} answered wrongly")
     sys.exit(1 if failed else 0)
 
 

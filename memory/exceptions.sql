@@ -1,0 +1,11 @@
+-- Each exception, in WHERE, in a result column, in a set function, of a subquery.
+CREATE TABLE T (A NUMERIC(18,0), B INTEGER);
+LOAD T FROM 'great.csv';
+SELECT A / B FROM T;
+SELECT A FROM T WHERE A / B > 1;
+SELECT A * A * A FROM T;
+SELECT SUM(A * A * 99) FROM T;
+SELECT A FROM T WHERE A = (SELECT A FROM T);
+SELECT B FROM T WHERE B > 0 AND A > (SELECT A / (B - B) FROM T X WHERE X.B = T.B);
+SELECT B FROM T ORDER BY B;
+EXPLAIN SELECT A / B FROM T WHERE A * A > 5;
