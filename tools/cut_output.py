@@ -10,9 +10,7 @@ there is room for, and to end with status 2 and words on standard error. A line 
 import concurrent.futures
 import os
 import pathlib
-import resource
 import shutil
-import signal
 import subprocess
 import sys
 import tempfile
@@ -34,14 +32,11 @@ class Room:
 
     def cut(self, words, size):
         """The status, what the output took, and standard error, where the output takes so many bytes."""
-
-        def limited():
-            signal.signal(signal.SIGXFSZ, signal.SIG_IGN)
-            resource.setrlimit(resource.RLIMIT_FSIZE, (size, size))
-
         taken = self.folder / f"taken_{size}"
+        command = ["prlimit", f"--fsize={size}", self.program, *words]
         with open(taken, "wb") as output:
-            run = subprocess.run([self.program, *words], cwd=self.folder, stdout=output, stderr=subprocess.PIPE, preexec_fn=limited)
+            # The signal of a file that is too large stays ignored, as it is here: so the write fails.
+            run = subprocess.run(command, cwd=self.folder, stdout=output, stderr=subprocess.PIPE, restore_signals=False)
         bytes_taken = taken.read_bytes()
         taken.unlink()
         return run.returncode, bytes_taken, run.stderr

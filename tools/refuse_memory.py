@@ -132,8 +132,8 @@ def main():
                 failed += len(wrong)
                 refused += sum(ends.values()) + len(wrong)
                 print(f"{words[0]} {script.name}: {ends['cut']} cut, {ends['whole']} done without" + (f", wrong are {wrong}" if wrong else ""))
-                if "--words" in sys.argv:
-                    print(*(f"    {line.decode()}" for line in sorted(own)), sep="\n")
+                for line in sorted(own) if "--words" in sys.argv else []:
+                    print(f"    {line.decode()}")
     print(f"{refused} allocations refused in turn, {failed} answered wrongly")
     sys.exit(1 if failed else 0)
 
