@@ -5,7 +5,7 @@
     tools/check_texts.py PROGRAM blocks    texts of 200 made blocks as EXPLAIN prints them, each also with one value changed
 
 A line counts what was told of how many texts; the status is 1 where the program tells another thing of one of them. The figures of plans
-are those of tools/plan_rules.py. The first takes some minutes, and is no part of the tests.
+are those of tools/plan_rules.py. The first takes three processor minutes.
 
 A text is cut from the file up to and with its line END, and read by the version that its first line names. It is refused C1 where it
 hasn't the form, C2 where a number isn't there, C3 where states don't rise or aren't below the target, and K1 to K4 by the first rule that
@@ -304,8 +304,9 @@ class Runs:
         ran = subprocess.run([self.program, "run", script], capture_output=True, check=True)
         return ran.stdout[ran.stdout.index(b"CERTIFICATE") :]
 
-    def differs(self, name, block, file):
+    def differs(self, job):
         """What the definition says of a file, and what the program tells where that is something else."""
+        name, block, file = job
         held = self.folder / f"{os.getpid()}-{random.getrandbits(60):x}"
         held.write_bytes(file)
         ran = subprocess.run([self.program, "check", self.folder / f"{name}.sql", held], capture_output=True)
@@ -318,8 +319,8 @@ class Runs:
 def compared(runs, jobs):
     """Compares all, counts what is told, and shows what differs."""
     counts, wrong = collections.Counter(), 0
-    with concurrent.futures.ThreadPoolExecutor(os.cpu_count()) as pool:
-        for printed, difference in pool.map(lambda job: runs.differs(*job), jobs):
+    with concurrent.futures.ProcessPoolExecutor(os.cpu_count()) as pool:
+        for printed, difference in pool.map(runs.differs, jobs, chunksize=50):
             counts[printed.replace("\n", "; ").rstrip("; ")] += 1
             if difference:
                 wrong += 1
