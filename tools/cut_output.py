@@ -69,7 +69,7 @@ def main():
                 ]
                 failed += len(wrong)
                 cuts += len(whole)
-                print(f"{words[0]} {script.name}: {len(whole)} bytes" + (f", wrong at {wrong}" if wrong else ""))
+                print(f"{words[0]} {script.name}: {len(whole)} bytes" + (f", {len(wrong)} wrong, the first {wrong[:9]}" if wrong else ""))
     print(f"{cuts} outputs cut, {failed} answered wrongly")
     sys.exit(1 if failed else 0)
 

@@ -131,7 +131,7 @@ def main():
                 ends, wrong, own = room.judged(words, beginnings, pool)
                 failed += len(wrong)
                 refused += sum(ends.values()) + len(wrong)
-                print(f"{words[0]} {script.name}: {ends['cut']} cut, {ends['whole']} done without" + (f", wrong are {wrong}" if wrong else ""))
+                print(f"{words[0]} {script.name}: {ends['cut']} cut, {ends['whole']} done without" + (f", {len(wrong)} wrong, the first {wrong[:9]}" if wrong else ""))
                 for line in sorted(own) if "--words" in sys.argv else []:
                     print(f"    {line.decode()}")
     print(f"{refused} allocations refused in turn, {failed} answered wrongly")

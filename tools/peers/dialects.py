@@ -51,6 +51,24 @@ class Peer:
         """A column behind its source."""
         return f"{node.source.alias}.{node.field.name}"
 
+    def value(self, node):
+        """A value in parentheses; for SQLite a number in units of its own scale."""
+        match node:
+            case Reference():
+                return self.reference(node)
+            case Numeral():
+                return self.numeral(node)
+            case String():
+                return self.string(node)
+            case Signed():
+                return f"({node.sign} {self.value(node.operand)})"
+            case Chain():
+                return self.chain(node)
+            case SetFunction():
+                return self.set_function(node)
+            case Scalar():
+                return f"({self.block(node.block)})"
+
     def condition(self, node):
         """A condition in parentheses."""
         match node:
@@ -127,23 +145,13 @@ class Postgres(Peer):
         """A comparison with ALL, ANY or SOME."""
         return f"({self.value(node.value)} {node.operator} {node.quantifier} ({self.block(node.block)}))"
 
-    def value(self, node):
-        """A value in parentheses."""
-        match node:
-            case Reference():
-                return self.reference(node)
-            case Numeral():
-                return f"'{node.text}'::numeric"
-            case String():
-                return f"{quoted(node.text)}::bpchar"
-            case Signed():
-                return f"({node.sign} {self.value(node.operand)})"
-            case Chain():
-                return self.chain(node)
-            case SetFunction():
-                return self.set_function(node)
-            case Scalar():
-                return f"({self.block(node.block)})"
+    def numeral(self, node):
+        """A number of the query."""
+        return f"'{node.text}'::numeric"
+
+    def string(self, node):
+        """A text of the query."""
+        return f"{quoted(node.text)}::bpchar"
 
     def chain(self, node):
         """Operands from left to right."""
@@ -245,24 +253,14 @@ class Sqlite(Peer):
         if found.digits > SQLITE_DIGITS:
             raise Unsuited
 
-    def value(self, node):
-        """A value in parentheses, a number in units of its own scale."""
-        match node:
-            case Reference():
-                return self.reference(node)
-            case Numeral():
-                self.judge(size(node))
-                return str(node.units)
-            case String():
-                return quoted(node.text)
-            case Signed():
-                return f"({node.sign} {self.value(node.operand)})"
-            case Chain():
-                return self.chain(node)
-            case SetFunction():
-                return self.set_function(node)
-            case Scalar():
-                return f"({self.block(node.block)})"
+    def numeral(self, node):
+        """A number of the query, in units of its own scale."""
+        self.judge(size(node))
+        return str(node.units)
+
+    def string(self, node):
+        """A text of the query."""
+        return quoted(node.text)
 
     def chain(self, node):
         """Operands from left to right."""
