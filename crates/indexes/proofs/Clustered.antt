@@ -1,13 +1,13 @@
 -- What a run tells of its keys: how many differ, and whether none falls from one row to the next.
-use Rattle.std.proofs.Common.{◌≡◌, ◌∙◌, refl, sym, subst, ap, ap₂, ℕ, suc, ◌+◌, ◌<◌, List, [], ◌∷◌, Bool, true, false, length, map, get_or, arith}
+use Rattle.std.proofs.Common.{◌≡◌, ◌∙◌, refl, sym, subst, ap, ap₂, ℕ, suc, ◌+◌, ◌<◌, ◌≤◌, List, [], ◌∷◌, Bool, true, false, length, map, take, get_or, arith}
 use Rattle.std.specs.Prelude.{not, ◌&&◌, bytes_eq, IsPermutation, IsTrue}
 use Rattle.std.specs.List.{AllByRecursion, range_with_len}
 use Rattle.std.specs.Ordering.{nat_cmp, ordering_then, ordering_reverse, is_gt, is_lt}
 use Rattle.std.specs.declared.cmp.Ordering.{Ordering}
 use Rattle.std.specs.declared.cmp.Ordering.TheVariants.{Less, Equal, Greater}
-use Rattle.std.proofs.lemmas.List.Sorted.{IsPermutation-map, IsPermutation-refl, length_permutation, All-permutation}
+use Rattle.std.proofs.lemmas.List.Sorted.{IsPermutation-map, IsPermutation-refl, IsPermutation-sym, length_permutation, All-permutation}
 use Rattle.std.proofs.lemmas.List.Elements.{All-from_recursion, recursion_from_All}
-use Rattle.std.proofs.lemmas.List.{length-map}
+use Rattle.std.proofs.lemmas.List.{length-map, length-take}
 use Rattle.std.specs.Cmp.{nat_cmp_is}
 use Rattle.std.proofs.lemmas.Slice.Eq.{bytes_eq-Decides}
 use Rattle.definitions.specs.Key.{Key, key_of, value_at, key_rank, full_keys, distinct_keys}
@@ -71,6 +71,25 @@ in_place keys run (permuted, rising) h =
     let all : AllByRecursion (IsOf keys) run = recursion_from_All (IsOf keys) run (All-permutation (IsOf keys) (entries_from 0 keys) run permuted (All-from_recursion (IsOf keys) (entries_from 0 keys) own)) in
     let long : length (entry_rows run) ≡ length keys = length-map run (λ (e : Entry). e.row) ∙ length_permutation (entries_from 0 keys) run permuted ∙ length_from 0 keys in
     same_entries keys run (entries_from 0 keys) all own (h ∙ ap (range_with_len 0) long ∙ sym (rows_from 0 keys))
+
+-- a run is of one list of keys
+pub keys_once : (keys others : List Key) (run : List Entry) → IsRun keys run → IsRun others run → others ≡ keys
+keys_once keys others run (permuted, rising) (again, up) =
+    let own : AllByRecursion (IsOf keys) (entries_from 0 keys) = each_of keys 0 keys (λ i l. let e : 0 + i ≡ i = omega arith in ap (λ k. get_or keys k []) e) in
+    let all = All-permutation (IsOf keys) (entries_from 0 keys) run permuted (All-from_recursion (IsOf keys) (entries_from 0 keys) own) in
+    let alike : AllByRecursion (IsOf keys) (entries_from 0 others) = recursion_from_All (IsOf keys) (entries_from 0 others) (All-permutation (IsOf keys) run (entries_from 0 others) (IsPermutation-sym (entries_from 0 others) run again) all) in
+    let long : length others ≡ length keys = sym (length_from 0 others) ∙ sym (length_permutation (entries_from 0 others) run again) ∙ length_permutation (entries_from 0 keys) run permuted ∙ length_from 0 keys in
+    let entries : entries_from 0 others ≡ entries_from 0 keys = same_entries keys (entries_from 0 others) (entries_from 0 keys) alike own (rows_from 0 others ∙ ap (range_with_len 0) long ∙ sym (rows_from 0 keys)) in
+    sym (keys_from 0 others) ∙ ap keys_of entries ∙ keys_from 0 keys
+
+-- the run of the first rows is no longer than these
+pub run_within : (f : Row → Key) (rows : List Row) (run : List Entry) (n all : ℕ) → IsRun (map f (take (length run) rows)) run → n ≡ length run → length rows ≡ all → n ≤ all
+run_within f rows run n all (permuted, rising) e k =
+    let a = length_permutation (entries_from 0 (map f (take (length run) rows))) run permuted in
+    let b = length_from 0 (map f (take (length run) rows)) in
+    let c = length-map (take (length run) rows) f in
+    let d = length-take (length run) rows in
+    omega (arith, a, b, c, d, e, k)
 
 -- ---- rising entries, and keys that do not fall
 

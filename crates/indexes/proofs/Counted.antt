@@ -3,7 +3,7 @@ use Rattle.std.proofs.Common.{◌≡◌, ◌∙◌, refl, sym, ap, ap₂, ℕ, z
 use Rattle.std.specs.Prelude.{ℤ, filter_map, sum_by}
 use Rattle.std.specs.Int.{int_min, int_max}
 use Rattle.std.specs.List.{AllByRecursion, cons_option}
-use Rattle.std.proofs.lemmas.List.{take_more, map-append}
+use Rattle.std.proofs.lemmas.List.{take_more, take-map, map-append}
 use Rattle.std.proofs.lemmas.List.Elements.{filter_map-append}
 use Rattle.std.proofs.lemmas.List.Sums.{fold_push, sum_by_push}
 use Rattle.sqlvalue.specs.Meaning.{value_of}
@@ -12,11 +12,14 @@ use Rattle.sqlvalue.specs.declared.value.Value as code
 use Rattle.sqlvalue.specs.declared.value.Value.TheVariants as variants
 use Rattle.definitions.specs.Value.{Value, Null, Number}
 use Rattle.definitions.specs.Table.{Column, Row, KeyRange, IndexStatistics}
-use Rattle.definitions.specs.Key.{value_at}
+use Rattle.definitions.specs.Key.{Key, key_of, value_at}
+use Rattle.definitions.specs.IndexRun.{Entry, IsRun}
 use Rattle.definitions.specs.Statistics.{bytes_of, bytes_at, units_of, range_of, first_numbers}
 use Rattle.loading.specs.Stored.{StoredColumn, headers, rows_of, AreFilled}
 use Rattle.loading.proofs.Rows.{column_values}
 use Rattle.indexes.specs.Ranges.{widened_by}
+use Rattle.indexes.specs.Inside.{first_units}
+use Rattle.indexes.proofs.Clustered.{keys_once}
 
 range_push : (us : List ℤ) (u : ℤ) → range_of (us ++ u ∷ []) ≡ Some (widened_by (range_of us) u)
 range_push [] u = refl
@@ -60,6 +63,29 @@ pub first_range : (rows : ℕ) (cs : List StoredColumn) (numbers : List ℕ) (n 
 first_range rows cs [] n c h e f l i = absurd (omega (arith, h))
 first_range rows cs (m ∷ numbers) n c h e f l i =
     ap (λ vs. range_of (filter_map units_of vs)) (sym (column_values rows cs n c f l i)) ∙ ap range_of (sym (numbers_in_column (rows_of rows cs) n)) ∙ ap (λ k. range_of (first_numbers (k ∷ numbers) (rows_of rows cs))) e
+
+-- the same of the first rows
+pub first_taken : (rows old : ℕ) (cs : List StoredColumn) (numbers : List ℕ) (n : ℕ) (c : StoredColumn) → 0 < length numbers → n ≡ get_or numbers 0 0 → AreFilled rows cs → n < length cs → c ≡ get_or cs n c
+    → range_of (first_numbers numbers (take old (rows_of rows cs))) ≡ range_of (filter_map units_of (take old c.values))
+first_taken rows old cs [] n c h e f l i = absurd (omega (arith, h))
+first_taken rows old cs (m ∷ numbers) n c h e f l i =
+    ap (λ k. range_of (first_numbers (k ∷ numbers) (take old (rows_of rows cs)))) (sym e) ∙ ap range_of (numbers_in_column (take old (rows_of rows cs)) n)
+    ∙ ap (λ vs. range_of (filter_map units_of vs)) (sym (take-map (λ row. get_or row n Null) old (rows_of rows cs)) ∙ ap (take old) (column_values rows cs n c f l i))
+
+-- the numbers that keys begin with
+pub numbers_of_keys : (numbers : List ℕ) (rows : List Row) → filter_map first_units (map (key_of numbers) rows) ≡ first_numbers numbers rows
+numbers_of_keys [] [] = refl
+numbers_of_keys [] (row ∷ rows) = numbers_of_keys [] rows
+numbers_of_keys (n ∷ numbers) [] = refl
+numbers_of_keys (n ∷ numbers) (row ∷ rows) = ap (cons_option (units_of (value_at row n))) (numbers_of_keys (n ∷ numbers) rows)
+
+-- an index keeps the range of its keys
+pub keeps_range : (numbers : List ℕ) (rows : List Row) (entries : List Entry) (range : Option KeyRange) → IsRun (map (key_of numbers) rows) entries → range ≡ range_of (first_numbers numbers rows) → (keys : List Key) → IsRun keys entries → range ≡ range_of (filter_map first_units keys)
+keeps_range numbers rows entries range run e keys is =
+    e ∙ ap range_of (sym (numbers_of_keys numbers rows)) ∙ ap (λ ks. range_of (filter_map first_units ks)) (sym (keys_once (map (key_of numbers) rows) keys entries run is))
+
+pub kept_range : (numbers : List ℕ) (rows : List Row) (entries : List Entry) (range : Option KeyRange) → ((keys : List Key) → IsRun keys entries → range ≡ range_of (filter_map first_units keys)) → IsRun (map (key_of numbers) rows) entries → range ≡ range_of (first_numbers numbers rows)
+kept_range numbers rows entries range kept run = kept (map (key_of numbers) rows) run ∙ ap range_of (numbers_of_keys numbers rows)
 
 -- ---- widths
 

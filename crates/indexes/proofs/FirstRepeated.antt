@@ -109,12 +109,12 @@ is_equal Less e = absurd (false≢true e)
 is_equal Equal e = refl
 is_equal Greater e = absurd (false≢true e)
 
-before_is : (o p : Ordering) → is_lt (ordering_then o p) ≡ true → o ≢ Greater
+pub before_is : (o p : Ordering) → is_lt (ordering_then o p) ≡ true → o ≢ Greater
 before_is Less p h e = absurd cc
 before_is Equal p h e = absurd cc
 before_is Greater p h e = false≢true h
 
-tied_rows : (o : Ordering) (x y : ℕ) → o ≡ Equal → is_lt (ordering_then o (nat_cmp x y)) ≡ true → x < y
+pub tied_rows : (o : Ordering) (x y : ℕ) → o ≡ Equal → is_lt (ordering_then o (nat_cmp x y)) ≡ true → x < y
 tied_rows o x y e h = below x y (sym (ap (λ p. is_lt (ordering_then p (nat_cmp x y))) e) ∙ h)
   where
     below : (a b : ℕ) → is_lt (nat_cmp a b) ≡ true → a < b
@@ -270,6 +270,48 @@ module _ (columns : List CellList) (rows : List ℕ) (n : ℕ) (same : IsPermuta
                 ap₂ repeats (get_or-take f.row keys x [] (omega (arith, h, m)) ∙ key_is x (omega (arith, h, m, a))) (get_or-take f.row keys y [] m ∙ key_is y (omega (arith, m, a)))
                 ∙ not_repeated x y h (omega (arith, m, a)) (λ s z ls g. let k = lowest_least columns rows (length rows - 1) f (record { row = y; earlier = z }) s e (omega (arith, ls)) g in absurd (omega (arith, k, m))));
           }
+
+unique_at : (ks : List Key) (i j : ℕ) → AreUnique ks → i < j → j < length ks → repeats (get_or ks i []) (get_or ks j []) ≡ false
+unique_at [] i j u h l = absurd (omega (arith, l))
+unique_at (k ∷ ks) i zero u h l = absurd (omega (arith, h))
+unique_at (k ∷ ks) zero (suc j) u h l = each ks j u.0 (omega (arith, l))
+  where
+    each : (xs : List Key) (m : ℕ) → AllByRecursion (λ other. IsFalse (repeats k other)) xs → m < length xs → repeats k (get_or xs m []) ≡ false
+    each [] m all g = absurd (omega (arith, g))
+    each (x ∷ xs) zero all g = all.0
+    each (x ∷ xs) (suc m) all g = each xs m all.1 (omega (arith, g))
+unique_at (k ∷ ks) (suc i) (suc j) u h l = unique_at ks i j u.1 (omega (arith, h)) (omega (arith, l))
+
+-- rows among those that do not repeat a key
+module _ (columns : List CellList) (rows : List ℕ) (n : ℕ) (same : IsPermutation (range_with_len 0 n) rows) (rising : AreRising (map (entry_in columns) rows)) where
+  pub old_apart : (old p : ℕ) → AreUnique (take old (map (key_in columns) (range_with_len 0 n))) → p + 1 < length rows → get_or rows (p + 1) 0 < old → repeat_at columns rows p ≡ None
+  old_apart old p once lp h = of _ refl
+    where
+      never : (earlier row : ℕ) → earlier ≡ get_or rows p 0 → row ≡ get_or rows (p + 1) 0 → (not (has_null (key_in columns row)) && is_eq (row_rank columns earlier row)) ≡ true → ⊥
+      never earlier row e f t =
+          let q = both (not (has_null (key_in columns row))) (is_eq (row_rank columns earlier row)) t in
+          let r = is_equal (row_rank columns earlier row) q.1 in
+          let l : row < old = omega (arith, h, f) in
+          let m : row < n = rw (sym f) at (row_below columns rows n same rising (p + 1) lp) in
+          let b : earlier < row = tied_rows (row_rank columns earlier row) earlier row r (rw (sym e, sym f) at (before_at columns rows n same rising p (p + 1) (omega arith) lp)) in
+          let ks = map (key_in columns) (range_with_len 0 n) in
+          let long : length ks ≡ n = length-map-range_with_len (key_in columns) 0 n in
+          let k : row < length (take old ks) = taken_there row old ks l (omega (arith, m, long)) in
+          let a : get_or (take old ks) earlier [] ≡ key_in columns earlier = get_or-take old ks earlier [] (omega (arith, b, l)) ∙ key_is columns rows n same rising earlier (omega (arith, b, m)) in
+          let c : get_or (take old ks) row [] ≡ key_in columns row = get_or-take old ks row [] l ∙ key_is columns rows n same rising row m in
+          let u : repeats (key_in columns earlier) (key_in columns row) ≡ false = rw (a, c) at (unique_at (take old ks) earlier row once b k) in
+          let full : not (has_null (key_in columns earlier)) ≡ true = ap not (nulls_alike columns earlier row r) ∙ q.0 in
+          false≢true (sym u ∙ ap₂ (λ x y. x && y) full q.1)
+        where
+          taken_there : (i m : ℕ) (xs : List Key) → i < m → i < length xs → i < length (take m xs)
+          taken_there i m [] g l = absurd (omega (arith, l))
+          taken_there i zero (x ∷ xs) g l = absurd (omega (arith, g))
+          taken_there zero (suc m) (x ∷ xs) g l = omega arith
+          taken_there (suc i) (suc m) (x ∷ xs) g l = let s = taken_there i m xs (omega (arith, g)) (omega (arith, l)) in omega (arith, s)
+
+      of : (b : Bool) → (not (has_null (key_in columns (get_or rows (p + 1) 0))) && is_eq (row_rank columns (get_or rows p 0) (get_or rows (p + 1) 0))) ≡ b → repeat_at columns rows p ≡ None
+      of true t = absurd (never (get_or rows p 0) (get_or rows (p + 1) 0) refl refl t)
+      of false t = rw t refl
 
 pub if_found : {P : RepeatedKey → Type 0} (o : Option RepeatedKey) → ((f : RepeatedKey) → o ≡ Some f → P f) → IfSome o P
 if_found None h = tt

@@ -1,26 +1,28 @@
--- Keys are counted along a run.
-use Rattle.std.proofs.Common.{◌≡◌, ◌≢◌, ◌∙◌, refl, sym, ap, ap₂, ℕ, zero, suc, ◌+◌, ◌-◌, ◌<◌, ◌≤◌, List, [], ◌∷◌, ◌++◌, Bool, true, false, cond, length, map, arith}
-use Rattle.std.specs.Prelude.{◌&&◌, ◌||◌, ◌==◌, not, filter, if◌then◌else◌}
-use Rattle.std.specs.Int.{from_bool}
-use Rattle.std.specs.List.{list_any, range_with_len}
-use Rattle.std.proofs.lemmas.Bool.{false≢true}
+-- Keys are counted as rows are put among others.
+use Rattle.std.proofs.Common.{◌≡◌, ◌≢◌, ◌∙◌, refl, sym, ap, ap₂, ℕ, zero, suc, ◌+◌, ◌-◌, ◌<◌, ◌≤◌, List, [], ◌∷◌, ◌++◌, Bool, true, false, cond, length, map, get_or, inl, inr, arith}
+use Rattle.std.specs.Prelude.{◌&&◌, ◌||◌, ◌==◌, ◌⊎◌, not, filter, if◌then◌else◌}
+use Rattle.std.specs.List.{AllByRecursion, list_any}
+use Rattle.std.proofs.lemmas.Bool.{false≢true, cases_lt}
 use Rattle.std.proofs.lemmas.Bool.Decides.{nat_tests}
-use Rattle.std.proofs.lemmas.List.{length-append, append-nil, length-map}
-use Rattle.std.proofs.lemmas.List.FromFn.{map-range_with_len_more, fill_by_all, length-map-range_with_len, get_or-map-range_with_len}
+use Rattle.std.proofs.lemmas.List.{length-append, append-nil, length-map, map-append}
+use Rattle.std.proofs.lemmas.List.Elements.{filter-append}
+use Rattle.std.proofs.lemmas.List.Folds.{list_any-append}
+use Rattle.std.proofs.lemmas.List.Sorted.{IsPermutation-map, IsPermutation-trans, IsPermutation-sym, IsPermutation-middle, IsPermutation-to_front}
 use Rattle.std.specs.Ordering.{ordering_then, is_eq}
 use Rattle.std.specs.declared.cmp.Ordering.{Ordering}
 use Rattle.std.specs.declared.cmp.Ordering.TheVariants.{Less, Equal, Greater}
 use Rattle.definitions.specs.Value.{Value, Null, Number, Text, rank, is_null}
 use Rattle.definitions.specs.Key.{Key, key_rank, has_null, full_keys, distinct_keys}
-use Rattle.definitions.specs.IndexRun.{Entry, AreRising, keys_of}
 use Rattle.columns.specs.Cells.{CellList}
 use Rattle.columns.specs.Starts.{value_in}
-use Rattle.indexes.specs.Keys.{key_in}
-use Rattle.indexes.specs.Runs.{entries_at}
-use Rattle.indexes.specs.Stretches.{key_at, begins_anew}
+use Rattle.indexes.specs.Keys.{count_keys, key_in}
+use Rattle.indexes.specs.Merging.{begins_anew}
+use Rattle.indexes.proofs.DistinctKeys.{AreOfLength, as_many_keys}
 use Rattle.indexes.proofs.KeyOrder.{row_rank, rows_ranked}
-use Rattle.indexes.proofs.Entries.{key_there}
-use Rattle.indexes.proofs.KeyStretches.{in_order}
+
+all_there : (P : ℕ → Type 0) (xs : List ℕ) → ((k : ℕ) → k < length xs → P (get_or xs k 0)) → AllByRecursion (λ x. P x) xs
+all_there P [] h = tt
+all_there P (x ∷ xs) h = (h 0 (omega arith), all_there P xs (λ k l. h (suc k) (omega (arith, l))))
 
 -- ---- one key more
 
@@ -87,7 +89,7 @@ nulls_alike (c ∷ cs) a b e =
     let t = then_equal (rank (value_in c a) (value_in c b)) (row_rank cs a b) e in
     ap₂ ◌||◌ (null_alike (value_in c a) (value_in c b) t.0) (nulls_alike cs a b t.1)
 
--- ---- along a run, a key is found among those before it where it is that of the place before
+-- ---- a key among those of some rows
 
 is_equal : (o : Ordering) → is_eq o ≡ true → o ≡ Equal
 is_equal Less e = absurd (false≢true e)
@@ -99,147 +101,148 @@ not_equal Less e n = refl
 not_equal Equal e n = absurd (false≢true (sym e))
 not_equal Greater e n = absurd (n refl)
 
-module _ (columns : List CellList) (last : ℕ) (ordered : (i j : ℕ) → i ≤ j → j < last → row_rank columns i j ≢ Greater) where
-  abbrev pub keys : ℕ → List Key
-  keys n = map (key_in columns) (range_with_len 0 n)
+or_false : (a b : Bool) → a ≡ false → b ≡ false → (a || b) ≡ false
+or_false a b e f = rw (e, f) refl
 
-  below : (i p : ℕ) → i ≤ p → suc p < last → row_rank columns p (suc p) ≡ Less → row_rank columns i (suc p) ≡ Less
-  below i p h l e = of (row_rank columns i p) refl
+or_true : (a b : Bool) → b ≡ true → (a || b) ≡ true
+or_true true b e = refl
+or_true false b e = e
+
+kept_absent : (b : Bool) (k key : Key) (ks : List Key) → is_eq (key_rank k key) ≡ false → found key ks ≡ false → found key (cond b (k ∷ ks) ks) ≡ false
+kept_absent true k key ks e f = or_false _ _ e f
+kept_absent false k key ks e f = f
+
+kept_present : (b : Bool) (k key : Key) (ks : List Key) → found key ks ≡ true → found key (cond b (k ∷ ks) ks) ≡ true
+kept_present true k key ks f = or_true _ _ f
+kept_present false k key ks f = f
+
+one_more : (xs : List Key) (k : Key) (b : Bool) → found k xs ≡ b → length (distinct_keys (xs ++ k ∷ [])) ≡ length (distinct_keys xs) + (if b then 0 else 1)
+one_more xs k b e = ap length (distinct_push xs k) ∙ ap (λ c. length (distinct_keys xs ++ cond c [] (k ∷ []))) e ∙ of b
+  where
+    of : (c : Bool) → length (distinct_keys xs ++ cond c [] (k ∷ [])) ≡ length (distinct_keys xs) + (if c then 0 else 1)
+    of true = let n = length-append (distinct_keys xs) [] in omega (arith, n)
+    of false = length-append (distinct_keys xs) (k ∷ [])
+
+module _ (columns : List CellList) where
+  abbrev keys : List ℕ → List Key
+  keys = map (key_in columns)
+
+  absent : (rows : List ℕ) (row : ℕ) → AllByRecursion (λ x. is_eq (row_rank columns x row) ≡ false) rows → found (key_in columns row) (full_keys (keys rows)) ≡ false
+  absent [] row all = refl
+  absent (x ∷ rows) row all = kept_absent (not (has_null (key_in columns x))) (key_in columns x) (key_in columns row) (full_keys (keys rows)) all.0 (absent rows row all.1)
+
+  present : (rows : List ℕ) (row i : ℕ) → i < length rows → has_null (key_in columns (get_or rows i 0)) ≡ false → is_eq (row_rank columns (get_or rows i 0) row) ≡ true → found (key_in columns row) (full_keys (keys rows)) ≡ true
+  present [] row i h full e = absurd (omega (arith, h))
+  present (x ∷ rows) row zero h full e = ap (λ b. found (key_in columns row) (cond (not b) (key_in columns x ∷ full_keys (keys rows)) (full_keys (keys rows)))) full ∙ ap (λ b. b || found (key_in columns row) (full_keys (keys rows))) e
+  present (x ∷ rows) row (suc i) h full e = kept_present (not (has_null (key_in columns x))) (key_in columns x) (key_in columns row) (full_keys (keys rows)) (present rows row i (omega (arith, h)) full e)
+
+  -- of rows before a row, none has its key where the last one hasn't
+  none_before : (rows : List ℕ) (row : ℕ) → ((i j : ℕ) → i < j → j < length rows → row_rank columns (get_or rows i 0) (get_or rows j 0) ≢ Greater) → 0 < length rows
+      → row_rank columns (get_or rows (length rows - 1) 0) row ≡ Less → AllByRecursion (λ x. is_eq (row_rank columns x row) ≡ false) rows
+  none_before rows row ordered some less = all_there (λ x. is_eq (row_rank columns x row) ≡ false) rows (λ i h. ap is_eq (of i h (cases_lt i (length rows - 1))))
     where
-      of : (o : Ordering) → row_rank columns i p ≡ o → row_rank columns i (suc p) ≡ Less
-      of Less f = (rows_ranked columns).trans i p (suc p) f e
-      of Equal f = (rows_ranked columns).congr i p (suc p) f ∙ e
-      of Greater f = absurd (ordered i p h (omega (arith, l)) f)
+      last : ℕ
+      last = get_or rows (length rows - 1) 0
 
-  any_push : (f : Key → Bool) (xs : List Key) (k : Key) → list_any f (xs ++ k ∷ []) ≡ (list_any f xs || f k)
-  any_push f [] k = of (f k)
+      below : (x : ℕ) → row_rank columns x last ≢ Greater → row_rank columns x row ≡ Less
+      below x n = by (row_rank columns x last) refl
+        where
+          by : (o : Ordering) → row_rank columns x last ≡ o → row_rank columns x row ≡ Less
+          by Less f = (rows_ranked columns).trans x last row f less
+          by Equal f = (rows_ranked columns).congr x last row f ∙ less
+          by Greater f = absurd (n f)
+
+      of : (i : ℕ) → i < length rows → (i < length rows - 1) ⊎ (length rows - 1 ≤ i) → row_rank columns (get_or rows i 0) row ≡ Less
+      of i h (inl k) = below (get_or rows i 0) (ordered i (length rows - 1) k (omega (arith, some)))
+      of i h (inr k) = let s : i ≡ length rows - 1 = omega (arith, h, k) in ap (λ p. row_rank columns (get_or rows p 0) row) s ∙ less
+
+  keys_long : (rows : List ℕ) → AreOfLength (length columns) (keys rows)
+  keys_long [] = tt
+  keys_long (x ∷ rows) = (length-map columns (λ column. value_in column x), keys_long rows)
+
+  -- a row put among others adds its key, if that is new behind those before it
+  pub one_counted : (before behind : List ℕ) (row : ℕ) (anew : Bool) → ((i j : ℕ) → i < j → j < length before → row_rank columns (get_or before i 0) (get_or before j 0) ≢ Greater)
+      → (0 < length before → row_rank columns (get_or before (length before - 1) 0) row ≢ Greater) → AllByRecursion (λ z. is_eq (row_rank columns z row) ≡ false) behind → anew ≡ begins_anew columns before row
+      → count_keys columns (before ++ row ∷ behind) ≡ count_keys columns (before ++ behind) + (if anew then 1 else 0)
+  one_counted before behind row anew ordered last_one none is =
+      moved ∙ by (has_null k) refl
     where
-      of : (b : Bool) → (b || false) ≡ b
-      of true = refl
-      of false = refl
-  any_push f (x ∷ xs) k = ap (λ b. f x || b) (any_push f xs k) ∙ sym (assoc (f x) (list_any f xs) (f k))
-    where
-      assoc : (a b c : Bool) → ((a || b) || c) ≡ (a || (b || c))
-      assoc true b c = refl
-      assoc false b c = refl
+      k : Key
+      k = key_in columns row
 
-  any_cond : (f : Key → Bool) (xs : List Key) (b : Bool) (k : Key) → list_any f (xs ++ cond b [] (k ∷ [])) ≡ (list_any f xs || (not b && f k))
-  any_cond f xs false k = any_push f xs k
-  any_cond f xs true k = ap (list_any f) (append-nil xs) ∙ sym (of (list_any f xs))
-    where
-      of : (b : Bool) → (b || false) ≡ b
-      of true = refl
-      of false = refl
+      others : List Key
+      others = full_keys (keys (before ++ behind))
 
-  keys_more : (n : ℕ) → keys (n + 1) ≡ keys n ++ key_in columns n ∷ []
-  keys_more n = map-range_with_len_more (key_in columns) 0 n n (omega arith)
+      moved : count_keys columns (before ++ row ∷ behind) ≡ length (distinct_keys (full_keys (keys (before ++ behind) ++ k ∷ [])))
+      moved =
+          as_many_keys (length columns) (keys (before ++ row ∷ behind)) (keys ((before ++ behind) ++ row ∷ [])) (keys_long (before ++ row ∷ behind))
+          (IsPermutation-map (key_in columns) (before ++ row ∷ behind) ((before ++ behind) ++ row ∷ []) (IsPermutation-trans (before ++ row ∷ behind) (row ∷ (before ++ behind)) ((before ++ behind) ++ row ∷ []) (IsPermutation-middle before row behind) (IsPermutation-sym ((before ++ behind) ++ row ∷ []) (row ∷ (before ++ behind)) (IsPermutation-to_front (before ++ behind) row))))
+          ∙ ap (λ ks. length (distinct_keys (full_keys ks))) (map-append (key_in columns) (before ++ behind) (row ∷ []))
 
-  or_false : (a b : Bool) → a ≡ false → b ≡ false → (a || b) ≡ false
-  or_false a b e f = rw (e, f) refl
+      split : found k others ≡ (found k (full_keys (keys before)) || found k (full_keys (keys behind)))
+      split =
+          ap (λ ks. found k (full_keys ks)) (map-append (key_in columns) before behind) ∙ ap (found k) (filter-append (λ key. not (has_null key)) (keys before) (keys behind))
+          ∙ list_any-append (λ x. is_eq (key_rank x k)) (full_keys (keys before)) (full_keys (keys behind))
 
-  and_false : (a b : Bool) → b ≡ false → (a && b) ≡ false
-  and_false true b e = e
-  and_false false b e = refl
+      found_before : (b : Bool) → found k (full_keys (keys before)) ≡ b → found k others ≡ b
+      found_before true e = split ∙ ap (λ b. b || found k (full_keys (keys behind))) e
+      found_before false e = split ∙ or_false _ _ e (absent behind row none)
 
-  -- a key above all of some places is not found among these
-  absent : (q n : ℕ) → ((i : ℕ) → i < n → row_rank columns i q ≡ Less) → found (key_in columns q) (full_keys (keys n)) ≡ false
-  absent q zero h = refl
-  absent q (suc n) h =
-      let e : suc n ≡ n + 1 = omega arith in
-      let f : is_eq (row_rank columns n q) ≡ false = ap is_eq (h n (omega arith)) in
-      ap (λ m. found (key_in columns q) (full_keys (keys m))) e ∙ ap (λ ks. found (key_in columns q) (full_keys ks)) (keys_more n) ∙ ap (found (key_in columns q)) (full_push (keys n) (key_in columns n))
-      ∙ any_cond (λ x. is_eq (key_rank x (key_in columns q))) (full_keys (keys n)) (has_null (key_in columns n)) (key_in columns n)
-      ∙ or_false _ _ (absent q n (λ i l. h i (omega (arith, l)))) (and_false (not (has_null (key_in columns n))) (is_eq (row_rank columns n q)) f)
+      no_more : (b c : Bool) (none : ℕ) → anew ≡ (not b && c) → b ≡ true → (if anew then 1 else none) ≡ none
+      no_more b c none e f = rw (e, f) refl
 
-  or_true : (a b : Bool) → b ≡ true → (a || b) ≡ true
-  or_true true b e = refl
-  or_true false b e = e
+      as_last : has_null k ≡ false → (n : ℕ) → length before ≡ n → (b : Bool) → is_eq (row_rank columns (get_or before (n - 1) 0) row) ≡ b → found k others ≡ not anew
+      as_last full zero e b f = found_before false (of_empty before e) ∙ sym (ap not (is ∙ ap₂ (λ x y. not x && (y == 0 || not (is_eq (row_rank columns (get_or before (length before - 1) 0) row)))) full e))
+        where
+          of_empty : (rows : List ℕ) → length rows ≡ 0 → found k (full_keys (keys rows)) ≡ false
+          of_empty [] h = refl
+          of_empty (x ∷ rows) h = absurd (omega (arith, h))
+      as_last full (suc n) e true f =
+          let i : length before - 1 ≡ suc n - 1 = omega (arith, e) in
+          let equal : row_rank columns (get_or before (suc n - 1) 0) row ≡ Equal = is_equal (row_rank columns (get_or before (suc n - 1) 0) row) f in
+          found_before true (present before row (suc n - 1) (omega (arith, e)) (nulls_alike columns (get_or before (suc n - 1) 0) row equal ∙ full) f)
+          ∙ sym (ap not (is ∙ ap₂ (λ x y. not x && y) full (last_by true i f)))
+        where
+          last_by : (b : Bool) → length before - 1 ≡ suc n - 1 → is_eq (row_rank columns (get_or before (suc n - 1) 0) row) ≡ b → (length before == 0 || not (is_eq (row_rank columns (get_or before (length before - 1) 0) row))) ≡ not b
+          last_by b i g = let z : (length before == 0) ≡ false = grind (arith, nat_tests, e) in ap₂ (λ x y. x || not (is_eq (row_rank columns (get_or before y 0) row))) z i ∙ ap not g
+      as_last full (suc n) e false f =
+          let i : length before - 1 ≡ suc n - 1 = omega (arith, e) in
+          let less : row_rank columns (get_or before (length before - 1) 0) row ≡ Less = not_equal _ (ap (λ p. is_eq (row_rank columns (get_or before p 0) row)) i ∙ f) (last_one (omega (arith, e))) in
+          found_before false (absent before row (none_before before row ordered (omega (arith, e)) less))
+          ∙ sym (ap not (is ∙ ap₂ (λ x y. not x && y) full (last_by false i f)))
+        where
+          last_by : (b : Bool) → length before - 1 ≡ suc n - 1 → is_eq (row_rank columns (get_or before (suc n - 1) 0) row) ≡ b → (length before == 0 || not (is_eq (row_rank columns (get_or before (length before - 1) 0) row))) ≡ not b
+          last_by b i g = let z : (length before == 0) ≡ false = grind (arith, nat_tests, e) in ap₂ (λ x y. x || not (is_eq (row_rank columns (get_or before y 0) row))) z i ∙ ap not g
 
-  present : (p : ℕ) → has_null (key_in columns (suc p)) ≡ false → row_rank columns p (suc p) ≡ Equal → found (key_in columns (suc p)) (full_keys (keys (suc p))) ≡ true
-  present p full e =
-      let n : suc p ≡ p + 1 = omega arith in
-      let h : has_null (key_in columns p) ≡ false = nulls_alike columns p (suc p) e ∙ full in
-      ap (λ m. found (key_in columns (suc p)) (full_keys (keys m))) n ∙ ap (λ ks. found (key_in columns (suc p)) (full_keys ks)) (keys_more p) ∙ ap (found (key_in columns (suc p))) (full_push (keys p) (key_in columns p))
-      ∙ any_cond (λ x. is_eq (key_rank x (key_in columns (suc p)))) (full_keys (keys p)) (has_null (key_in columns p)) (key_in columns p)
-      ∙ or_true (found (key_in columns (suc p)) (full_keys (keys p))) _ (ap₂ (λ b c. not b && c) h (ap is_eq e))
+      added : (b : Bool) (n : ℕ) → n + (if not b then 0 else 1) ≡ n + (if b then 1 else 0)
+      added true n = refl
+      added false n = refl
 
-  abbrev pub anew : ℕ → Bool
-  anew p = not (has_null (key_in columns p)) && (p == 0 || not (is_eq (row_rank columns (p - 1) p)))
+      by : (b : Bool) → has_null k ≡ b → length (distinct_keys (full_keys (keys (before ++ behind) ++ k ∷ []))) ≡ count_keys columns (before ++ behind) + (if anew then 1 else 0)
+      by true e =
+          let z = no_more (has_null k) (length before == 0 || not (is_eq (row_rank columns (get_or before (length before - 1) 0) row))) 0 is e in
+          ap (λ ks. length (distinct_keys ks)) (full_push (keys (before ++ behind)) k ∙ ap (λ b. others ++ cond b [] (k ∷ [])) e ∙ append-nil others) ∙ omega (arith, z)
+      by false e =
+          ap (λ ks. length (distinct_keys ks)) (full_push (keys (before ++ behind)) k ∙ ap (λ b. others ++ cond b [] (k ∷ [])) e)
+          ∙ one_more others k (not anew) (as_last e (length before) refl (is_eq (row_rank columns (get_or before (length before - 1) 0) row)) refl) ∙ added anew (count_keys columns (before ++ behind))
 
-  -- so many keys are there up to a place
-  abbrev pub counted : ℕ → ℕ
-  counted n = length (distinct_keys (full_keys (keys n)))
+-- so many keys there are at most
+fewer_by : (b : Bool) (k : Key) (ks ls : List Key) → length ks ≤ length ls → length (cond b (k ∷ ks) ks) ≤ suc (length ls)
+fewer_by true k ks ls h = omega (arith, h)
+fewer_by false k ks ls h = omega (arith, h)
 
-  one_more : (xs : List Key) (k : Key) (b : Bool) → found k xs ≡ b → length (distinct_keys (xs ++ k ∷ [])) ≡ length (distinct_keys xs) + (if b then 0 else 1)
-  one_more xs k b e = ap length (distinct_push xs k) ∙ ap (λ c. length (distinct_keys xs ++ cond c [] (k ∷ []))) e ∙ of b
-    where
-      of : (c : Bool) → length (distinct_keys xs ++ cond c [] (k ∷ [])) ≡ length (distinct_keys xs) + (if c then 0 else 1)
-      of true = let n = length-append (distinct_keys xs) [] in omega (arith, n)
-      of false = length-append (distinct_keys xs) (k ∷ [])
+fewer_kept : (p : Key → Bool) (ks : List Key) → length (filter p ks) ≤ length ks
+fewer_kept p [] = omega arith
+fewer_kept p (k ∷ ks) = fewer_by (p k) k (filter p ks) ks (fewer_kept p ks)
 
-  with_null : (n : ℕ) → has_null (key_in columns n) ≡ true → full_keys (keys (n + 1)) ≡ full_keys (keys n)
-  with_null n e = ap full_keys (keys_more n) ∙ full_push (keys n) (key_in columns n) ∙ ap (λ b. full_keys (keys n) ++ cond b [] (key_in columns n ∷ [])) e ∙ append-nil (full_keys (keys n))
+fewer_distinct : (ks : List Key) → length (distinct_keys ks) ≤ length ks
+fewer_distinct [] = omega arith
+fewer_distinct (k ∷ ks) = let h = fewer_distinct ks in let l = fewer_kept (λ other. not (is_eq (key_rank k other))) (distinct_keys ks) in omega (arith, h, l)
 
-  without_null : (n : ℕ) → has_null (key_in columns n) ≡ false → full_keys (keys (n + 1)) ≡ full_keys (keys n) ++ key_in columns n ∷ []
-  without_null n e = ap full_keys (keys_more n) ∙ full_push (keys n) (key_in columns n) ∙ ap (λ b. full_keys (keys n) ++ cond b [] (key_in columns n ∷ [])) e
-
-  pub counted_more : (n : ℕ) → n < last → counted (n + 1) ≡ counted n + (if anew n then 1 else 0)
-  counted_more n h = of_null (has_null (key_in columns n)) refl
-    where
-      of_equal : (p : ℕ) → suc p < last → has_null (key_in columns (suc p)) ≡ false → (b : Bool) → is_eq (row_rank columns p (suc p)) ≡ b → counted (suc p + 1) ≡ counted (suc p) + (if not b then 1 else 0)
-      of_equal p l e true f = ap (λ ks. length (distinct_keys ks)) (without_null (suc p) e) ∙ one_more (full_keys (keys (suc p))) (key_in columns (suc p)) true (present p e (is_equal (row_rank columns p (suc p)) f))
-      of_equal p l e false f =
-          let less = not_equal (row_rank columns p (suc p)) f (ordered p (suc p) (omega arith) l) in
-          ap (λ ks. length (distinct_keys ks)) (without_null (suc p) e) ∙ one_more (full_keys (keys (suc p))) (key_in columns (suc p)) false (absent (suc p) (suc p) (λ i m. below i p (omega (arith, m)) l less))
-
-      of_full : (m : ℕ) → m < last → has_null (key_in columns m) ≡ false → counted (m + 1) ≡ counted m + (if m == 0 || not (is_eq (row_rank columns (m - 1) m)) then 1 else 0)
-      of_full zero l e = ap (λ ks. length (distinct_keys ks)) (without_null 0 e)
-      of_full (suc p) l e =
-          let k : suc p - 1 ≡ p = omega arith in
-          let z : (suc p == 0) ≡ false = grind (arith, nat_tests) in
-          of_equal p l e (is_eq (row_rank columns p (suc p))) refl ∙ ap₂ (λ a j. counted (suc p) + (if a || not (is_eq (row_rank columns j (suc p))) then 1 else 0)) (sym z) (sym k)
-
-      of_null : (b : Bool) → has_null (key_in columns n) ≡ b → counted (n + 1) ≡ counted n + (if anew n then 1 else 0)
-      of_null true e = ap (λ ks. length (distinct_keys ks)) (with_null n e) ∙ sym (ap (λ b. counted n + (if not b && (n == 0 || not (is_eq (row_rank columns (n - 1) n))) then 1 else 0)) e ∙ omega arith)
-      of_null false e = of_full n h e ∙ sym (ap (λ b. counted n + (if not b && (n == 0 || not (is_eq (row_rank columns (n - 1) n))) then 1 else 0)) e)
-
--- ---- a place whose key is new
-
-pub never_anew : (entries : List Entry) (place : ℕ) (full : Bool) → full ≡ not (has_null (key_at entries place)) → full ≡ false → full ≡ begins_anew entries place
-never_anew entries place full e f = f ∙ sym (ap (λ b. b && (place == 0 || not (is_eq (key_rank (key_at entries (place - 1)) (key_at entries place))))) (sym e ∙ f))
-
-pub first_anew : (entries : List Entry) (place : ℕ) (full first : Bool) → full ≡ not (has_null (key_at entries place)) → full ≡ true → first ≡ (place == 0) → first ≡ true → first ≡ begins_anew entries place
-first_anew entries place full first e f g h =
-    h ∙ sym (ap₂ (λ a b. a && (b || not (is_eq (key_rank (key_at entries (place - 1)) (key_at entries place))))) (sym e ∙ f) (sym g ∙ h))
-
-pub later_anew : (entries : List Entry) (place : ℕ) (full differs : Bool) → full ≡ not (has_null (key_at entries place)) → full ≡ true → (place == 0) ≡ false
-    → differs ≡ not (is_eq (key_rank (key_at entries (place - 1)) (key_at entries place))) → differs ≡ begins_anew entries place
-later_anew entries place full differs e f g h =
-    h ∙ sym (ap₂ (λ a b. a && (b || not (is_eq (key_rank (key_at entries (place - 1)) (key_at entries place))))) (sym e ∙ f) g)
-
--- the count of a whole run
-module _ (columns : List CellList) (rows : List ℕ) (entries : List Entry) (view : entries_at columns 0 rows ≡ entries) (rising : AreRising entries) where
-  pub ordered : (i j : ℕ) → i ≤ j → j < length entries → row_rank columns i j ≢ Greater
-  ordered = in_order columns rows entries view rising
-
-  abbrev pub counted_to : ℕ → ℕ
-  counted_to p = length (distinct_keys (full_keys (map (key_at entries) (range_with_len 0 p))))
-
-  at : (p : ℕ) → p < length entries → key_at entries p ≡ key_in columns p
-  at p l = key_there columns rows entries p view l
-
-  in_columns : (p : ℕ) → p ≤ length entries → counted_to p ≡ counted columns (length entries) ordered p
-  in_columns p h = ap (λ ks. length (distinct_keys (full_keys ks))) (fill_by_all (key_in columns) (map (key_at entries) (range_with_len 0 p)) p [] (length-map-range_with_len (key_at entries) 0 p)
-      (λ k l. get_or-map-range_with_len (key_at entries) 0 p k k [] l (omega arith) ∙ at k (omega (arith, h, l))))
-
-  pub counted_place : (place : ℕ) (new : Bool) → place < length entries → new ≡ begins_anew entries place → counted_to (place + 1) ≡ counted_to place + (if new then 1 else 0)
-  counted_place place new h e =
-      in_columns (place + 1) (omega (arith, h)) ∙ counted_more columns (length entries) ordered place h
-      ∙ ap₂ (λ n b. n + (if b then 1 else 0)) (sym (in_columns place (omega (arith, h)))) (sym (e ∙ ap₂ (λ a b. not (has_null b) && (place == 0 || not (is_eq (key_rank a b)))) (at (place - 1) (omega (arith, h))) (at place h)))
-
-  pub counted_all : (p : ℕ) → p ≡ length entries → counted_to p ≡ length (distinct_keys (full_keys (keys_of entries)))
-  counted_all p e = ap (λ ks. length (distinct_keys (full_keys ks))) (ap (λ n. map (key_at entries) (range_with_len 0 n)) e ∙ sym (fill_by_all (key_at entries) (keys_of entries) (length entries) [] (length-map entries (λ (x : Entry). x.key)) (λ k h. refl)))
-
-pub counts_one : (count bit place before after : ℕ) (new : Bool) → (count ≤ place) × (count ≡ before) → bit ≡ from_bool new → after ≡ before + (if new then 1 else 0) → (count + bit ≤ place + 1) × (count + bit ≡ after)
-counts_one count bit place before after true (h, e) f g = let b : bit ≡ 1 = f in (omega (arith, h, b), omega (arith, e, b, g))
-counts_one count bit place before after false (h, e) f g = let b : bit ≡ 0 = f in (omega (arith, h, b), omega (arith, e, b, g))
+pub keys_at_most : (columns : List CellList) (rows : List ℕ) → count_keys columns rows ≤ length rows
+keys_at_most columns rows =
+    let ks = map (key_in columns) rows in
+    let a = fewer_distinct (full_keys ks) in
+    let b = fewer_kept (λ key. not (has_null key)) ks in
+    let n = length-map rows (key_in columns) in
+    omega (arith, a, b, n)

@@ -113,3 +113,8 @@ index_had n cs numbers kept keys unique order statistics e f h o k g = record {
 
 pub on_same : (columns : List table.Column) (rows : List Row) (i j made : StoredIndex) → i ≡ j → IsIndexOn columns rows i.index.columns i.index.unique made → IsIndexOn columns rows j.index.columns j.index.unique made
 on_same columns rows i j made e h = rw (sym e) h
+
+-- an order's keys are as wide as its list of columns
+pub as_wide : (cs : List StoredColumn) (numbers kept : List ℕ) (keys : List CellList) (unique : Bool) (order : IndexKind) → keys ≡ key_cells cs numbers → IsOrderOf keys unique order → kept ≡ numbers → length (run_of order).types ≡ length kept
+as_wide cs numbers kept keys unique order e o k =
+    ap length o.types ∙ length-map keys (λ (column : CellList). column.type) ∙ ap length e ∙ length-map numbers (cells_at cs) ∙ ap length (sym k)

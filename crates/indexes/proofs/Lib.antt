@@ -9,11 +9,12 @@ mod KeyStretches
 mod IndexCounting
 mod SortedRows
 mod FirstRepeated
+mod MergedRows
 mod Rows
 pub mod KeyCells
-pub mod Counted
 pub mod Placing
 pub mod DistinctKeys
 pub mod Runs
 pub mod Clustered
+pub mod Counted
 pub mod FirstRepeats

@@ -4,10 +4,10 @@ use Rattle.std.specs.Prelude.{IsPermutation, IsTrue}
 use Rattle.std.specs.List.{AllByRecursion, IsDistinct, range_with_len}
 use Rattle.std.specs.List.Sorted.{IsSortedBy}
 use Rattle.std.specs.Cmp.{IsStrictWeakOrder}
-use Rattle.std.proofs.lemmas.List.{append_assoc}
 use Rattle.std.proofs.lemmas.Bool.{false≢true}
 use Rattle.std.proofs.lemmas.Bool.Decides.{nat_tests}
-use Rattle.std.proofs.lemmas.List.Sorted.{sorted_far, ranks_by, IsPermutation-append, IsPermutation-refl}
+use Rattle.std.proofs.lemmas.List.Sorted.{sorted_far, ranks_by, IsPermutation-append, All-permutation}
+use Rattle.std.proofs.lemmas.List.Elements.{All-from_recursion, recursion_from_All}
 use Rattle.std.proofs.lemmas.Map.Keys.{IsDistinct-IsPermutation}
 use Rattle.std.specs.Ordering.{nat_cmp, ordering_then, ordering_reverse, is_lt}
 use Rattle.std.specs.declared.cmp.Ordering.{Ordering}
@@ -15,6 +15,7 @@ use Rattle.std.specs.declared.cmp.Ordering.TheVariants.{Less, Equal, Greater}
 use Rattle.definitions.specs.IndexRun.{AreRising, comes_before}
 use Rattle.columns.specs.Cells.{CellList}
 use Rattle.indexes.specs.Keys.{entry_in}
+use Rattle.indexes.specs.Merging.{AreEarlier}
 use Rattle.indexes.proofs.KeyOrder.{row_rank, row_order, rows_ordered}
 
 abbrev pub stands_before : List CellList → ℕ → ℕ → Bool
@@ -42,10 +43,10 @@ unfolding IsDistinct
 range_distinct a zero = tt
 range_distinct a (suc n) = (range_above a (a + 1) n (omega arith), range_distinct (a + 1) n)
 
-flips : (x y : ℕ) → nat_eq x y ≡ nat_eq y x
+pub flips : (x y : ℕ) → nat_eq x y ≡ nat_eq y x
 flips x y = grind (arith, nat_tests)
 
-distinct_at : (rows : List ℕ) (i j : ℕ) → IsDistinct nat_eq rows → i < j → j < length rows → nat_eq (get_or rows i 0) (get_or rows j 0) ≡ false
+pub distinct_at : (rows : List ℕ) (i j : ℕ) → IsDistinct nat_eq rows → i < j → j < length rows → nat_eq (get_or rows i 0) (get_or rows j 0) ≡ false
 unfolding IsDistinct
 distinct_at [] i j d h l = absurd (omega (arith, l))
 distinct_at (r ∷ rs) i zero d h l = absurd (omega (arith, h))
@@ -71,7 +72,7 @@ order_apart Equal x y e = of (nat_eq x y) refl
         unequal : (a b : ℕ) → nat_eq a b ≡ false → nat_cmp a b ≢ Equal
         unequal a b f g = grind (arith, nat_tests)
 
-comes_first : (columns : List CellList) (x y : ℕ) → stands_before columns y x ≡ false → nat_eq x y ≡ false → stands_before columns x y ≡ true
+pub comes_first : (columns : List CellList) (x y : ℕ) → stands_before columns y x ≡ false → nat_eq x y ≡ false → stands_before columns x y ≡ true
 comes_first columns x y h d = of (row_order columns x y) refl
   where
     of : (o : Ordering) → row_order columns x y ≡ o → stands_before columns x y ≡ true
@@ -79,9 +80,12 @@ comes_first columns x y h d = of (row_order columns x y) refl
     of Equal e = absurd (false≢true (sym d ∙ order_apart (row_rank columns x y) x y e))
     of Greater e = absurd (false≢true (sym h ∙ ap is_lt ((rows_ordered columns).antisymm y x ∙ ap ordering_reverse e)))
 
-pub sorted_rising : (columns : List CellList) (n : ℕ) (rows : List ℕ) → IsPermutation (range_with_len 0 n) rows → IsSortedBy (stands_before columns) rows → AreRising (map (entry_in columns) rows)
-sorted_rising columns n rows p s =
-    let d = IsDistinct-IsPermutation nat_eq flips (range_with_len 0 n) rows p (range_distinct 0 n) in
+pub permuted_range : (first n : ℕ) (xs ys : List ℕ) → xs ≡ range_with_len first n → IsPermutation xs ys → IsPermutation (range_with_len first n) ys
+permuted_range first n xs ys e p = rw e at p
+
+pub sorted_rising : (columns : List CellList) (first n : ℕ) (rows : List ℕ) → IsPermutation (range_with_len first n) rows → IsSortedBy (stands_before columns) rows → AreRising (map (entry_in columns) rows)
+sorted_rising columns first n rows p s =
+    let d = IsDistinct-IsPermutation nat_eq flips (range_with_len first n) rows p (range_distinct first n) in
     rising_from columns rows (λ i j h l. comes_first columns (get_or rows i 0) (get_or rows j 0) (sorted_far (stands_before columns) (standing columns) rows s i j 0 (omega (arith, h)) l) (distinct_at rows i j d h l))
 
 range_joined : (a m n : ℕ) → range_with_len a m ++ range_with_len (a + m) n ≡ range_with_len a (m + n)
@@ -91,18 +95,40 @@ range_joined a (suc m) n =
     let f : suc m + n ≡ suc (m + n) = omega arith in
     rw (e, f) (ap (λ rs. a ∷ rs) (range_joined (a + 1) m n))
 
-pub all_rows_there : (old rows : List ℕ) (n : ℕ) → IsPermutation (range_with_len 0 (length old)) old → length old ≤ n → rows ≡ old ++ range_with_len (length old) (n - length old) → IsPermutation (range_with_len 0 n) rows
-all_rows_there old rows n p h e =
+pub all_rows_there : (old further : List ℕ) (n : ℕ) → IsPermutation (range_with_len 0 (length old)) old → length old ≤ n → IsPermutation (range_with_len (length old) (n - length old)) further → IsPermutation (range_with_len 0 n) (old ++ further)
+all_rows_there old further n p h q =
     let m = length old in
     let a : m + (n - m) ≡ n = omega (arith, h) in
     let z : 0 + m ≡ m = omega arith in
     let j : range_with_len 0 m ++ range_with_len m (n - m) ≡ range_with_len 0 n = ap (λ k. range_with_len 0 m ++ range_with_len k (n - m)) (sym z) ∙ range_joined 0 m (n - m) ∙ ap (range_with_len 0) a in
-    rw (e, ← j) (IsPermutation-append (range_with_len 0 m) old (range_with_len m (n - m)) (range_with_len m (n - m)) p (IsPermutation-refl (range_with_len m (n - m))))
+    rw (← j) (IsPermutation-append (range_with_len 0 m) old (range_with_len m (n - m)) further p q)
 
-pub one_behind : (old rows rows' : List ℕ) (row next v : ℕ) → length old ≤ row → rows ≡ old ++ range_with_len (length old) (row - length old) → rows' ≡ rows ++ v ∷ [] → v ≡ row → next ≡ row + 1 → rows' ≡ old ++ range_with_len (length old) (next - length old)
-one_behind old rows rows' row next v h e f g n =
-    let m = length old in
-    let k : row - m + 1 ≡ next - m = omega (arith, h, n) in
-    let l : m + (row - m) ≡ v = omega (arith, h, g) in
-    let j : range_with_len m (row - m) ++ v ∷ [] ≡ range_with_len m (next - m) = ap (λ x. range_with_len m (row - m) ++ x ∷ []) (sym l) ∙ range_joined m (row - m) 1 ∙ ap (range_with_len m) k in
-    f ∙ ap (λ xs. xs ++ v ∷ []) e ∙ append_assoc old (range_with_len m (row - m)) (v ∷ []) ∙ ap (λ xs. old ++ xs) j
+-- ---- the first rows of a table come before the others
+
+each_within : (from to a n : ℕ) → from ≤ a → a + n ≤ to → AllByRecursion (λ x. (from ≤ x) × (x < to)) (range_with_len a n)
+each_within from to a zero h l = tt
+each_within from to a (suc n) h l = ((h, omega (arith, l)), each_within from to (a + 1) n (omega (arith, h)) (omega (arith, l)))
+
+within_at : (from to : ℕ) (rows : List ℕ) (i : ℕ) → AllByRecursion (λ x. (from ≤ x) × (x < to)) rows → i < length rows → (from ≤ get_or rows i 0) × (get_or rows i 0 < to)
+within_at from to [] i all h = absurd (omega (arith, h))
+within_at from to (x ∷ rows) zero all h = all.0
+within_at from to (x ∷ rows) (suc i) all h = within_at from to rows i all.1 (omega (arith, h))
+
+row_within : (first n : ℕ) (rows : List ℕ) (i : ℕ) → IsPermutation (range_with_len first n) rows → i < length rows → (first ≤ get_or rows i 0) × (get_or rows i 0 < first + n)
+row_within first n rows i p h =
+    let P : ℕ → Type 0 = λ x. (first ≤ x) × (x < first + n) in
+    within_at first (first + n) rows i (recursion_from_All P rows (All-permutation P (range_with_len first n) rows p (All-from_recursion P (range_with_len first n) (each_within first (first + n) first n (omega arith) (omega arith))))) h
+
+pub rows_earlier : (old further : List ℕ) (n : ℕ) → IsPermutation (range_with_len 0 (length old)) old → IsPermutation (range_with_len (length old) (n - length old)) further → AreEarlier old further
+rows_earlier old further n p q i j h l =
+    let a = row_within 0 (length old) old i p h in
+    let b = row_within (length old) (n - length old) further j q l in
+    let below = a.1 in
+    let above = b.0 in
+    omega (arith, below, above)
+
+pub one_behind : (first : ℕ) (rows rows' : List ℕ) (row next v : ℕ) → first ≤ row → rows ≡ range_with_len first (row - first) → rows' ≡ rows ++ v ∷ [] → v ≡ row → next ≡ row + 1 → rows' ≡ range_with_len first (next - first)
+one_behind first rows rows' row next v h e f g n =
+    let k : row - first + 1 ≡ next - first = omega (arith, h, n) in
+    let l : first + (row - first) ≡ v = omega (arith, h, g) in
+    f ∙ ap (λ xs. xs ++ v ∷ []) e ∙ ap (λ x. range_with_len first (row - first) ++ x ∷ []) (sym l) ∙ range_joined first (row - first) 1 ∙ ap (range_with_len first) k

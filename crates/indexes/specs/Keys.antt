@@ -3,7 +3,7 @@ use Rattle.std.specs.Prelude.{ℕ, ◌≡◌, List, [], ◌∷◌, length, map}
 use Rattle.std.specs.List.{AllByRecursion, range_with_len}
 use Rattle.std.specs.Borrow.{Bor}
 use Rattle.definitions.specs.Value.{SqlType}
-use Rattle.definitions.specs.Key.{Key}
+use Rattle.definitions.specs.Key.{Key, distinct_keys, full_keys}
 use Rattle.definitions.specs.IndexRun.{Entry}
 use Rattle.columns.specs.Cells.{CellList}
 use Rattle.columns.specs.Columns.{cells_of}
@@ -36,3 +36,7 @@ keys_in columns = map (key_in columns) (range_with_len 0 (height columns))
 -- an entry for a row
 abbrev pub entry_in : List CellList → ℕ → Entry
 entry_in columns row = record { row = row; key = key_in columns row }
+
+-- how many keys without a null some rows have, equal ones counted once
+abbrev pub count_keys : List CellList → List ℕ → ℕ
+count_keys columns rows = length (distinct_keys (full_keys (map (key_in columns) rows)))

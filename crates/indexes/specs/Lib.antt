@@ -5,7 +5,9 @@ pub mod Stretches
 pub mod Pages
 pub mod Runs
 pub mod Repeats
+pub mod Once
 pub mod Meaning
+pub mod Merging
 pub mod KeyColumns
 pub mod Orders
 pub mod Ranges

@@ -1,8 +1,7 @@
 -- Keys that stand together.
-use Rattle.std.specs.Prelude.{ℕ, ◌-◌, ◌==◌, ◌≡◌, ◌≤◌, ◌<◌, ◌≢◌, Bool, ◌&&◌, ◌||◌, not, List, [], length, slice_index_or}
-use Rattle.std.specs.Ordering.{is_eq}
+use Rattle.std.specs.Prelude.{ℕ, ◌≡◌, ◌≤◌, ◌<◌, ◌≢◌, Bool, ◌&&◌, not, List, [], length, slice_index_or}
 use Rattle.definitions.specs.Value.{Value}
-use Rattle.definitions.specs.Key.{Key, has_null, key_rank}
+use Rattle.definitions.specs.Key.{Key}
 use Rattle.definitions.specs.IndexRun.{Entry, keys_of, begins_with, Limit, Unlimited, Inclusive, Exclusive}
 use Rattle.std.specs.Prelude.{nat_lt}
 use Rattle.std.specs.declared.cmp.Ordering.TheVariants.{Greater}
@@ -28,11 +27,6 @@ pub record IsStretchOf (values : List Value) (entries : List Entry) (stretch : S
   pub forward : stretch.from ≤ stretch.to
   pub inside : stretch.to ≤ length entries
   pub exact : (place : ℕ) → place < length entries → begins_with values (key_at entries place) ≡ is_within stretch place
-
--- a key has no null and differs from the one before it
-abbrev pub begins_anew : List Entry → ℕ → Bool
-begins_anew entries place = not (has_null (key_at entries place))
-    && (place == 0 || not (is_eq (key_rank (key_at entries (place - 1)) (key_at entries place))))
 
 -- from there on values aren't up to a limit any more
 abbrev pub turned_limit : Limit → Limit

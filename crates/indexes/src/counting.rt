@@ -1,11 +1,11 @@
 //! The statistics of an index, counted (own, after Selinger et al. 1979, section 4).
 
-ghost use Rattle.std.specs.Prelude.{◌≡◌, ◌≤◌, ◌<◌, length, map, filter_map, option_map, bytes_eq};
+ghost use Rattle.std.specs.Prelude.{◌≡◌, ◌≤◌, ◌<◌, length, map, filter_map, option_map, bytes_eq, take};
 ghost use Rattle.std.specs.List.{AllByRecursion, range_with_len};
 ghost use Rattle.definitions.specs.Limits.{most_index_columns, most_rows};
 ghost use Rattle.definitions.specs.Key.{key_of};
 ghost use Rattle.definitions.specs.IndexRun.{IsRun};
-ghost use Rattle.definitions.specs.Statistics.{index_statistics, range_of, units_of};
+ghost use Rattle.definitions.specs.Statistics.{first_numbers, index_statistics, range_of, units_of};
 ghost use Rattle.loading.specs.Stored.{AreFilled, headers, rows_of};
 ghost use Rattle.indexes.specs.Meaning.{index_statistics_of, key_range_of};
 ghost use Rattle.indexes.specs.Orders.{run_of};
@@ -17,12 +17,15 @@ use crate::statistics::{IndexStatistics, KeyRange};
 use loading::TableColumn;
 use sqlvalue::Value;
 
-/// The statistics of an index on the columns of these numbers, whose rows stand in an order.
+/// The statistics of an index on the columns of these numbers, whose rows stand in an order. The first `old` rows have
+/// that range.
 pub(crate) fn index_statistics(
     columns: &[TableColumn],
     rows: usize,
     numbers: &[usize],
     order: &IndexKind,
+    old: usize,
+    range: Option<KeyRange>,
 ) -> IndexStatistics
     requires some { 0 < length numbers.now }
     requires short { length numbers.now ≤ most_index_columns }
@@ -30,6 +33,9 @@ pub(crate) fn index_statistics(
     requires filled { AreFilled rows columns.now }
     requires few { rows ≤ most_rows }
     requires run { IsRun (map (key_of numbers.now) (rows_of rows columns.now)) (run_of order.now).entries }
+    requires within { old ≤ rows }
+    requires range { option_map key_range_of range
+        ≡ range_of (first_numbers numbers.now (take old (rows_of rows columns.now))) }
     ensures { index_statistics_of result ≡ index_statistics (headers columns.now) (rows_of rows columns.now)
         numbers.now }
 {
@@ -37,7 +43,7 @@ pub(crate) fn index_statistics(
         keys: order.key_count() as u64,
         pages: entry_pages(columns, numbers, rows),
         clustered: are_in_place(order.all()),
-        range: key_range(&columns[numbers[0]], rows),
+        range: key_range(&columns[numbers[0]], rows, old, range),
     }
 }
 
@@ -54,13 +60,20 @@ fn are_in_place(rows: &[u32]) -> bool
     true
 }
 
-/// The least and the greatest of a column's numbers, if there is one.
-fn key_range(column: &TableColumn, rows: usize) -> Option<KeyRange>
-    requires { rows ≡ length column.now.values }
+/// The least and the greatest of a column's numbers, if there is one. Those of the first `old` rows are given.
+fn key_range(
+    column: &TableColumn,
+    rows: usize,
+    old: usize,
+    range: Option<KeyRange>,
+) -> Option<KeyRange>
+    requires all { rows ≡ length column.now.values }
+    requires within { old ≤ rows }
+    requires range { option_map key_range_of range ≡ range_of (filter_map units_of (take old column.now.values)) }
     ensures { option_map key_range_of result ≡ range_of (filter_map units_of column.now.values) }
 {
-    let mut range = None;
-    for row in 0..rows {
+    let mut range = range;
+    for row in old..rows {
         if let Value::Num(number) = column.cell(row) {
             range = Some(widen_range(range, number.units));
         }

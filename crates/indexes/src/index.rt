@@ -11,7 +11,7 @@ use crate::counting::index_statistics;
 use crate::index_kind::IndexKind;
 use crate::key_columns::key_columns;
 use crate::ordered::OrderedIndex;
-use crate::statistics::IndexStatistics;
+use crate::statistics::{IndexStatistics, KeyRange};
 use crate::unique::UniqueFault;
 use loading::TableColumn;
 use sqlvalue::Value;
@@ -25,6 +25,8 @@ pub struct Index {
     columns: Vec<usize>,
     order: IndexKind,
     statistics: IndexStatistics,
+    /// The range that was counted, whatever statistics were given since.
+    range: Option<KeyRange>,
 }
 
 impl Model for Index {
@@ -63,11 +65,12 @@ impl Index {
             Ok(order) => order,
             Err(fault) => return Err(fault),
         };
-        let statistics = index_statistics(columns, rows, numbers.as_slice(), &order);
+        let statistics = index_statistics(columns, rows, numbers.as_slice(), &order, 0, None);
         Ok(Index {
             columns: numbers,
             order,
             statistics,
+            range: statistics.range,
         })
     }
 
@@ -99,11 +102,19 @@ impl Index {
             Ok(order) => order,
             Err(fault) => return Err(fault),
         };
-        let statistics = index_statistics(columns, rows, numbers.as_slice(), &order);
+        let statistics = index_statistics(
+            columns,
+            rows,
+            numbers.as_slice(),
+            &order,
+            self.order.len(),
+            self.range,
+        );
         Ok(Index {
             columns: numbers,
             order,
             statistics,
+            range: statistics.range,
         })
     }
 

@@ -82,6 +82,16 @@ impl IndexKind {
         }
     }
 
+    /// How many rows there are.
+    pub(crate) fn len(&self) -> usize
+        ensures { result ≡ length (run_of self.now).entries }
+    {
+        match self {
+            IndexKind::Sorted(index) => index.len(),
+            IndexKind::Unique(index) => index.len(),
+        }
+    }
+
     pub(crate) fn key_count(&self) -> usize
         ensures { result ≡ length (distinct_keys (full_keys (keys_of (run_of self.now).entries))) }
     {

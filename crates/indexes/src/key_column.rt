@@ -3,7 +3,7 @@
 ghost use Rattle.std.specs.Prelude.{ℕ, ◌≡◌, ◌<◌, ◌≤◌, ◌*◌, ◌&&◌, not, map, length, slice_index_or, IfOk};
 ghost use Rattle.std.specs.List.{AllByRecursion, range_with_len};
 ghost use Rattle.std.specs.Int.{div_ceil};
-ghost use Rattle.definitions.specs.Value.{rank, is_null};
+ghost use Rattle.definitions.specs.Value.{is_null};
 ghost use Rattle.definitions.specs.IndexRun.{is_from, is_up_to};
 ghost use Rattle.columns.specs.Columns.{cells_of};
 ghost use Rattle.columns.specs.Starts.{AreOrdered, IsHeld, Splits, limit_of, starts, value_in};
@@ -12,7 +12,6 @@ ghost use Rattle.indexes.specs.Stretches.{IsWithin, AreInOrder, is_within, turne
 use columns::{Column, LowerBound};
 use sqlvalue::Value;
 use std::alloc::{AllocError, Global};
-use std::cmp::Ordering;
 use std::marker::Model;
 use std::ops::Bound;
 
@@ -60,18 +59,6 @@ impl KeyColumn {
         let values = every(alloc, column, rows, 1)?;
         let heads = every(alloc, column, rows, PAGE)?;
         Ok(KeyColumn { values, heads })
-    }
-
-    pub(crate) fn is_null(&self, place: usize) -> bool
-        ensures { result ≡ is_null (value_in self.now place) }
-    {
-        self.values.is_null(place)
-    }
-
-    pub(crate) fn rank(&self, a: usize, b: usize) -> Ordering
-        ensures { result ≡ rank (value_in self.now a) (value_in self.now b) }
-    {
-        self.values.rank(a, b)
     }
 
     /// Of a stretch in which the values are in order, the places of those that are not null and lie from one bound to

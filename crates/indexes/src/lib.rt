@@ -8,6 +8,7 @@ mod index_kind;
 mod key_column;
 mod key_columns;
 mod keys;
+mod merging;
 mod ordered;
 mod pages;
 mod repeated;

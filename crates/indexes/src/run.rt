@@ -1,19 +1,18 @@
 //! The rows of a table in the order of their keys, with these.
 
-ghost use Rattle.std.specs.Prelude.{not, ◌≡◌, ◌≤◌, ◌<◌, ◌-◌, IfOk, drop, map, length, take};
-ghost use Rattle.std.specs.Ordering.{is_eq};
-ghost use Rattle.definitions.specs.Key.{distinct_keys, full_keys, has_null, key_rank};
+ghost use Rattle.std.specs.Prelude.{◌≡◌, ◌≤◌, ◌<◌, ◌-◌, IfOk, drop, map, length, take};
+ghost use Rattle.definitions.specs.Key.{distinct_keys, full_keys};
 ghost use Rattle.definitions.specs.IndexRun.{AreRising, equal_part, keys_of, range_part, entry_rows};
 ghost use Rattle.sqlvalue.specs.Meaning.{value_of};
 ghost use Rattle.columns.specs.Starts.{limit_of};
-ghost use Rattle.indexes.specs.Stretches.{IsStretchOf, begins_anew};
-ghost use Rattle.indexes.specs.Keys.{key_in, columns_of, entry_in, types_of};
+ghost use Rattle.indexes.specs.Stretches.{IsStretchOf};
+ghost use Rattle.indexes.specs.Keys.{columns_of, count_keys, entry_in, types_of};
 
 use crate::key_column::{KeyColumn, Stretch};
+use crate::merging::KeyedRows;
 use columns::Column;
 use sqlvalue::Value;
 use std::alloc::{AllocError, Global};
-use std::cmp::Ordering;
 use std::marker::Model;
 use std::ops::Bound;
 
@@ -22,6 +21,8 @@ use std::ops::Bound;
 pub(crate) struct KeyRun {
     rows: Vec<u32>,
     columns: Vec<KeyColumn>,
+    /// How many keys without a null there are, equal ones counted once.
+    key_count: usize,
 }
 
 impl Model for KeyRun {
@@ -41,17 +42,23 @@ impl KeyRun {
     pub(crate) fn of_rows(
         alloc: Global,
         keys: &[&Column],
-        rows: Vec<u32>,
+        keyed: KeyedRows,
     ) -> Result<KeyRun, AllocError>
-        requires { AreRising (map (entry_in (columns_of keys.now)) rows.items) }
+        requires rising { AreRising (map (entry_in (columns_of keys.now)) keyed.rows.items) }
+        requires counted { keyed.key_count ≡ count_keys (columns_of keys.now) keyed.rows.items }
         ensures types { IfOk result (λ run. run.types ≡ types_of (columns_of keys.now)) }
-        ensures entries { IfOk result (λ run. run.entries ≡ map (entry_in (columns_of keys.now)) rows.items) }
+        ensures entries { IfOk result (λ run. run.entries ≡ map (entry_in (columns_of keys.now)) keyed.rows.items) }
     {
+        let KeyedRows { rows, key_count } = keyed;
         let mut columns = Vec::new(alloc);
         for key in keys {
             columns.push(KeyColumn::of_rows(alloc, key, rows.as_slice())?)?;
         }
-        Ok(KeyRun { rows, columns })
+        Ok(KeyRun {
+            rows,
+            columns,
+            key_count,
+        })
     }
 
     pub(crate) fn len(&self) -> usize
@@ -120,42 +127,6 @@ impl KeyRun {
     pub(crate) fn key_count(&self) -> usize
         ensures { result ≡ length (distinct_keys (full_keys (keys_of self.now.entries))) }
     {
-        let mut count = 0;
-        for place in 0..self.rows.len() {
-            count += usize::from(self.is_new(place));
-        }
-        count
+        self.key_count
     }
-
-    /// Whether a key has no null and differs from the one before it.
-    fn is_new(&self, place: usize) -> bool
-        requires { place < length self.now.entries }
-        ensures { result ≡ begins_anew self.now.entries place }
-    {
-        is_full(&self.columns, place) && (place == 0 || differ(&self.columns, place - 1, place))
-    }
-}
-
-/// Whether no value of a key is null.
-fn is_full(columns: &[KeyColumn], place: usize) -> bool
-    ensures { result ≡ not (has_null (key_in columns.now place)) }
-{
-    for column in columns {
-        if column.is_null(place) {
-            return false;
-        }
-    }
-    true
-}
-
-/// Whether two keys are not equal.
-fn differ(columns: &[KeyColumn], a: usize, b: usize) -> bool
-    ensures { result ≡ not (is_eq (key_rank (key_in columns.now a) (key_in columns.now b))) }
-{
-    for column in columns {
-        if column.rank(a, b) != Ordering::Equal {
-            return true;
-        }
-    }
-    false
 }

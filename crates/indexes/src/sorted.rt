@@ -36,7 +36,7 @@ impl SortedIndex {
         ensures types { IfOk result (λ index. index.types ≡ types_of (columns_of keys.now)) }
         ensures run { IfOk result (λ index. IsRun (keys_in (columns_of keys.now)) index.entries) }
     {
-        let rows = run_rows(alloc, keys, &[])?;
+        let rows = run_rows(alloc, keys, &[], 0)?;
         Ok(SortedIndex {
             run: KeyRun::of_rows(alloc, keys, rows)?,
         })
@@ -54,7 +54,7 @@ impl SortedIndex {
         ensures types { IfOk result (λ index. index.types ≡ types_of (columns_of keys.now)) }
         ensures run { IfOk result (λ index. IsRun (keys_in (columns_of keys.now)) index.entries) }
     {
-        let rows = run_rows(alloc, keys, self.run.rows())?;
+        let rows = run_rows(alloc, keys, self.run.rows(), self.run.key_count())?;
         Ok(SortedIndex {
             run: KeyRun::of_rows(alloc, keys, rows)?,
         })

@@ -5,8 +5,9 @@ ghost use Rattle.definitions.specs.Key.{AreUnique, distinct_keys, full_keys};
 ghost use Rattle.definitions.specs.IndexRun.{AreRising, IsRun, keys_of};
 ghost use Rattle.std.specs.List.{range_with_len};
 ghost use Rattle.indexes.specs.Repeats.{IfRepeated, IsFirstRepeated, IsMemory};
-ghost use Rattle.indexes.specs.Keys.{entry_in, AreOfHeight, columns_of, height, keys_in, types_of};
+ghost use Rattle.indexes.specs.Keys.{entry_in, AreOfHeight, columns_of, count_keys, height, keys_in, types_of};
 
+use crate::merging::KeyedRows;
 use crate::ordered::OrderedIndex;
 use crate::repeated::{RepeatedKey, first_repeated};
 use crate::run::KeyRun;
@@ -44,7 +45,11 @@ impl Model for UniqueIndex {
 
     ghost Value = { Index };
 
+    ghost use Rattle.indexes.specs.Once.{IsUniqueIndex};
+
     ghost view = { λ s. s.run };
+
+    ghost invariant = { IsUniqueIndex };
 }
 
 impl UniqueIndex {
@@ -58,7 +63,8 @@ impl UniqueIndex {
         ensures unique { OnOk result (AreUnique (keys_in (columns_of keys.now))) }
         ensures repeated { IfErr result (IfRepeated (IsFirstRepeated (keys_in (columns_of keys.now)))) }
     {
-        UniqueIndex::of_rows(alloc, keys, run_rows(alloc, keys, &[])?)
+        let rows = run_rows(alloc, keys, &[], 0)?;
+        UniqueIndex::of_rows(alloc, keys, rows, 0)
     }
 
     /// The index of the same columns with more rows behind those that this one has, if no key comes again
@@ -76,23 +82,31 @@ impl UniqueIndex {
         ensures unique { OnOk result (AreUnique (keys_in (columns_of keys.now))) }
         ensures repeated { IfErr result (IfRepeated (IsFirstRepeated (keys_in (columns_of keys.now)))) }
     {
-        UniqueIndex::of_rows(alloc, keys, run_rows(alloc, keys, self.run.rows())?)
+        let rows = run_rows(alloc, keys, self.run.rows(), self.run.key_count())?;
+        UniqueIndex::of_rows(alloc, keys, rows, self.run.len())
     }
 
-    /// The index of all rows, in the order of their keys.
-    fn of_rows(alloc: Global, keys: &[&Column], rows: Vec<u32>) -> Result<UniqueIndex, UniqueFault>
-        requires same { IsPermutation (range_with_len 0 (height (columns_of keys.now))) rows.items }
-        requires rising { AreRising (map (entry_in (columns_of keys.now)) rows.items) }
+    /// The index of all rows, in the order of their keys. None of the first `old` rows repeats a key.
+    fn of_rows(
+        alloc: Global,
+        keys: &[&Column],
+        keyed: KeyedRows,
+        old: usize,
+    ) -> Result<UniqueIndex, UniqueFault>
+        requires same { IsPermutation (range_with_len 0 (height (columns_of keys.now))) keyed.rows.items }
+        requires rising { AreRising (map (entry_in (columns_of keys.now)) keyed.rows.items) }
+        requires counted { keyed.key_count ≡ count_keys (columns_of keys.now) keyed.rows.items }
+        requires once { AreUnique (take old (keys_in (columns_of keys.now))) }
         ensures types { IfOk result (λ index. index.types ≡ types_of (columns_of keys.now)) }
         ensures run { IfOk result (λ index. IsRun (keys_in (columns_of keys.now)) index.entries) }
         ensures unique { OnOk result (AreUnique (keys_in (columns_of keys.now))) }
         ensures repeated { IfErr result (IfRepeated (IsFirstRepeated (keys_in (columns_of keys.now)))) }
     {
-        if let Some(repeated) = first_repeated(keys, rows.as_slice()) {
+        if let Some(repeated) = first_repeated(keys, keyed.rows.as_slice(), old) {
             return Err(UniqueFault::Repeated(repeated));
         }
         Ok(UniqueIndex {
-            run: KeyRun::of_rows(alloc, keys, rows)?,
+            run: KeyRun::of_rows(alloc, keys, keyed)?,
         })
     }
 

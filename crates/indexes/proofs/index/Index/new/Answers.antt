@@ -6,7 +6,9 @@ use Rattle.indexes.specs.Keys.{columns_of}
 use Rattle.loading.specs.Stored.{headers, rows_of}
 use Rattle.indexes.specs.KeyColumns.{key_cells}
 use Rattle.indexes.specs.Orders.{run_of}
-use Rattle.indexes.proofs.KeyCells.{high_enough, not_high, no_order, run_had, index_had}
+use Rattle.indexes.proofs.KeyCells.{as_wide, high_enough, not_high, no_order, run_had, index_had}
+use Rattle.definitions.specs.Table as table
+use Rattle.indexes.proofs.Counted.{keeps_range}
 use Rattle.indexes.proofs.index.Index.new.Goals as goal
 
 pub build-requires-clause-table : goal.build-requires-clause-table
@@ -29,3 +31,13 @@ returns-clause-ok c =
     let cells = ap columns_of c.as_slice-2.ensures.value ∙ c.in-Ok.ensures ∙ ap (key_cells c.args.columns.now) c.as_slice.ensures.value in
     let statistics = c.index_statistics-statistics.ensures ∙ ap (index_statistics (headers c.args.columns.now) (rows_of c.args.rows c.args.columns.now)) c.as_slice-3.ensures.value in
     index_had c.args.rows c.args.columns.now c.args.numbers.items c.args.numbers.items _ c.args.unique c.in-Ok-build.order _ cells c.requires.filled c.requires.on (c.in-Ok-build.ensures).ok refl statistics
+
+pub invariant_of-result : goal.invariant_of-result
+invariant_of-result c =
+    let cells = ap columns_of c.as_slice-2.ensures.value ∙ c.in-Ok.ensures ∙ ap (key_cells c.args.columns.now) c.as_slice.ensures.value in
+    let run = run_had c.args.rows c.args.columns.now c.args.numbers.items _ c.args.unique c.in-Ok-build.order cells c.requires.filled c.requires.on (c.in-Ok-build.ensures).ok in
+    let statistics = c.index_statistics-statistics.ensures ∙ ap (index_statistics (headers c.args.columns.now) (rows_of c.args.rows c.args.columns.now)) c.as_slice-3.ensures.value in
+    record {
+      wide = as_wide c.args.columns.now c.args.numbers.items c.args.numbers.items _ c.args.unique c.in-Ok-build.order cells (c.in-Ok-build.ensures).ok refl;
+      ranged = keeps_range c.args.numbers.items (rows_of c.args.rows c.args.columns.now) (run_of c.in-Ok-build.order).entries _ run (ap (λ (s : table.IndexStatistics). s.range) statistics);
+    }

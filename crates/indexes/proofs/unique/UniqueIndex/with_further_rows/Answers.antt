@@ -1,8 +1,9 @@
-use Rattle.std.proofs.Common.{◌∙◌, ap}
-use Rattle.definitions.specs.IndexRun.{entry_rows}
+use Rattle.std.proofs.Common.{◌∙◌, ap, length}
+use Rattle.definitions.specs.Key.{distinct_keys, full_keys}
+use Rattle.definitions.specs.IndexRun.{entry_rows, keys_of}
 use Rattle.indexes.specs.Runs.{Index}
 use Rattle.indexes.specs.Keys.{columns_of}
-use Rattle.indexes.proofs.Rows.{rows_same, rows_within}
+use Rattle.indexes.proofs.Rows.{rows_counted, rows_rising, rows_same, rows_within}
 use Rattle.indexes.proofs.unique.UniqueIndex.with_further_rows.Goals as goal
 
 pub run_rows-requires-clause-same : goal.run_rows-requires-clause-same
@@ -10,3 +11,9 @@ run_rows-requires-clause-same c = rows_same (columns_of c.args.keys.now) c.args.
 
 pub run_rows-requires-clause-within : goal.run_rows-requires-clause-within
 run_rows-requires-clause-within c = rows_within (columns_of c.args.keys.now) c.args.self.now.entries c.requires.beginning c.rows.result.now (c.rows.ensures ∙ ap (λ (i : Index). entry_rows i.entries) c.self.view_is)
+
+pub run_rows-requires-clause-rising : goal.run_rows-requires-clause-rising
+run_rows-requires-clause-rising c = rows_rising (columns_of c.args.keys.now) c.args.self.now.entries c.requires.beginning c.rows.result.now (c.rows.ensures ∙ ap (λ (i : Index). entry_rows i.entries) c.self.view_is)
+
+pub run_rows-requires-clause-counted : goal.run_rows-requires-clause-counted
+run_rows-requires-clause-counted c = rows_counted (columns_of c.args.keys.now) c.args.self.now.entries c.requires.beginning c.rows.result.now c.key_count.result (c.rows.ensures ∙ ap (λ (i : Index). entry_rows i.entries) c.self.view_is) (c.key_count.ensures ∙ ap (λ (i : Index). length (distinct_keys (full_keys (keys_of i.entries)))) c.self.view_is)

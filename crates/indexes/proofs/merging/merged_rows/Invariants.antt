@@ -1,0 +1,6 @@
+use Rattle.indexes.specs.Keys.{columns_of}
+use Rattle.indexes.proofs.MergedRows.{AreMerged}
+use Rattle.indexes.proofs.merging.merged_rows.Given as goal
+
+abbrev pub invariant-loop-row : goal.invariant-loop-row
+invariant-loop-row l = AreMerged (columns_of l.keys) l.old l.further l.rows.items l.from l.row-index l.key_count
