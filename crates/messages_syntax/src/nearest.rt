@@ -1,6 +1,6 @@
 //! The word or the name that is nearest to one that stands there.
 
-use std::alloc::{AllocError, Global};
+use std::alloc::Global;
 use std::fmt::{self, Formatter};
 use strsim::osa_distance;
 
@@ -12,6 +12,8 @@ const SHORT: usize = 3;
 pub struct Nearest<'w, 'a> {
     alloc: Global,
     wanted: &'w str,
+    /// The letters of the wanted name, as bits.
+    letters: u64,
     found: Option<(&'a str, usize)>,
     /// How near a short word is, if one is an edit away.
     short: Option<usize>,
@@ -23,6 +25,7 @@ impl<'w, 'a> Nearest<'w, 'a> {
         Nearest {
             alloc,
             wanted,
+            letters: letters_of(wanted),
             found: None,
             short: None,
         }
@@ -30,17 +33,30 @@ impl<'w, 'a> Nearest<'w, 'a> {
 
     /// Offers a name. Where memory is wanting it is passed over.
     pub fn offer(&mut self, name: &'a str) {
-        let Ok(edits) = self.edits(name) else {
+        let Some(edits) = self.near_edits(name) else {
             return;
         };
-        let begins = self.wanted.len() >= SHORT && name.starts_with(self.wanted);
-        let is_near = edits <= self.wanted.len() / 3 || begins;
         let is_nearer = match self.found {
             Some((other, least)) => edits < least || edits == least && name.len() > other.len(),
             None => true,
         };
-        if is_near && is_nearer {
+        if is_nearer {
             self.found = Some((name, edits));
+        }
+    }
+
+    /// How many edits away a name is that is near: it differs by a third of the wanted letters at most, or begins with all of them. One that is
+    /// further away than the nearest so far isn't told.
+    fn near_edits(&self, name: &str) -> Option<usize> {
+        let begins = self.wanted.len() >= SHORT && name.starts_with(self.wanted);
+        let most = if begins {
+            name.len()
+        } else {
+            self.wanted.len() / 3
+        };
+        match self.found {
+            Some((_, least)) => self.edits(name, most.min(least)),
+            None => self.edits(name, most),
         }
     }
 
@@ -49,11 +65,8 @@ impl<'w, 'a> Nearest<'w, 'a> {
     pub fn offer_word(&mut self, word: &'a str) {
         if word.len() > SHORT {
             self.offer(word);
-        } else if let Ok(edits) = self.edits(word) {
-            let least = self.short.unwrap_or(1);
-            if edits <= least {
-                self.short = Some(edits);
-            }
+        } else if let Some(edits) = self.edits(word, self.short.unwrap_or(1)) {
+            self.short = Some(edits);
         }
     }
 
@@ -66,8 +79,24 @@ impl<'w, 'a> Nearest<'w, 'a> {
         }
     }
 
-    fn edits(&self, name: &str) -> Result<usize, AllocError> {
-        osa_distance(self.alloc, self.wanted, name)
+    /// How many edits away a name is, if at most so many. Most names are passed over for their letters, and aren't measured.
+    fn edits(&self, name: &str, most: usize) -> Option<usize> {
+        if self.wanted.is_ascii() && name.is_ascii() && self.least_edits(name) > most {
+            return None;
+        }
+        match osa_distance(self.alloc, self.wanted, name) {
+            Ok(edits) if edits <= most => Some(edits),
+            _ => None,
+        }
+    }
+
+    /// How many edits away a name is at least: each letter more or less takes one, and so does each that only one of them has.
+    fn least_edits(&self, name: &str) -> usize {
+        let letters = letters_of(name);
+        let other = (self.letters & !letters)
+            .count_ones()
+            .max((letters & !self.letters).count_ones());
+        self.wanted.len().abs_diff(name.len()).max(other as usize)
     }
 
     /// The nearest name as a hint, if one was near.
@@ -77,4 +106,13 @@ impl<'w, 'a> Nearest<'w, 'a> {
             None => Ok(()),
         }
     }
+}
+
+/// The letters of a word, each as the bit of its code's last six binary digits.
+fn letters_of(word: &str) -> u64 {
+    let mut letters = 0;
+    for letter in word.as_bytes() {
+        letters |= 1u64 << (*letter % 64);
+    }
+    letters
 }
