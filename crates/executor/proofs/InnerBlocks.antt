@@ -18,9 +18,9 @@ use Rattle.definitions_answers.specs.Told.{meaning_told, TellsRows}
 use Rattle.definitions_answers.proofs.Reordered.{reordered}
 use Rattle.definitions_answers.proofs.Taken.{all_arranged, all_joined}
 use Rattle.subqueries.specs.BlockText.{Rising}
-use Rattle.subqueries.specs.Keeping.{places_in, told_by, told_last, AllKept, Replaces}
+use Rattle.subqueries.specs.Keeping.{last_of_option, places_in, told_by, told_last, AllKept, AreLeftOut, Replaces}
 use Rattle.subqueries.specs.declared.kept_results.KeptResults.{KeptResults}
-use Rattle.subqueries.proofs.KeptPlaces.{one_more_is_kept, same_are_kept, told_by_is}
+use Rattle.subqueries.proofs.KeptPlaces.{fewer_are_kept, left_out_at, left_out_count, left_out_told, one_more_is_kept, same_are_kept, told_by_is}
 use Rattle.executor.specs.ReadyBlocks.{blocks_in, database_in, plans_in, AreLeft, AreRight, IsToldLast}
 use Rattle.executor.specs.declared.ready_block.ReadyBlock.{ReadyBlock}
 
@@ -95,13 +95,24 @@ module _ (query : List ReadyBlock) where
     told_here = told_by_is (set results number new) number new (set_here results number new old at_place)
 
     pub left_below : AreLeft query number results (set results number new)
-    left_below = λ n h. set_elsewhere results number n new (inl h)
+    left_below = λ n h. ap last_of_option (set_elsewhere results number n new (inl h))
 
   pub left_twice : (below : ℕ) (a b c : List KeptResults) → AreLeft query below a b → AreLeft query below b c → AreLeft query below a c
   left_twice below a b c h k = λ n l. k n l ∙ h n l
 
   pub left_less : (below less : ℕ) (a b : List KeptResults) → less ≤ below → AreLeft query below a b → AreLeft query less a b
   left_less below less a b l h = λ n m. h n (omega (arith, l, m))
+
+  -- ---- only the latest results are left
+
+  pub left_out_left : (below : ℕ) (a b : List KeptResults) → AreLeftOut a b → AreLeft query below a b
+  left_out_left below a b all = λ n l. left_out_told a b n all
+
+  pub left_out_right : (a b : List KeptResults) → AreLeftOut a b → AreRight query a → AreRight query b
+  left_out_right a b all right = record {
+    count = left_out_count a b all ∙ right.count;
+    each = λ n own e. let was = left_out_at a b n own all e in fewer_are_kept (Right n) was.0 own was.2 (right.each n was.0 was.1);
+  }
 
   pub left_nothing : (below : ℕ) (a : List KeptResults) → AreLeft query below a a
   left_nothing below a = λ n l. refl
@@ -113,11 +124,7 @@ module _ (query : List ReadyBlock) where
     Told results = IsToldLast query outer results
 
     stays_one : (below n : ℕ) (results results' : List KeptResults) → AreLeft query below results results' → n < below → Told results n → Told results' n
-    stays_one below n results results' left h told = subst (TellsRows (meanings db 0 (blocks_in query) n outer)) (sym (ap last (left n h))) told
-      where
-        last : Option KeptResults → Result (List Value) Raise
-        last None = Ok []
-        last (Some r) = told_last r
+    stays_one below n results results' left h told = subst (TellsRows (meanings db 0 (blocks_in query) n outer)) (sym (left n h)) told
 
     pub stays_all : (j : ℕ) (ns : List ℕ) (results results' : List KeptResults) → AreLeft query j results results' → AllByRecursion (λ n. n ≤ j) ns → AllByRecursion (Told results) ns → Told results' j → AllByRecursion (Told results') ns
     stays_all j [] results results' left h told new = tt

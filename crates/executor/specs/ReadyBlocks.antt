@@ -89,7 +89,7 @@ module _ (query : List ReadyBlock) where
 
   -- of the blocks below a number nothing is told anew
   abbrev pub AreLeft : ℕ → List KeptResults → List KeptResults → Type 0
-  AreLeft below results results' = (number : ℕ) → number < below → slice_get results' number ≡ slice_get results number
+  AreLeft below results results' = (number : ℕ) → number < below → told_by results' number ≡ told_by results number
 
   -- what is so of the block of a number
   abbrev pub OfBlock : ℕ → (ReadyBlock → Type 0) → Type 0

@@ -30,7 +30,7 @@ use query_tree::Condition;
 use scans::{BlockSource, Composite, OuterRows, TupleSource};
 use sqlvalue::Raise;
 use std::alloc::{AllocError, Global};
-use subqueries::{Frames, KeptResults, Late, Told, WorkWatch};
+use subqueries::{Frames, KeptResults, Late, Told, WorkWatch, bound_memory, key_of};
 
 /// Has a block told what it may tell in the rows of the blocks around it, which is then what it told last, and gives its
 /// total there. A result that is kept for the values of its parameters is told again (Selinger et al. 1979, section 6).
@@ -57,7 +57,9 @@ pub(crate) fn ask_block<'s, W: WorkWatch>(
         return Ok(total);
     }
     let (told, total) = evaluate_block(alloc, query, number, frames, results)?;
-    results[number].keep(alloc, parameters, &*frames, told, total)?;
+    let key = key_of(alloc, parameters, &*frames, results)?;
+    results[number].keep(key, told, total);
+    bound_memory(results);
     Ok(total)
 }
 

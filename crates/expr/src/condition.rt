@@ -11,6 +11,8 @@ ghost use Rattle.definitions.specs.Queries.Conjuncts.{member_values, values_of};
 ghost use Rattle.definitions.specs.Queries.Evaluation as meaning;
 ghost use Rattle.definitions.specs.Queries.Laws.{FitsTypes};
 ghost use Rattle.definitions.specs.Queries.Telling.{MayAnswer};
+ghost use Rattle.sqlvalue.specs.Meaning.{op_of};
+ghost use Rattle.parse_tree.specs.Trees.{quantifier_of};
 ghost use Rattle.query_tree.specs.Bound.{condition_of, member_of};
 ghost use Rattle.expr.specs.Answers.{answer_of, truth_answer_of, IsTyped};
 
@@ -40,12 +42,7 @@ pub fn truth<'a, S: Environment>(condition: &'a Condition, env: &'a S) -> Result
             quantifier,
             value: operand,
             block,
-        } => quantified_comparison(
-            *op,
-            *quantifier,
-            value(operand, env),
-            env.first_values(*block),
-        ),
+        } => compared_with_rows(*op, *quantifier, value(operand, env), *block, env),
         Condition::IsNull {
             negated,
             value: operand,
@@ -73,7 +70,16 @@ pub fn truth<'a, S: Environment>(condition: &'a Condition, env: &'a S) -> Result
             negated,
             value: operand,
             block,
-        } => unless(*negated, is_in_query(value(operand, env), *block, env)),
+        } => unless(
+            *negated,
+            compared_with_rows(
+                ComparisonOperator::Equals,
+                Quantifier::Any,
+                value(operand, env),
+                *block,
+                env,
+            ),
+        ),
         Condition::Exists { block } => has_row(env.first_values(*block)),
         Condition::Not(operand) => opposite(truth(operand, env)),
         Condition::And(parts) => {
@@ -137,27 +143,24 @@ fn is_member<'a, S: Environment>(
     any
 }
 
-/// Whether a value is equal to the first one of a row of an inner block (ISO/IEC 9075:1992, 8.4).
-fn is_in_query<S: Environment>(
+/// A value compared with all or any of the rows of an inner block, by their first values (ISO/IEC 9075:1992, 8.7). IN is = ANY (8.4).
+fn compared_with_rows<S: Environment>(
+    op: ComparisonOperator,
+    quantifier: Quantifier,
     operand: Result<Value, Raise>,
     block: usize,
     env: &S,
 ) -> Result<Tri, Raise>
     ensures { (m : Meaning spec.Value) → MayAnswer m (answer_of operand.entry) →
-        MayAnswer (meaning.on_two (is.compared_with_any Equals) m
+        MayAnswer (meaning.on_two (meaning.quantified (quantifier_of quantifier) (op_of op)) m
         (meaning.on_one meaning.column_values ((S.environment env.now).inner block))) (truth_answer_of result) }
 {
     if let Ok(value) = operand {
-        if let Some(truth) = env.is_among(block, &value) {
+        if let Some(truth) = env.quantified_comparison(op, quantifier, &value, block) {
             return Ok(truth);
         }
     }
-    quantified_comparison(
-        ComparisonOperator::Equals,
-        Quantifier::Any,
-        operand,
-        env.first_values(block),
-    )
+    quantified_comparison(op, quantifier, operand, env.first_values(block))
 }
 
 /// That a value is equal to no member yet.

@@ -3,17 +3,16 @@
 ghost use Rattle.std.specs.Prelude.{◌≡◌, [], get_or, IfSome, Ok};
 ghost use Rattle.definitions.specs.Value.{Null};
 ghost use Rattle.definitions.specs.Arithmetic.{Is};
-ghost use Rattle.definitions.specs.Statement.{Equals};
-ghost use Rattle.definitions.specs.Truth.{compared_with_any};
-ghost use Rattle.definitions.specs.Queries.Evaluation.{Environment, cell, column_values, on_one};
+ghost use Rattle.definitions.specs.Queries.Evaluation.{Environment, cell, column_values, on_one, quantified};
 ghost use Rattle.definitions.specs.Queries.Telling.{MayAnswer};
-ghost use Rattle.sqlvalue.specs.Meaning.{value_of};
+ghost use Rattle.sqlvalue.specs.Meaning.{op_of, value_of};
 ghost use Rattle.sqlvalue.specs.Truths.{truth_of};
+ghost use Rattle.parse_tree.specs.Trees.{quantifier_of};
 ghost use Rattle.query_tree.specs.Bound.{column_of};
 ghost use Rattle.expr.specs.Answers.{answer_of, values_answer_of};
 
-use query_tree::BlockColumn;
-use sqlvalue::{OwnedValue, Raise, Tri, Value};
+use query_tree::{BlockColumn, Quantifier};
+use sqlvalue::{ComparisonOperator, OwnedValue, Raise, Tri, Value};
 
 /// What an expression of a block is evaluated in (own). What it lends is there as long as it is.
 pub trait Environment {
@@ -35,8 +34,16 @@ pub trait Environment {
     fn first_values(&self, block: usize) -> Result<&[OwnedValue], Raise>
         ensures { MayAnswer (on_one column_values ((environment self.now).inner block)) (values_answer_of result) };
 
-    /// Whether a value equals one of those, where that is found faster than by going through them; else none (own).
-    fn is_among(&self, block: usize, value: &Value) -> Option<Tri>
-        ensures { IfSome result (λ truth. MayAnswer (on_one (compared_with_any Equals (value_of value.now))
+    /// A value compared with all or any of those, where that is found faster than by going through them; else none
+    /// (ISO/IEC 9075:1992, 8.7).
+    fn quantified_comparison(
+        &self,
+        op: ComparisonOperator,
+        quantifier: Quantifier,
+        value: &Value,
+        block: usize,
+    ) -> Option<Tri>
+        ensures { IfSome result (λ truth. MayAnswer
+            (on_one (quantified (quantifier_of quantifier) (op_of op) (value_of value.now))
             (on_one column_values ((environment self.now).inner block))) (Ok (truth_of truth))) };
 }

@@ -9,8 +9,8 @@ ghost use Rattle.sqlvalue.specs.Meaning.{value_of};
 ghost use Rattle.sqlvalue.specs.Owned.{owned_value};
 
 use expr::Environment;
-use query_tree::BlockColumn;
-use sqlvalue::{OwnedValue, Raise, Tri, Value, rank};
+use query_tree::{BlockColumn, Quantifier};
+use sqlvalue::{ComparisonOperator, OwnedValue, Raise, Tri, Value, rank};
 use std::cmp::Ordering;
 
 /// One of the rows of a group, and the values of the set functions over it.
@@ -39,7 +39,13 @@ impl<'a, S: Environment> Environment for GroupContext<'a, S> {
         self.row.first_values(block)
     }
 
-    fn is_among(&self, _block: usize, _value: &Value) -> Option<Tri> {
+    fn quantified_comparison(
+        &self,
+        _op: ComparisonOperator,
+        _quantifier: Quantifier,
+        _value: &Value,
+        _block: usize,
+    ) -> Option<Tri> {
         None
     }
 }

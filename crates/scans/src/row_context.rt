@@ -9,8 +9,8 @@ ghost use Rattle.definitions_execution.specs.Stored.{row_number as number_in};
 use crate::block_source::BlockSource;
 use crate::outer_rows::OuterRows;
 use expr::Environment;
-use query_tree::BlockColumn;
-use sqlvalue::{OwnedValue, Raise, Tri, Value};
+use query_tree::{BlockColumn, Quantifier};
+use sqlvalue::{ComparisonOperator, OwnedValue, Raise, Tri, Value};
 
 /// A composite of rows of a block's tables, which go by their numbers, in the rows of the blocks around it. Of a table that is not
 /// there yet it has the first row.
@@ -41,7 +41,13 @@ impl<'s, 'a, A: OuterRows> Environment for RowContext<'s, 'a, A> {
         Ok(&[])
     }
 
-    fn is_among(&self, _block: usize, _value: &Value) -> Option<Tri> {
+    fn quantified_comparison(
+        &self,
+        _op: ComparisonOperator,
+        _quantifier: Quantifier,
+        _value: &Value,
+        _block: usize,
+    ) -> Option<Tri> {
         None
     }
 }

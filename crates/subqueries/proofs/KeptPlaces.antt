@@ -1,8 +1,8 @@
 -- What is kept, place by place.
-use Rattle.std.proofs.Common.{◌≡◌, ◌∙◌, refl, sym, ap, subst, ℕ, zero, suc, ◌<◌, List, [], ◌∷◌, ◌++◌, Option, Some, None, length, map, get_or, set}
-use Rattle.std.specs.Prelude.{IfSome, option_map, slice_get}
+use Rattle.std.proofs.Common.{◌≡◌, ◌∙◌, refl, sym, ap, subst, ℕ, zero, suc, ◌<◌, List, [], ◌∷◌, ◌++◌, Option, Some, None, length, map, get_or, set, inl, inr, arith}
+use Rattle.std.specs.Prelude.{◌⊎◌, IfSome, option_map, slice_get}
 use Rattle.std.specs.List.{AllByRecursion}
-use Rattle.std.proofs.lemmas.List.{get_or-set_same, length-map, map-set}
+use Rattle.std.proofs.lemmas.List.{get_or-set_same, get_or-set_other, length-map, map-set}
 use Rattle.definitions.specs.Table.{Database}
 use Rattle.definitions.specs.Plans.Plan.{Plan}
 use Rattle.definitions.specs.Queries.Answer.{meanings}
@@ -13,7 +13,7 @@ use Rattle.definitions_execution.specs.Total.{totals}
 use Rattle.definitions_answers.specs.Kept.{Kept, IsRight}
 use Rattle.definitions_answers.specs.Parameters.{outer_values, parameters}
 use Rattle.definitions_answers.specs.Told.{TellsRows}
-use Rattle.subqueries.specs.Keeping.{kept_in, last_of_option, latest_in, latest_key, latest_total, places_in, told_by, told_last, told_of_option, AllKept, Replaces}
+use Rattle.subqueries.specs.Keeping.{kept_at, kept_in, last_of_option, latest_in, latest_key, latest_total, places_in, told_by, told_last, told_of_option, AllKept, AreLeftOut, LeavesOut, Replaces}
 use Rattle.subqueries.specs.declared.kept_results.KeptResult.{KeptResult}
 use Rattle.subqueries.specs.declared.kept_results.KeptResults.{KeptResults}
 
@@ -58,8 +58,86 @@ module _ (P : Kept → Type 0) where
   pub one_more_is_kept : (old new : KeptResults) (kept : Kept) → Replaces (places_in old) (places_in new) kept → AllKept P old → P kept → AllKept P new
   one_more_is_kept old new kept r h k = subst (AllByRecursion InPlace) (sym r.1) (all_set (places_in old) r.0 kept h k)
 
+  by_places : (places : List (Option Kept)) → ((i : ℕ) → InPlace (get_or places i None)) → AllByRecursion InPlace places
+  by_places [] each = tt
+  by_places (p ∷ ps) each = (each 0, by_places ps (λ i. each (suc i)))
+
+  pub fewer_are_kept : (old new : KeptResults) → LeavesOut old new → AllKept P old → AllKept P new
+  fewer_are_kept old new left h = by_places (places_in new) (λ i. of i (left.0 i))
+    where
+      of : (i : ℕ) → (kept_at new i ≡ None) ⊎ (kept_at new i ≡ kept_at old i) → InPlace (kept_at new i)
+      of i (inl empty) = subst InPlace (sym empty) tt
+      of i (inr same) = subst InPlace (sym same) (at_place (places_in old) i h)
+
   pub latest_is_kept : (r : KeptResults) → AllKept P r → IfSome (latest_in r) P
   latest_is_kept r h = at_place (places_in r) r.latest h
+
+-- ---- fewer results
+
+pub none_left_out : (r : KeptResults) → LeavesOut r r
+none_left_out r = (λ place. inr refl, refl)
+
+pub left_out_twice : (a b c : KeptResults) → LeavesOut a b → LeavesOut b c → LeavesOut a c
+left_out_twice a b c h k = (λ place. of place (k.0 place), k.1 ∙ h.1)
+  where
+    further : (place : ℕ) → kept_at c place ≡ kept_at b place → (kept_at b place ≡ None) ⊎ (kept_at b place ≡ kept_at a place) → (kept_at c place ≡ None) ⊎ (kept_at c place ≡ kept_at a place)
+    further place e (inl empty) = inl (e ∙ empty)
+    further place e (inr same) = inr (e ∙ same)
+
+    of : (place : ℕ) → (kept_at c place ≡ None) ⊎ (kept_at c place ≡ kept_at b place) → (kept_at c place ≡ None) ⊎ (kept_at c place ≡ kept_at a place)
+    of place (inl empty) = inl empty
+    of place (inr same) = further place same (h.0 place)
+
+-- a place that isn't the latest's is emptied
+get_emptied : {X : Type 0} (xs : List (Option X)) (i j : ℕ) → (get_or (set xs i None) j None ≡ None) ⊎ (get_or (set xs i None) j None ≡ get_or xs j None)
+get_emptied [] i j = inr refl
+get_emptied (x ∷ xs) zero zero = inl refl
+get_emptied (x ∷ xs) zero (suc j) = inr refl
+get_emptied (x ∷ xs) (suc i) zero = inr refl
+get_emptied (x ∷ xs) (suc i) (suc j) = get_emptied xs i j
+
+pub one_emptied : (old : KeptResults) (i : ℕ) (items : List (Option KeptResult)) → items ≡ set old.places.items i None → (old.latest ≡ i → ⊥)
+    → ((place : ℕ) → (get_or (map (option_map kept_in) items) place None ≡ None) ⊎ (get_or (map (option_map kept_in) items) place None ≡ kept_at old place))
+    × (get_or (map (option_map kept_in) items) old.latest None ≡ latest_in old)
+one_emptied old i items is other = (
+  λ place. subst (λ xs. (get_or xs place None ≡ None) ⊎ (get_or xs place None ≡ kept_at old place)) (sym places) (get_emptied (places_in old) i place),
+  ap (λ xs. get_or xs old.latest None) places ∙ get_or-set_other (places_in old) i old.latest None None other,
+)
+  where
+    places : map (option_map kept_in) items ≡ set (places_in old) i None
+    places = ap (map (option_map kept_in)) is ∙ map-set (option_map kept_in) old.places.items i None
+
+pub none_left_out_of_any : (rs : List KeptResults) → AreLeftOut rs rs
+none_left_out_of_any [] = tt
+none_left_out_of_any (r ∷ rs) = (none_left_out r, none_left_out_of_any rs)
+
+pub left_out_of_one : (rs ss : List KeptResults) (i : ℕ) (own new : KeptResults) → i < length ss → own ≡ get_or ss i own → LeavesOut own new → AreLeftOut rs ss → AreLeftOut rs (set ss i new)
+left_out_of_one [] [] i own new h e l all = tt
+left_out_of_one [] (s ∷ ss) i own new h e l all = absurd all
+left_out_of_one (r ∷ rs) [] i own new h e l all = absurd all
+left_out_of_one (r ∷ rs) (s ∷ ss) zero own new h e l all = (left_out_twice r s new all.0 (subst (λ x. LeavesOut x new) e l), all.1)
+left_out_of_one (r ∷ rs) (s ∷ ss) (suc i) own new h e l all = (all.0, left_out_of_one rs ss i own new (omega (arith, h)) e l all.1)
+
+pub left_out_count : (rs ss : List KeptResults) → AreLeftOut rs ss → length ss ≡ length rs
+left_out_count [] [] all = refl
+left_out_count [] (s ∷ ss) all = absurd all
+left_out_count (r ∷ rs) [] all = absurd all
+left_out_count (r ∷ rs) (s ∷ ss) all = ap suc (left_out_count rs ss all.1)
+
+pub left_out_told : (rs ss : List KeptResults) (n : ℕ) → AreLeftOut rs ss → told_by ss n ≡ told_by rs n
+left_out_told [] [] n all = refl
+left_out_told [] (s ∷ ss) n all = absurd all
+left_out_told (r ∷ rs) [] n all = absurd all
+left_out_told (r ∷ rs) (s ∷ ss) zero all = ap told_of_option all.0.1
+left_out_told (r ∷ rs) (s ∷ ss) (suc n) all = left_out_told rs ss n all.1
+
+-- what a block's results were
+pub left_out_at : (rs ss : List KeptResults) (n : ℕ) (own : KeptResults) → AreLeftOut rs ss → slice_get ss n ≡ Some own → (was : KeptResults) × (slice_get rs n ≡ Some was) × LeavesOut was own
+left_out_at [] [] n own all e = absurd cc
+left_out_at [] (s ∷ ss) n own all e = absurd all
+left_out_at (r ∷ rs) [] n own all e = absurd all
+left_out_at (r ∷ rs) (s ∷ ss) zero own all e = let is : s ≡ own = cc in (r, refl, subst (LeavesOut r) is all.0)
+left_out_at (r ∷ rs) (s ∷ ss) (suc n) own all e = left_out_at rs ss n own all.1 e
 
 pub told_by_is : (results : List KeptResults) (block : ℕ) (r : KeptResults) → slice_get results block ≡ Some r → told_by results block ≡ told_last r
 told_by_is results block r e = ap last_of_option e

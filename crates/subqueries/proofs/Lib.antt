@@ -1,6 +1,7 @@
 pub mod Lists
 pub mod Answering
 pub mod OrderedValues
+pub mod Negating
 mod NumberKeys
 pub mod ToldValues
 pub mod Nearest

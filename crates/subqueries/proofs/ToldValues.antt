@@ -2,8 +2,7 @@
 use Rattle.std.proofs.Common.{◌≡◌, ◌∙◌, refl, sym, ap, subst, List, [], ◌∷◌, map, Result, Ok}
 use Rattle.definitions.specs.Value as v
 use Rattle.definitions.specs.Arithmetic as a
-use Rattle.definitions.specs.Statement.{Equals}
-use Rattle.definitions.specs.Truth.{Truth, compared_with_any}
+use Rattle.definitions.specs.Truth.{Truth}
 use Rattle.definitions.specs.Queries.Evaluation.{column_values, on_one}
 use Rattle.definitions.specs.Queries.Telling.{MayAnswer}
 use Rattle.definitions_answers.specs.Told.{meaning_told}
@@ -18,9 +17,9 @@ MayTell told answer = MayAnswer (on_one column_values (meaning_told told)) answe
 pub values_told : (told : Result (List v.Value) a.Raise) (values shown : List v.Value) → told ≡ Ok values → shown ≡ values → MayTell told (Ok shown)
 values_told told values shown is same = subst (λ r. MayTell r (Ok shown)) (sym is) (same ∙ first_values values)
 
--- whether a value is among them
-abbrev pub MayTellAmong : Result (List v.Value) a.Raise → v.Value → Truth → Type 0
-MayTellAmong told v truth = MayAnswer (on_one (compared_with_any Equals v) (on_one column_values (meaning_told told))) (Ok truth)
+-- a value compared with them
+abbrev pub MayTellCompared : Result (List v.Value) a.Raise → (List v.Value → Truth) → Truth → Type 0
+MayTellCompared told compared truth = MayAnswer (on_one compared (on_one column_values (meaning_told told))) (Ok truth)
 
-pub among_told : (told : Result (List v.Value) a.Raise) (values : List v.Value) (v : v.Value) (truth : Truth) → told ≡ Ok values → truth ≡ compared_with_any Equals v values → MayTellAmong told v truth
-among_told told values v truth is same = subst (λ r. MayTellAmong r v truth) (sym is) (same ∙ ap (compared_with_any Equals v) (first_values values))
+pub compared_told : (told : Result (List v.Value) a.Raise) (values : List v.Value) (compared : List v.Value → Truth) (truth : Truth) → told ≡ Ok values → truth ≡ compared values → MayTellCompared told compared truth
+compared_told told values compared truth is same = subst (λ r. MayTellCompared r compared truth) (sym is) (same ∙ ap compared (first_values values))

@@ -1,16 +1,13 @@
 -- The results of blocks that are kept.
-use Rattle.std.specs.Prelude.{ℕ, ◌≡◌, List, [], Option, Some, None, Result, Ok, IfSome, get_or, map, option_map, set}
-use Rattle.std.specs.Prelude.{slice_get}
+use Rattle.std.specs.Prelude.{ℕ, ◌≡◌, ◌⊎◌, ⊤, List, [], ◌∷◌, Option, Some, None, Result, Ok, IfSome, get_or, map}
+use Rattle.std.specs.Prelude.{option_map, set, slice_get}
 use Rattle.std.specs.List.{AllByRecursion}
 use Rattle.definitions.specs.Value.{Value}
 use Rattle.definitions.specs.Arithmetic.{Raise}
-use Rattle.definitions.specs.Queries.Evaluation.{Combination}
 use Rattle.definitions_answers.specs.Kept.{Kept}
-use Rattle.definitions_answers.specs.Parameters.{outer_values}
 use Rattle.sqlvalue.specs.Owned.{owned_value}
-use Rattle.subqueries.specs.OuterColumns.{outer_columns_of}
+use Rattle.sqlvalue.specs.declared.owned_value.OwnedValue.{OwnedValue}
 use Rattle.subqueries.specs.Telling.{told_in}
-use Rattle.subqueries.specs.declared.parameters.OuterColumn.{OuterColumn}
 use Rattle.subqueries.specs.declared.telling.Told.{Told}
 use Rattle.subqueries.specs.declared.kept_results.KeptResult.{KeptResult}
 use Rattle.subqueries.specs.declared.kept_results.KeptResults.{KeptResults}
@@ -18,10 +15,9 @@ use Rattle.subqueries.specs.declared.kept_results.KeptResults.{KeptResults}
 abbrev pub kept_in : KeptResult → Kept
 kept_in r = record { key = map owned_value r.key.items; told = told_in r.told; total = r.total }
 
--- what is told of a block in the rows around, and its total there, to be kept
-abbrev pub kept_of : List Combination → List OuterColumn → Told → ℕ → Kept
-kept_of outer parameters told total =
-    record { key = outer_values outer (outer_columns_of parameters); told = told_in told; total = total }
+-- what is told of a block where its parameters have the values of a key, and its total there, to be kept
+abbrev pub kept_with : List OwnedValue → Told → ℕ → Kept
+kept_with key told total = record { key = map owned_value key; told = told_in told; total = total }
 
 -- all places, and what is in each
 abbrev pub places_in : KeptResults → List (Option Kept)
@@ -56,11 +52,26 @@ latest_key r = key_at r r.latest
 abbrev pub latest_total : KeptResults → Option ℕ
 latest_total r = total_in r r.latest
 
+-- ---- fewer results
+
+-- each place is empty, or as before, and that of the latest is as before
+abbrev pub LeavesOut : KeptResults → KeptResults → Type 0
+LeavesOut old new =
+    ((place : ℕ) → (kept_at new place ≡ None) ⊎ (kept_at new place ≡ kept_at old place)) × (latest_in new ≡ latest_in old)
+
+-- it is so of each block's
+abbrev pub AreLeftOut : List KeptResults → List KeptResults → Type 0
+AreLeftOut [] [] = ⊤
+AreLeftOut (old ∷ olds) (new ∷ news) = LeavesOut old new × AreLeftOut olds news
+AreLeftOut _ _ = ⊥
+
+-- ---- what was told last
+
 abbrev pub told_of_option : Option Kept → Result (List Value) Raise
 told_of_option None = Ok []
 told_of_option (Some k) = k.told
 
--- what was told last; no rows, where nothing was
+-- no rows, where nothing was
 abbrev pub told_last : KeptResults → Result (List Value) Raise
 told_last r = told_of_option (latest_in r)
 

@@ -1,5 +1,6 @@
 pub mod NumberKeys
 pub mod FirstValues
+pub mod Comparing
 pub mod Telling
 pub mod Found
 pub mod Framed

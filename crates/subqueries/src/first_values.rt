@@ -1,22 +1,26 @@
 //! The first values of rows, in order.
 
-ghost use Rattle.std.specs.Prelude.{◌≡◌, All, IfOk, IsPermutation, IsSome, IsSortedByKey, Some, false, is_some, map, true};
+ghost use Rattle.std.specs.Prelude.{◌≡◌, ◌≤◌, All, IfOk, IsPermutation, IsSome, IsSortedByKey, Some, false, is_some, length, map, true};
 ghost use Rattle.std.specs.Bool.{Decides};
 ghost use Rattle.std.specs.List.Sorted.{IsPartitionPoint};
 ghost use Rattle.std.specs.Option.{ForSome};
-ghost use Rattle.std.specs.Ordering.{is_lt};
-ghost use Rattle.std.specs.declared.cmp.Ordering.TheVariants.{Equal};
-ghost use Rattle.definitions.specs.Statement.{Equals};
+ghost use Rattle.std.specs.Ordering.{is_le, is_lt};
 ghost use Rattle.definitions.specs.Truth.{compared_with_any, True};
 ghost use Rattle.definitions.specs.Value as spec;
-ghost use Rattle.sqlvalue.specs.Meaning.{value_of};
+ghost use Rattle.definitions.specs.Queries.Evaluation.{quantified};
+ghost use Rattle.sqlvalue.specs.Meaning.{op_of, value_of};
 ghost use Rattle.sqlvalue.specs.Owned.{owned_value};
 ghost use Rattle.sqlvalue.specs.Truths.{truth_of};
+ghost use Rattle.parse_tree.specs.Trees.{quantifier_of};
+ghost use Rattle.subqueries.specs.Comparing.{HasAgreeing, HasOrder, HasOrderAt, IsNegated};
 ghost use Rattle.subqueries.specs.NumberKeys.{AreKeys};
 
-use sqlvalue::{OwnedValue, Tri, Value, compare, number_key, rank};
+use crate::memory::{bytes_of, bytes_of_values};
+use query_tree::Quantifier;
+use sqlvalue::{ComparisonOperator, OwnedValue, Tri, Value, compare, number_key, rank};
 use std::alloc::{AllocError, Global};
 use std::cmp::Ordering;
+use std::mem::size_of;
 
 /// Whole numbers that rank as values do, which are nulls and numbers of one scale (own).
 #[derive(Drop)]
@@ -53,11 +57,39 @@ impl FirstValues {
         self.values.as_slice()
     }
 
-    /// Whether a value equals one of them (ISO/IEC 9075:1992, 8.4). It takes time that grows as the logarithm of their number (own).
-    pub fn is_among(&self, value: &Value) -> Tri
-        ensures { truth_of result ≡ compared_with_any Equals (value_of value.now) (values_in self.now) }
+    /// About how many bytes they take (own).
+    pub(crate) fn bytes(&self) -> u64 {
+        match &self.keys {
+            // Where all have keys none is a text.
+            Some(own) => bytes_of(self.values.capacity(), size_of::<OwnedValue>()).saturating_add(
+                bytes_of(own.keys.capacity(), size_of::<i64>()),
+            ),
+            None => bytes_of_values(&self.values),
+        }
+    }
+
+    /// A value compared with all or any of them (ISO/IEC 9075:1992, 8.7). It takes time that grows as the logarithm of their number
+    /// (own).
+    pub fn quantified_comparison(
+        &self,
+        op: ComparisonOperator,
+        quantifier: Quantifier,
+        value: &Value,
+    ) -> Tri
+        ensures { truth_of result ≡ quantified (quantifier_of quantifier) (op_of op) (value_of value.now)
+            (values_in self.now) }
     {
-        if self.has(value) {
+        match quantifier {
+            Quantifier::All => self.with_any(negated(op), value).not(),
+            Quantifier::Any => self.with_any(op, value),
+        }
+    }
+
+    /// A value compared with any of them: where no comparison is true, it is false if none is unknown.
+    fn with_any(&self, op: ComparisonOperator, value: &Value) -> Tri
+        ensures { truth_of result ≡ compared_with_any (op_of op) (value_of value.now) (values_in self.now) }
+    {
+        if self.has(op, value) {
             Tri::True
         } else if self.are_comparable(value) {
             Tri::False
@@ -66,28 +98,73 @@ impl FirstValues {
         }
     }
 
-    /// Whether one of them compares as equal with a value. Then the first that doesn't rank before the value does.
-    fn has(&self, value: &Value) -> bool
-        ensures { Decides result (compared_with_any Equals (value_of value.now) (values_in self.now) ≡ True) }
+    /// Whether the comparison with one of them is true.
+    fn has(&self, op: ComparisonOperator, value: &Value) -> bool
+        ensures { Decides result (compared_with_any (op_of op) (value_of value.now) (values_in self.now) ≡ True) }
     {
-        match self.values.get(self.count_before(value)) {
-            Some(own) => is_equal(own, value),
+        self.has_agreeing(op, Ordering::Equal, value)
+            || self.has_agreeing(op, Ordering::Less, value)
+            || self.has_agreeing(op, Ordering::Greater, value)
+    }
+
+    /// Whether an operator asks for an order, and one of them has it.
+    fn has_agreeing(&self, op: ComparisonOperator, order: Ordering, value: &Value) -> bool
+        ensures { Decides result (HasAgreeing (op_of op) order (value_of value.now) (values_in self.now)) }
+    {
+        op.agrees(order) && self.has_order(order, value)
+    }
+
+    /// Whether a value compares so with one of them: then it does with the nearest one that ranks so.
+    fn has_order(&self, order: Ordering, value: &Value) -> bool
+        ensures { Decides result (HasOrder order (value_of value.now) (values_in self.now)) }
+    {
+        match order {
+            Ordering::Less => self.has_order_at(self.count_through(value), order, value),
+            Ordering::Equal => self.has_order_at(self.count_before(value), order, value),
+            Ordering::Greater => match self.count_before(value).checked_sub(1) {
+                Some(last) => self.has_order_at(last, order, value),
+                None => false,
+            },
+        }
+    }
+
+    /// Whether a value compares so with the one in a place.
+    fn has_order_at(&self, place: usize, order: Ordering, value: &Value) -> bool
+        ensures { Decides result (HasOrderAt place order (value_of value.now) (values_in self.now)) }
+    {
+        match self.values.get(place) {
+            Some(own) => is_ordered(own, value, order),
             None => false,
         }
     }
 
     /// How many of them rank before a value; they are the first.
     fn count_before(&self, value: &Value) -> usize
-        ensures { IsPartitionPoint (λ own. is_lt (spec.rank (owned_value own) (value_of value.now)) ≡ true)
+        ensures point { IsPartitionPoint (λ own. is_lt (spec.rank (owned_value own) (value_of value.now)) ≡ true)
             (λ own. is_lt (spec.rank (owned_value own) (value_of value.now)) ≡ false) self.now.values.items result }
+        ensures within { result ≤ length self.now.values.items }
     {
         if let Some(own) = &self.keys
             && let Some(key) = number_key(value, own.scale)
         {
-            return own.keys.partition_point(|other| *other < key);
+            return own.keys.partition_point(|other| other.cmp(&key).is_lt());
         }
         self.values
             .partition_point(|own| rank(&own.value(), value).is_lt())
+    }
+
+    /// How many of them rank before a value or with it; they are the first.
+    fn count_through(&self, value: &Value) -> usize
+        ensures { IsPartitionPoint (λ own. is_le (spec.rank (owned_value own) (value_of value.now)) ≡ true)
+            (λ own. is_le (spec.rank (owned_value own) (value_of value.now)) ≡ false) self.now.values.items result }
+    {
+        if let Some(own) = &self.keys
+            && let Some(key) = number_key(value, own.scale)
+        {
+            return own.keys.partition_point(|other| other.cmp(&key).is_le());
+        }
+        self.values
+            .partition_point(|own| rank(&own.value(), value).is_le())
     }
 
     /// Whether each of them can be compared with a value. It is so where the first and the last can.
@@ -120,11 +197,11 @@ fn number_keys(alloc: Global, values: &[OwnedValue]) -> Result<Option<NumberKeys
     Ok(Some(NumberKeys { scale, keys }))
 }
 
-/// Whether a value compares as equal with a kept one: a null doesn't (ISO/IEC 9075:1992, 8.2).
-fn is_equal(own: &OwnedValue, value: &Value) -> bool
-    ensures { Decides result (spec.compare (value_of value.now) (owned_value own.now) ≡ Some Equal) }
+/// Whether a value compares so with a kept one (ISO/IEC 9075:1992, 8.2).
+fn is_ordered(own: &OwnedValue, value: &Value, order: Ordering) -> bool
+    ensures { Decides result (spec.compare (value_of value.now) (owned_value own.now) ≡ Some order) }
 {
-    compare(value, &own.value()) == Some(Ordering::Equal)
+    compare(value, &own.value()) == Some(order)
 }
 
 /// Whether a value can be compared with a kept one: neither is a null, and they are of one kind (ISO/IEC 9075:1992, 8.2).
@@ -132,4 +209,18 @@ fn is_comparable(own: &OwnedValue, value: &Value) -> bool
     ensures { result ≡ is_some (spec.compare (value_of value.now) (owned_value own.now)) }
 {
     compare(value, &own.value()).is_some()
+}
+
+/// The operator that is true where another is false (ISO/IEC 9075:1992, 8.2).
+fn negated(op: ComparisonOperator) -> ComparisonOperator
+    ensures { IsNegated (op_of op) (op_of result) }
+{
+    match op {
+        ComparisonOperator::Equals => ComparisonOperator::NotEquals,
+        ComparisonOperator::NotEquals => ComparisonOperator::Equals,
+        ComparisonOperator::LessThan => ComparisonOperator::GreaterOrEquals,
+        ComparisonOperator::GreaterThan => ComparisonOperator::LessOrEquals,
+        ComparisonOperator::LessOrEquals => ComparisonOperator::GreaterThan,
+        ComparisonOperator::GreaterOrEquals => ComparisonOperator::LessThan,
+    }
 }

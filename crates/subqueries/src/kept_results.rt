@@ -8,43 +8,48 @@ ghost use Rattle.sqlvalue.specs.Meaning.{number_of, value_of};
 ghost use Rattle.sqlvalue.specs.Owned.{owned_value};
 ghost use Rattle.subqueries.specs.OuterColumns.{outer_columns_of};
 
+use crate::memory::bytes_of_values;
 use crate::parameters::OuterColumn;
 use crate::telling::Told;
+use query_tree::Quantifier;
 use scans::OuterRows;
-use sqlvalue::{Num, OwnedValue, Raise, Tri, Value};
+use sqlvalue::{ComparisonOperator, Num, OwnedValue, Raise, Tri, Value};
 use std::alloc::{AllocError, Global};
 
 /// An odd number of 64 bits, by which hashes are multiplied (own).
 const SPREAD: u64 = 0x9E37_79B9_7F4A_7C15;
 
-/// A result: what was told of a block where its parameters had these values, and its total there (own).
+/// A result: what was told of a block where its parameters had these values, its total there, and about how many bytes it takes (own).
 #[derive(Drop)]
 struct KeptResult {
     key: Vec<OwnedValue>,
     told: Told,
     total: u64,
+    bytes: u64,
 }
 
 /// The results of a block that are kept: each has its place by the hash of its key, and a later one takes the place of an earlier
 /// one. One place is the latest (own; Selinger et al. 1979, section 6, use a result again where the referenced value is the same).
+/// How many bytes they take together is counted as they come and go.
 #[derive(Drop)]
 pub struct KeptResults {
     places: Vec<Option<KeptResult>>,
     latest: usize,
+    bytes: u64,
     ghost within: { latest < length places.items },
 }
 
 impl KeptResults {
     ghost use Rattle.std.specs.Prelude.{IfNone, IfSome, Ok, OnErr, OnOk, OnSome, is_ok, is_some, max};
     ghost use Rattle.std.specs.List.{AllByRecursion};
-    ghost use Rattle.definitions.specs.Statement.{Equals};
-    ghost use Rattle.definitions.specs.Truth.{compared_with_any};
-    ghost use Rattle.definitions.specs.Queries.Evaluation.{column_values, on_one};
+    ghost use Rattle.definitions.specs.Queries.Evaluation.{column_values, on_one, quantified};
     ghost use Rattle.definitions.specs.Queries.Telling.{MayAnswer};
     ghost use Rattle.definitions_answers.specs.Told.{meaning_told};
+    ghost use Rattle.sqlvalue.specs.Meaning.{op_of};
     ghost use Rattle.sqlvalue.specs.Truths.{truth_of};
+    ghost use Rattle.parse_tree.specs.Trees.{quantifier_of};
     ghost use Rattle.expr.specs.Answers.{values_answer_of};
-    ghost use Rattle.subqueries.specs.Keeping.{key_at, kept_of, latest_in, latest_key, latest_total, places_in, told_last, total_in, Replaces};
+    ghost use Rattle.subqueries.specs.Keeping.{key_at, latest_in, kept_with, latest_key, latest_total, places_in, told_last, total_in, LeavesOut, Replaces};
 
     /// So many empty places, and at least one.
     pub fn new(alloc: Global, count: usize) -> Result<KeptResults, AllocError>
@@ -55,7 +60,11 @@ impl KeptResults {
         'places: for _place in 0..count.max(1) {
             places.push(None)?;
         }
-        Ok(KeptResults { places, latest: 0 })
+        Ok(KeptResults {
+            places,
+            latest: 0,
+            bytes: 0,
+        })
     }
 
     /// The total of the result for the values that the parameters have in the rows around, if it is kept; it is the latest then.
@@ -105,25 +114,60 @@ impl KeptResults {
     }
 
     /// Keeps a result in place of another; it is the latest.
-    pub fn keep<A: OuterRows>(
-        &mut self,
-        alloc: Global,
-        parameters: &[OuterColumn],
-        around: &A,
-        told: Told,
-        total: u64,
-    ) -> Result<(), AllocError>
-        ensures latest { OnOk result (latest_in self.new
-            ≡ Some (kept_of (A.combinations around.now) parameters.now told total)) }
-        ensures kept { OnOk result (Replaces (places_in self.old) (places_in self.new)
-            (kept_of (A.combinations around.now) parameters.now told total)) }
-        ensures unchanged { OnErr result (self.new ≡ self.old) }
+    pub fn keep(&mut self, key: Vec<OwnedValue>, told: Told, total: u64)
+        ensures latest { latest_in self.new ≡ Some (kept_with key.items told total) }
+        ensures kept { Replaces (places_in self.old) (places_in self.new) (kept_with key.items told total) }
     {
-        let key = key_in(alloc, parameters, around)?;
-        let place = place_of(parameters, around, self.places.len());
-        self.places[place] = Some(KeptResult { key, told, total });
+        let place = place_of_key(&key, self.places.len());
+        let bytes = bytes_of_values(&key).saturating_add(told.bytes());
+        self.bytes = self
+            .bytes
+            .saturating_sub(self.bytes_at(place))
+            .saturating_add(bytes);
+        self.places[place] = Some(KeptResult {
+            key,
+            told,
+            total,
+            bytes,
+        });
         self.latest = place;
-        Ok(())
+    }
+
+    /// About how many bytes they take together.
+    pub(crate) fn bytes(&self) -> u64 {
+        self.bytes
+    }
+
+    /// About how many bytes the result in a place takes.
+    fn bytes_at(&self, place: usize) -> u64
+        requires { place < length self.now.places.items }
+    {
+        match &self.places[place] {
+            Some(kept) => kept.bytes,
+            None => 0,
+        }
+    }
+
+    /// Gives up all results but the latest.
+    pub(crate) fn forget(&mut self)
+        ensures { LeavesOut self.old self.new }
+    {
+        self.bytes = self.bytes_at(self.latest);
+        'places: for place in 0..self.places.len() {
+            self.clear(place);
+        }
+    }
+
+    /// Gives up the result in a place, unless it is the latest.
+    fn clear(&mut self, place: usize)
+        requires { place < length self.old.places.items }
+        ensures left { LeavesOut self.old self.new }
+        ensures latest { self.new.latest ≡ self.old.latest }
+        ensures count { length self.new.places.items ≡ length self.old.places.items }
+    {
+        if place != self.latest {
+            let _given_up = self.places[place].take();
+        }
     }
 
     /// What was told last: no rows, where nothing was.
@@ -136,21 +180,27 @@ impl KeptResults {
         }
     }
 
-    /// Whether a value equals one of the first values that were told last (ISO/IEC 9075:1992, 8.4); none where nothing was told, or an
-    /// exception.
-    pub fn is_among(&self, value: &Value) -> Option<Tri>
-        ensures truth { IfSome result (λ truth. MayAnswer (on_one (compared_with_any Equals (value_of value.now))
+    /// A value compared with all or any of the first values that were told last (ISO/IEC 9075:1992, 8.7); none where nothing was told,
+    /// or an exception.
+    pub fn quantified_comparison(
+        &self,
+        op: ComparisonOperator,
+        quantifier: Quantifier,
+        value: &Value,
+    ) -> Option<Tri>
+        ensures truth { IfSome result (λ truth. MayAnswer
+            (on_one (quantified (quantifier_of quantifier) (op_of op) (value_of value.now))
             (on_one column_values (meaning_told (told_last self.now)))) (Ok (truth_of truth))) }
         ensures given { IfSome (latest_in self.now) (λ kept. is_some result ≡ is_ok kept.told) }
     {
         match &self.places[self.latest] {
-            Some(kept) => kept.told.is_among(value),
+            Some(kept) => kept.told.quantified_comparison(op, quantifier, value),
             None => None,
         }
     }
 }
 
-/// Where a key is kept, of so many places: by its hash (own).
+/// Where a result is kept, of so many places, by the hash of the values that the parameters have in the rows around (own).
 fn place_of<A: OuterRows>(parameters: &[OuterColumn], around: &A, count: usize) -> usize
     requires { 0 < count }
     ensures { result < count }
@@ -160,6 +210,25 @@ fn place_of<A: OuterRows>(parameters: &[OuterColumn], around: &A, count: usize) 
         let value = around.cell(outer.between, outer.column);
         hash = hashed(hash, &value);
     }
+    place_in(hash, count)
+}
+
+/// The same of values that are kept.
+fn place_of_key(key: &[OwnedValue], count: usize) -> usize
+    requires { 0 < count }
+    ensures { result < count }
+{
+    let mut hash = 0;
+    for own in key {
+        hash = hashed(hash, &own.value());
+    }
+    place_in(hash, count)
+}
+
+fn place_in(hash: u64, count: usize) -> usize
+    requires { 0 < count }
+    ensures { result < count }
+{
     (hash >> 32) as usize % count
 }
 
@@ -243,7 +312,7 @@ fn is_text(text: &str, value: &Value) -> bool
 }
 
 /// The values that the parameters have in the rows around, kept.
-fn key_in<A: OuterRows>(
+pub(crate) fn key_in<A: OuterRows>(
     alloc: Global,
     parameters: &[OuterColumn],
     around: &A,

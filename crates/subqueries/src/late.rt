@@ -2,8 +2,8 @@
 
 use crate::kept_results::KeptResults;
 use expr::Environment;
-use query_tree::BlockColumn;
-use sqlvalue::{OwnedValue, Raise, Tri, Value};
+use query_tree::{BlockColumn, Quantifier};
+use sqlvalue::{ComparisonOperator, OwnedValue, Raise, Tri, Value};
 
 /// An environment, with what was told last of each inner block, by its number, in place of its rows (own).
 #[derive(Drop)]
@@ -37,9 +37,15 @@ impl<'a, S: Environment> Environment for Late<'a, S> {
         }
     }
 
-    fn is_among(&self, block: usize, value: &Value) -> Option<Tri> {
+    fn quantified_comparison(
+        &self,
+        op: ComparisonOperator,
+        quantifier: Quantifier,
+        value: &Value,
+        block: usize,
+    ) -> Option<Tri> {
         match self.results.get(block) {
-            Some(results) => results.is_among(value),
+            Some(results) => results.quantified_comparison(op, quantifier, value),
             None => None,
         }
     }

@@ -27,15 +27,16 @@ use Rattle.definitions_answers.specs.Parameters.{outer_values, parameters}
 use Rattle.definitions_answers.proofs.Kept.{kept_is_right}
 use Rattle.subqueries.specs.BlockText.{Rising}
 use Rattle.subqueries.specs.Framed.{combination_in, combinations_in}
-use Rattle.subqueries.specs.Keeping.{kept_of, latest_key, places_in, told_by, told_of_option, Replaces}
+use Rattle.subqueries.specs.Keeping.{kept_with, latest_key, places_in, told_by, told_of_option, Replaces}
 use Rattle.subqueries.specs.OuterColumns.{outer_columns_of}
 use Rattle.subqueries.specs.Telling.{told_in}
 use Rattle.subqueries.specs.declared.kept_results.KeptResults.{KeptResults}
-use Rattle.subqueries.proofs.KeptPlaces.{latest_is_told, latest_is_total}
+use Rattle.sqlvalue.specs.Owned.{owned_value}
+use Rattle.subqueries.proofs.KeptPlaces.{latest_is_told, latest_is_total, left_out_told}
 use Rattle.scans.specs.Sources.{block_in, context_in, stored_in}
 use Rattle.executor.specs.ReadyBlocks.{blocks_in, database_in, meanings_in, plans_in, totals_in, subqueries_at, subqueries_of, total_at, IsReady, IsToldLast}
 use Rattle.executor.specs.declared.ready_block.ReadyBlock.{ReadyBlock}
-use Rattle.executor.proofs.InnerBlocks.{at_index, index_is, kept_same, left_below, left_less, left_twice, one_later, right_same, right_with, rising_before, stays_all, sum_later, sum_stops, told_here}
+use Rattle.executor.proofs.InnerBlocks.{at_index, index_is, kept_same, left_below, left_less, left_out_left, left_out_right, left_twice, one_later, right_same, right_with, rising_before, stays_all, sum_later, sum_stops, told_here}
 use Rattle.definitions.specs.Estimates.BlockSpace.{space_of}
 use Rattle.definitions.specs.Plans.Space.{Space}
 use Rattle.definitions.specs.Queries.Answer.{block_answer}
@@ -113,12 +114,14 @@ ask_block-returns-clause-told g t c =
     let query = c.args.query.now in
     let outer = combinations_in c.args.frames.now in
     let number = c.args.number in
-    let results = c.evaluate_block.new.results in
-    let right = c.in_ok-told.ensures.right in
+    let results = c.key_of.new.results in
+    let right = left_out_right query c.evaluate_block.new.results results c.in_ok-key.ensures.results c.in_ok-told.ensures.right in
     let own : KeptResults = c.index-results-number-2.result in
     let within : number < length results = subst (λ n. number < n) (sym right.count) c.requires.number in
     let at_place : slice_get results number ≡ Some own = slice_get-get_or results number own within ∙ ap Some (sym c.index-results-number-2.is) in
-    subst (TellsRows (meanings (database_in query) 0 (blocks_in query) number outer)) (sym (told_here query results number own c.keep.new.self at_place right ∙ ap told_of_option c.in_ok-keep.ensures.latest)) c.in_ok-told.ensures.told
+    subst (TellsRows (meanings (database_in query) 0 (blocks_in query) number outer))
+    (sym (left_out_told (slice_set results number c.keep.new.self) c.bound_memory.new.results number c.bound_memory.ensures ∙ told_here query results number own c.keep.new.self at_place right ∙ ap told_of_option c.keep.ensures.latest))
+    c.in_ok-told.ensures.told
 
 pub ask_block-returns-clause-right : goal.ask_block-returns-clause-right
 ask_block-returns-clause-right g t c =
@@ -128,20 +131,22 @@ ask_block-returns-clause-right g t c =
     let r : ReadyBlock = c.index-query-number.result in
     let at_block : slice_get query number ≡ Some r = slice_get-get_or query number r c.requires.number ∙ ap Some (sym c.index-query-number.is) in
     let ready : IsReady query number r = c.requires.query number r at_block in
-    let results = c.evaluate_block.new.results in
-    let right = c.in_ok-told.ensures.right in
+    let results = c.key_of.new.results in
+    let right = left_out_right query c.evaluate_block.new.results results c.in_ok-key.ensures.results c.in_ok-told.ensures.right in
     let own : KeptResults = c.index-results-number-2.result in
     let within : number < length results = subst (λ n. number < n) (sym right.count) c.requires.number in
     let at_place : slice_get results number ≡ Some own = slice_get-get_or results number own within ∙ ap Some (sym c.index-results-number-2.is) in
     let params : outer_columns_of c.deref-2.result.now ≡ parameters (blocks_in query) number = ap outer_columns_of (c.deref-2.ensures.value ∙ ap (λ (x : ReadyBlock). x.parameters.items) (sym c.index-query-number.is)) ∙ ready.parameters in
-    let told = told_in c.in_ok-told.told in
+    let told = c.in_ok-told.told in
+    let total = c.in_ok-told.total in
+    let key : map owned_value c.in_ok-key.key.items ≡ outer_values outer (parameters (blocks_in query) number) = c.in_ok-key.ensures.key ∙ ap₂ outer_values c.in_ok-told.ensures.frames params in
+    let kept = kept_with c.in_ok-key.key.items told total in
     let Right : _ = IsRight current_version (database_in query) (blocks_in query) (plans_in query) number in
-    let kept : Right (kept_of outer c.deref-2.result.now c.in_ok-told.told c.in_ok-told.total) =
-    subst (λ ps. Right (record { key = outer_values outer ps; told = told; total = c.in_ok-told.total })) (sym params)
-    (kept_is_right current_version (database_in query) (blocks_in query) (plans_in query) number outer told c.in_ok-told.total c.in_ok-told.ensures.told c.in_ok-told.ensures.total) in
-    right_with query results number own c.keep.new.self at_place right (kept_of (combinations_in c.evaluate_block.new.frames) c.deref-2.result.now c.in_ok-told.told c.in_ok-told.total)
-    (subst (λ (p : KeptResults). Replaces (places_in p) (places_in c.keep.new.self) (kept_of (combinations_in c.evaluate_block.new.frames) c.deref-2.result.now c.in_ok-told.told c.in_ok-told.total)) (sym c.index-results-number-2.is) c.in_ok-keep.ensures.kept)
-    (subst (λ o. Right (kept_of o c.deref-2.result.now c.in_ok-told.told c.in_ok-told.total)) (sym c.in_ok-told.ensures.frames) kept)
+    let is_right : Right kept =
+    subst (λ vs. Right (record { key = vs; told = told_in told; total = total })) (sym key)
+    (kept_is_right current_version (database_in query) (blocks_in query) (plans_in query) number outer (told_in told) total c.in_ok-told.ensures.told c.in_ok-told.ensures.total) in
+    left_out_right query (slice_set results number c.keep.new.self) c.bound_memory.new.results c.bound_memory.ensures
+    (right_with query results number own c.keep.new.self at_place right kept (subst (λ (p : KeptResults). Replaces (places_in p) (places_in c.keep.new.self) kept) (sym c.index-results-number-2.is) c.keep.ensures.kept) is_right)
 
 pub ask_block-returns-clause-left : goal.ask_block-returns-clause-left
 ask_block-returns-clause-left g t c =
@@ -151,14 +156,18 @@ ask_block-returns-clause-left g t c =
     let within' : number < length c.args.results.now = subst (λ n. number < n) (sym c.requires.right.count) c.requires.number in
     let at_first : slice_get c.args.results.now number ≡ Some first = slice_get-get_or c.args.results.now number first within' ∙ ap Some (sym c.index-results-number.is) in
     let found = slice_set c.args.results.now number c.find.new.self in
-    let results = c.evaluate_block.new.results in
-    let right = c.in_ok-told.ensures.right in
+    let evaluated = c.evaluate_block.new.results in
+    let results = c.key_of.new.results in
+    let right = left_out_right query evaluated results c.in_ok-key.ensures.results c.in_ok-told.ensures.right in
     let own : KeptResults = c.index-results-number-2.result in
     let within : number < length results = subst (λ n. number < n) (sym right.count) c.requires.number in
     let at_place : slice_get results number ≡ Some own = slice_get-get_or results number own within ∙ ap Some (sym c.index-results-number-2.is) in
-    left_twice query number c.args.results.now found (slice_set results number c.keep.new.self) (left_below query c.args.results.now number first c.find.new.self at_first c.requires.right)
-    (left_twice query number found results (slice_set results number c.keep.new.self) (left_less query (number + 1) number found results (omega arith) c.in_ok-told.ensures.left)
-    (left_below query results number own c.keep.new.self at_place right))
+    let kept = slice_set results number c.keep.new.self in
+    let bounded = c.bound_memory.new.results in
+    left_twice query number c.args.results.now found bounded (left_below query c.args.results.now number first c.find.new.self at_first c.requires.right)
+    (left_twice query number found evaluated bounded (left_less query (number + 1) number found evaluated (omega arith) c.in_ok-told.ensures.left)
+    (left_twice query number evaluated results bounded (left_out_left query number evaluated results c.in_ok-key.ensures.results)
+    (left_twice query number results kept bounded (left_below query results number own c.keep.new.self at_place right) (left_out_left query number kept bounded c.bound_memory.ensures))))
 
 -- ---- all subqueries of a block
 

@@ -12,7 +12,7 @@ use Rattle.definitions.specs.Queries.Laws.{FitsTypes}
 use Rattle.definitions.specs.Queries.Telling.{MayAnswer}
 use Rattle.query_tree.specs.Bound.{condition_of, conditions, member_of, value_of as tree_of}
 use Rattle.query_tree.specs.declared.condition.Condition.{the_lemmas}
-use Rattle.query_tree.proofs.Views.{of_compare, of_is_null, of_between, of_like, of_in_list, of_in_query, of_and, of_or}
+use Rattle.query_tree.proofs.Views.{of_compare, of_quantified, of_is_null, of_between, of_like, of_in_list, of_in_query, of_and, of_or}
 use Rattle.expr.specs.Answers.{IsTyped, truth_answer_of}
 use Rattle.expr.proofs.Telling.{fused}
 use Rattle.expr.proofs.Parts.{Joined, AreFit, and_is, or_is, join, joined_next, joined_all, fit_part, part_next}
@@ -30,6 +30,12 @@ returns-in-None g t c =
     let env = g.S.Environment.environment c.args.env.now in
     let tree = ap condition_of c.in-Compare.is ∙ of_compare c.in-Compare.op c.in-Compare.left c.in-Compare.right in
     rw tree (c.comparison.ensures (value env (tree_of c.in-Compare.left)) (value env (tree_of c.in-Compare.right)) c.value.ensures c.value-in-None.ensures)
+
+pub returns-in-Quantified : goal.returns-in-Quantified
+returns-in-Quantified g t c =
+    let b = c.in-Quantified in
+    let tree = ap condition_of b.is ∙ of_quantified b.op b.quantifier b.operand b.block in
+    rw tree (c.compared_with_rows.ensures (value (g.S.Environment.environment c.args.env.now) (tree_of b.operand)) c.value-in-Quantified.ensures)
 
 pub returns-in-IsNull : goal.returns-in-IsNull
 returns-in-IsNull g t c =
@@ -72,7 +78,7 @@ returns-in-InQuery g t c =
     let tree = ap condition_of b.is ∙ of_in_query b.negated b.operand b.block in
     let m = value env (tree_of b.operand) in
     let n = on_one column_values (env.inner b.block) in
-    rw tree (c.unless-in-InQuery.ensures (on_two (compared_with_any Equals) m n) (c.is_in_query.ensures m c.value-in-InQuery.ensures))
+    rw tree (c.unless-in-InQuery.ensures (on_two (compared_with_any Equals) m n) (c.compared_with_rows-in-InQuery.ensures m c.value-in-InQuery.ensures))
 
 -- ---- AND
 

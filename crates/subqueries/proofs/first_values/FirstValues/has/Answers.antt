@@ -1,26 +1,35 @@
-use Rattle.std.proofs.Common.{◌≡◌, sym, subst, Some, arith}
-use Rattle.std.specs.declared.cmp.Ordering.TheVariants.{Equal}
-use Rattle.definitions.specs.Value.{compare}
-use Rattle.sqlvalue.specs.Meaning.{value_of}
-use Rattle.sqlvalue.specs.Owned.{owned_value}
-use Rattle.sqlvalue.specs.declared.owned_value.OwnedValue.{OwnedValue}
-use Rattle.subqueries.proofs.OrderedValues.{found, stands_at}
+use Rattle.std.proofs.Common.{◌≡◌, true}
+use Rattle.std.specs.declared.cmp.Ordering.TheVariants.{Less, Equal, Greater}
+use Rattle.definitions.specs.Truth.{compared_with_any, True}
+use Rattle.sqlvalue.specs.Meaning.{op_of, value_of}
+use Rattle.subqueries.specs.Comparing.{HasAgreeing}
+use Rattle.subqueries.specs.FirstValues.{values_in}
+use Rattle.subqueries.proofs.OrderedValues.{agreeing_is_true, last_agrees}
 use Rattle.subqueries.proofs.first_values.FirstValues.has.Goals as goal
+use Rattle.subqueries.proofs.first_values.FirstValues.has.Goals.{then-has_agreeing, else-has_agreeing}
 
-pub returns-in-Some : goal.returns-in-Some
-returns-in-Some c =
+pub returns-then-has_agreeing-2 : goal.returns-then-has_agreeing-2
+returns-then-has_agreeing-2 c =
     let v = value_of c.args.value.now in
-    let xs = c.args.self.now.values.items in
-    let place = c.count_before.result in
-    let own = c.in-Some.own.now in
-    let lookup = rw c.deref.ensures.value at c.in-Some.ensures.lookup in (
-      λ yes. found v owned_value xs place own lookup.3.0 (subst (λ (x : OwnedValue). compare v (owned_value x) ≡ Some Equal) (lookup.3.1 own) (c.is_equal.ensures.0 yes)),
-      λ there. c.is_equal.ensures.1 (subst (λ (x : OwnedValue). compare v (owned_value x) ≡ Some Equal) (sym (lookup.3.1 own)) ((stands_at v owned_value xs c.args.self.now.sorted place c.count_before.ensures there).1 own)),
-    )
+    let op = op_of c.args.op in
+    let ws = values_in c.args.self.now in
+    let there : compared_with_any op v ws ≡ True = elim c.if-has_agreeing.branch [
+      | then-has_agreeing w ↦ agreeing_is_true v op Equal ws (c.has_agreeing.ensures.0 w.if-has_agreeing.true)
+      | else-has_agreeing w ↦
+          let yes : w.has_agreeing-else-has_agreeing.result ≡ true = cc in
+          agreeing_is_true v op Less ws (w.has_agreeing-else-has_agreeing.ensures.0 yes)
+    ] in
+    (λ yes. there, λ any. c.if-has_agreeing-2.true)
 
-pub returns-in-None : goal.returns-in-None
-returns-in-None c =
+pub returns-else-has_agreeing-2 : goal.returns-else-has_agreeing-2
+returns-else-has_agreeing-2 c =
     let v = value_of c.args.value.now in
-    let xs = c.args.self.now.values.items in
-    let lookup = rw c.deref.ensures.value at c.in-None.ensures.lookup in
-    (λ yes. absurd cc, λ there. absurd (omega (arith, lookup.3, (stands_at v owned_value xs c.args.self.now.sorted c.count_before.result c.count_before.ensures there).0)))
+    let op = op_of c.args.op in
+    let ws = values_in c.args.self.now in
+    let greater = c.has_agreeing-else-has_agreeing-2 in
+    let no_equal : HasAgreeing op Equal v ws → ⊥ = λ h. let yes = c.has_agreeing.ensures.1 h in elim c.if-has_agreeing.branch [ then-has_agreeing w ↦ absurd cc | else-has_agreeing w ↦ absurd cc ] in
+    let no_less : HasAgreeing op Less v ws → ⊥ = λ h. elim c.if-has_agreeing.branch [
+      | then-has_agreeing w ↦ absurd cc
+      | else-has_agreeing w ↦ let yes = w.has_agreeing-else-has_agreeing.ensures.1 h in absurd cc
+    ] in
+    (λ yes. agreeing_is_true v op Greater ws (greater.ensures.0 yes), λ any. greater.ensures.1 (last_agrees v op ws no_equal no_less any))
