@@ -72,6 +72,7 @@ pub(crate) fn block<'d, 'q: 'd>(
 }
 
 /// Puts a block in the place of the one of a number.
+#[inline(never)]
 fn put(blocks: &mut Vec<Block>, number: usize, block: Block)
     requires { number < length blocks.old.items }
     ensures { map block_of blocks.new.items ≡ slice_set (map block_of blocks.old.items) number (block_of block) }
@@ -80,6 +81,7 @@ fn put(blocks: &mut Vec<Block>, number: usize, block: Block)
 }
 
 /// A block whose parts are not bound yet: blocks inside it are numbered behind it.
+#[inline(never)]
 fn empty(alloc: Global) -> Block {
     Block {
         tables: Vec::new(alloc),
@@ -106,6 +108,7 @@ struct Clauses {
 
 /// The clauses of a block, of which result columns and HAVING stand in a clause that is given.
 #[cycle(binding)]
+#[inline(never)]
 fn bound_clauses<'d, 'q: 'd>(
     alloc: Global,
     database: &'d Database,
@@ -150,6 +153,7 @@ fn bound_clauses<'d, 'q: 'd>(
 
 /// The condition of WHERE or HAVING, if there is one.
 #[cycle(binding)]
+#[inline(never)]
 fn optional_condition<'d, 'q: 'd>(
     clause: &Clause<'_, '_, 'd>,
     blocks: &mut Vec<Block>,

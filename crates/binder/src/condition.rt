@@ -59,6 +59,7 @@ pub(crate) fn condition<'d, 'q: 'd>(
 
 /// NOT (8.12).
 #[cycle(binding)]
+#[inline(never)]
 fn negation<'d, 'q: 'd>(
     clause: &Clause<'_, '_, 'd>,
     blocks: &mut Vec<Block>,
@@ -76,6 +77,7 @@ fn negation<'d, 'q: 'd>(
 
 /// Two values that are compared (8.2).
 #[cycle(binding)]
+#[inline(never)]
 fn comparison<'d, 'q: 'd>(
     clause: &Clause<'_, '_, 'd>,
     blocks: &mut Vec<Block>,
@@ -109,6 +111,7 @@ fn comparison<'d, 'q: 'd>(
 
 /// A value that is compared with all rows of a subquery, or with any (8.7).
 #[cycle(binding)]
+#[inline(never)]
 fn quantified_comparison<'d, 'q: 'd>(
     clause: &Clause<'_, '_, 'd>,
     blocks: &mut Vec<Block>,
@@ -144,6 +147,7 @@ fn quantified_comparison<'d, 'q: 'd>(
 
 /// IS NULL (8.6).
 #[cycle(binding)]
+#[inline(never)]
 fn null_test<'d, 'q: 'd>(
     clause: &Clause<'_, '_, 'd>,
     blocks: &mut Vec<Block>,
@@ -165,6 +169,7 @@ fn null_test<'d, 'q: 'd>(
 
 /// BETWEEN (8.3).
 #[cycle(binding)]
+#[inline(never)]
 fn between<'d, 'q: 'd>(
     clause: &Clause<'_, '_, 'd>,
     blocks: &mut Vec<Block>,
@@ -202,6 +207,7 @@ fn between<'d, 'q: 'd>(
 
 /// LIKE, of a text (8.5).
 #[cycle(binding)]
+#[inline(never)]
 fn like<'d, 'q: 'd>(
     clause: &Clause<'_, '_, 'd>,
     blocks: &mut Vec<Block>,
@@ -229,6 +235,7 @@ fn like<'d, 'q: 'd>(
 
 /// IN with a list (8.4).
 #[cycle(binding)]
+#[inline(never)]
 fn in_list<'d, 'q: 'd>(
     clause: &Clause<'_, '_, 'd>,
     blocks: &mut Vec<Block>,
@@ -264,6 +271,7 @@ fn in_list<'d, 'q: 'd>(
 
 /// IN with a subquery (8.4).
 #[cycle(binding)]
+#[inline(never)]
 fn in_query<'d, 'q: 'd>(
     clause: &Clause<'_, '_, 'd>,
     blocks: &mut Vec<Block>,
@@ -297,6 +305,7 @@ fn in_query<'d, 'q: 'd>(
 
 /// EXISTS (8.8).
 #[cycle(binding)]
+#[inline(never)]
 fn exists<'d, 'q: 'd>(
     clause: &Clause<'_, '_, 'd>,
     blocks: &mut Vec<Block>,
@@ -314,6 +323,7 @@ fn exists<'d, 'q: 'd>(
 
 /// The operands of one AND or OR (ISO/IEC 9075:1992, 8.12).
 #[cycle(binding)]
+#[inline(never)]
 fn logical<'d, 'q: 'd>(
     clause: &Clause<'_, '_, 'd>,
     blocks: &mut Vec<Block>,
@@ -342,6 +352,7 @@ fn logical<'d, 'q: 'd>(
 
 /// The members of an IN list, which are of the kind of a type (ISO/IEC 9075:1992, 8.4).
 #[cycle(binding)]
+#[inline(never)]
 fn bound_members<'d, 'q: 'd>(
     clause: &Clause<'_, '_, 'd>,
     blocks: &mut Vec<Block>,
@@ -393,6 +404,7 @@ pub(crate) fn column_of_query<'d, 'q: 'd>(
 
 /// A subquery: its block's number, and the type of its column if it has one alone.
 #[cycle(binding)]
+#[inline(never)]
 fn inner_block<'d, 'q: 'd>(
     clause: &Clause<'_, '_, 'd>,
     blocks: &mut Vec<Block>,

@@ -27,6 +27,7 @@ pub(crate) struct ResultColumns {
 
 /// The result columns that a select list says (ISO/IEC 9075:1992, 7.9).
 #[cycle(binding)]
+#[inline(never)]
 pub(crate) fn result_columns<'d, 'q: 'd>(
     clause: &Clause<'_, '_, 'd>,
     blocks: &mut Vec<Block>,
@@ -61,6 +62,7 @@ pub(crate) fn result_columns<'d, 'q: 'd>(
 }
 
 /// The columns of all tables, in the order of FROM (ISO/IEC 9075:1992, 7.9, syntax rule 4).
+#[inline(never)]
 fn all_columns(alloc: Global, scopes: &Scopes) -> Result<ResultColumns, AllocError>
     ensures are { IfOk result (λ r. (db : Tables) → map item_of r.items.items ≡ star_items db scopes.now) }
     ensures only { IfOk result (λ r. option_map value_type_of r.only
@@ -86,6 +88,7 @@ fn all_columns(alloc: Global, scopes: &Scopes) -> Result<ResultColumns, AllocErr
 }
 
 /// The name of the result column of a number in the header: its AS name, that of a plain column, or one by the number.
+#[inline(never)]
 fn header_name(alloc: Global, item: &parse_tree::Item, number: usize) -> Result<String, AllocError>
     ensures { IfOk result (λ name. string_bytes name ≡ header_name number
         (result_name (listed_item_of item.now).value (listed_item_of item.now).alias)) }

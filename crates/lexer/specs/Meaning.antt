@@ -127,4 +127,4 @@ fault_of (f.StrayCharacter offset place) = Some (record { refusal = refusal.Stra
 fault_of (f.OpenString offset) = Some (record { refusal = refusal.OpenString; at = offset })
 fault_of (f.LongLiteral offset literal) = Some (record { refusal = refusal.LongLiteral; at = offset })
 fault_of (f.LongName offset characters) = Some (record { refusal = refusal.LongName; at = offset })
-fault_of f.Memory = None
+fault_of (f.Memory offset) = None

@@ -2,7 +2,7 @@
 
 use thiserror::Error;
 
-/// Why a script has no tokens: its leftmost lexical fault, and the byte that it stands at.
+/// Why a script has no tokens: its leftmost lexical fault, and the byte that it stands at, or want of memory.
 #[derive(Clone, Copy, Debug, PartialEq, Eq, Error)]
 pub enum LexFault {
     #[error("a character that begins no token, at byte {offset}")]
@@ -13,8 +13,9 @@ pub enum LexFault {
     LongLiteral { offset: usize, literal: LongLiteral },
     #[error("an identifier of {characters} characters, at byte {offset}")]
     LongName { offset: usize, characters: usize },
-    #[error("out of memory")]
-    Memory,
+    /// Memory was wanting for the token that begins at a byte.
+    #[error("out of memory at byte {offset}")]
+    Memory { offset: usize },
 }
 
 /// Where a character stands that begins no token.

@@ -26,7 +26,7 @@ pub fn lex(alloc: Global, script: &str) -> Result<Vec<Token<'_>>, LexFault>
             let text = &script[start..end];
             tokens
                 .push(Token { kind, text, start })
-                .map_err(|_| LexFault::Memory)?;
+                .map_err(|_| LexFault::Memory { offset: start })?;
         }
         start = end;
     }

@@ -33,6 +33,7 @@ pub fn is_grouped(query: &Block) -> bool
 }
 
 /// The columns of GROUP BY, which are the block's own (ISO/IEC 9075:1992, 7.7, syntax rule 1).
+#[inline(never)]
 pub fn group_columns<'q>(
     alloc: Global,
     scopes: &Scopes,

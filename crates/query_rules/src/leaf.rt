@@ -36,6 +36,7 @@ pub struct Typed {
 }
 
 /// A column in sight (ISO/IEC 9075:1992, 6.4).
+#[inline(never)]
 pub fn column<'q>(clause: &Clause, reference: &'q ColumnReference) -> Result<Typed, BindFault<'q>>
     requires { InSight clause.now.database.now clause.now.scopes.now }
     ensures ok { IfOk result (λ t. BindsLeaf clause.now.database.now clause.now.scopes.now (place_of clause.now.place)

@@ -20,6 +20,7 @@ pub const MAX_GROUP_COLUMNS: usize = 16;
 pub const MAX_CONJUNCTS: usize = 64;
 
 /// That a block keeps the limits, and that no asterisk stands in a grouped one.
+#[inline(never)]
 pub fn judge_limits<'a>(query: &'a Block, grouped: bool) -> Result<(), QueryFault<'a>>
     requires grouped { grouped ≡ true → IsGrouped (query_of query.now) }
     ensures ok { OnOk result (IsWithinLimits grouped (query_of query.now)) }

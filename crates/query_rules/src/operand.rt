@@ -37,6 +37,7 @@ pub fn number_scale<'a>(value_type: ValueType, expr: &'a Expr) -> Result<u8, Que
 }
 
 /// That two values are of one kind (ISO/IEC 9075:1992, 8.2, syntax rule 2).
+#[inline(never)]
 pub fn judge_kinds<'a>(
     left: ValueType,
     right: ValueType,

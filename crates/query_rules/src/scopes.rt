@@ -49,6 +49,7 @@ impl<'a> Scopes<'a> {
 
     /// Those of a block inside: the tables of its FROM, and then these; or a fault that FROM has (ISO/IEC 9075:1992, 6.3;
     /// the limit is own). Of several faults any one may be told.
+    #[inline(never)]
     pub fn inside<'q: 'a>(
         &self,
         alloc: Global,
@@ -119,6 +120,7 @@ impl<'a> Scopes<'a> {
     }
 
     /// The columns of the block's own tables, in the order of FROM (ISO/IEC 9075:1992, 7.9, syntax rule 4).
+    #[inline(never)]
     pub fn own_columns(&self, alloc: Global) -> Result<Vec<Found<'a>>, AllocError>
         ensures { IfOk result (λ columns. map found_of columns.items ≡ all_columns (own_scope self.now)) }
     {
@@ -133,6 +135,7 @@ impl<'a> Scopes<'a> {
     }
 
     /// The numbers of the block's own tables in the database.
+    #[inline(never)]
     pub fn own_tables(&self, alloc: Global) -> Result<Vec<usize>, AllocError>
         ensures { IfOk result (λ numbers. numbers.items
             ≡ map (λ (t : spec.NamedTable). t.number) (own_scope self.now)) }

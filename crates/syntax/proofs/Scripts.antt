@@ -65,11 +65,11 @@ moved tokens end at at' x e h = rw e h
 pub script_fails : (ts : List Token) (end : ℕ) (stop : ParseStop) (fault : SyntaxFault) → Stops ScriptIn (kinds_of ts) most_levels most_levels 0 stop → TellsStop ts end stop fault → IsSyntaxFault (tokens_of ts) end fault
 script_fails ts end (s.Token n) (f.Unexpected u) (r.at_token n' l nw) e = moved _ _ _ _ _ e (unexpected ts end n (slice_get ts n) refl nw)
 script_fails ts end (s.Deep n) (f.TooDeep offset) (r.too_deep n' k l y c nw) e = moved _ _ _ _ _ e (too_deep ts end n (slice_get ts n) k refl y c nw)
-script_fails ts end s.Memory f.Memory r.for_memory e = tt
+script_fails ts end s.Memory (f.Memory offset) r.for_memory e = tt
 script_fails ts end (s.Token n) (f.TooDeep offset) h e = absurd e
-script_fails ts end (s.Token n) f.Memory h e = absurd e
+script_fails ts end (s.Token n) (f.Memory offset) h e = absurd e
 script_fails ts end (s.Deep n) (f.Unexpected u) h e = absurd e
-script_fails ts end (s.Deep n) f.Memory h e = absurd e
+script_fails ts end (s.Deep n) (f.Memory offset) h e = absurd e
 script_fails ts end s.Memory (f.Unexpected u) h e = absurd e
 script_fails ts end s.Memory (f.TooDeep offset) h e = absurd e
 

@@ -47,11 +47,11 @@ start_or end None = end
 abbrev pub TellsStop : List Token → (end : ℕ) → ParseStop → SyntaxFault → Type 0
 TellsStop tokens end (s.Token n) (f.Unexpected u) = u.offset ≡ start_or end (slice_get tokens n)
 TellsStop tokens end (s.Deep n) (f.TooDeep offset) = offset ≡ start_or end (slice_get tokens n)
-TellsStop tokens end s.Memory f.Memory = ⊤
+TellsStop tokens end s.Memory (f.Memory offset) = ⊤
 TellsStop tokens end _ _ = ⊥
 
 -- what a fault tells of a text
 abbrev pub IsSyntaxFault : List token.Token → (size : ℕ) → SyntaxFault → Type 0
 IsSyntaxFault tokens size (f.Unexpected u) = SyntaxFails tokens size refusal.Unexpected u.offset
 IsSyntaxFault tokens size (f.TooDeep offset) = SyntaxFails tokens size refusal.TooDeep offset
-IsSyntaxFault tokens size f.Memory = ⊤
+IsSyntaxFault tokens size (f.Memory offset) = ⊤

@@ -62,6 +62,7 @@ fn operand(cursor: &mut Cursor, kind: LineKind, levels: u8) -> Result<Expr, Pars
 
 /// `NOT negation | test` (ISO/IEC 9075:1992, 8.12).
 #[cycle(expressions)]
+#[inline(never)]
 fn negation(cursor: &mut Cursor, levels: u8) -> Result<Expr, ParseStop>
     ensures reads { Parses (λ m. grammar.NegationOf (within m)) levels cursor.old cursor.new (viewed expr_of result) }
     ensures placed { IfOk result (λ expr. Stands cursor.old cursor.new (expr_leaves expr)) }
@@ -83,15 +84,17 @@ fn test(cursor: &mut Cursor, levels: u8) -> Result<Expr, ParseStop>
     ensures placed { IfOk result (λ expr. Stands cursor.old cursor.new (expr_leaves expr)) }
 {
     let value = line(cursor, LineKind::Sum, levels)?;
-    tail(cursor, value, levels)
+    let left = Box::new(cursor.alloc, value)?;
+    tail(cursor, left, levels)
 }
 
 /// What stands behind a value.
 #[cycle(expressions)]
-fn tail(cursor: &mut Cursor, value: Expr, levels: u8) -> Result<Expr, ParseStop>
-    ensures reads { Parses (λ m. grammar.TailOf (within m) (expr_of value)) levels cursor.old cursor.new
+#[inline(never)]
+fn tail(cursor: &mut Cursor, value: Box<Expr>, levels: u8) -> Result<Expr, ParseStop>
+    ensures reads { Parses (λ m. grammar.TailOf (within m) (expr_of value.value)) levels cursor.old cursor.new
         (viewed expr_of result) }
-    ensures placed { IfOk result (λ expr. GoesOn (expr_leaves value) cursor.old cursor.new (expr_leaves expr)) }
+    ensures placed { IfOk result (λ expr. GoesOn (expr_leaves value.value) cursor.old cursor.new (expr_leaves expr)) }
 {
     let start = cursor.start();
     if let Some(op) = cursor.take_comparison() {
@@ -107,26 +110,26 @@ fn tail(cursor: &mut Cursor, value: Expr, levels: u8) -> Result<Expr, ParseStop>
 
 /// What stands behind a comparison operator (ISO/IEC 9075:1992, 8.2 and 8.7).
 #[cycle(expressions)]
+#[inline(never)]
 fn comparison(
     cursor: &mut Cursor,
     start: usize,
     op: ComparisonOperator,
-    value: Expr,
+    value: Box<Expr>,
     levels: u8,
 ) -> Result<Expr, ParseStop>
-    ensures reads { Parses (λ m. grammar.ComparedOf (within m) (op_of op) (expr_of value)) levels cursor.old
+    ensures reads { Parses (λ m. grammar.ComparedOf (within m) (op_of op) (expr_of value.value)) levels cursor.old
         cursor.new (viewed expr_of result) }
-    ensures placed { IfOk result (λ expr. GoesOn (expr_leaves value ++ one (op_leaf (op_of op)) start) cursor.old
+    ensures placed { IfOk result (λ expr. GoesOn (expr_leaves value.value ++ one (op_leaf (op_of op)) start) cursor.old
         cursor.new (expr_leaves expr)) }
 {
-    let left = Box::new(cursor.alloc, value)?;
     let Some(quantifier) = cursor.take_quantifier() else {
         let right = line(cursor, LineKind::Sum, levels)?;
         let right = Box::new(cursor.alloc, right)?;
         return Ok(Expr::Compare {
             start,
             op,
-            left,
+            left: value,
             right,
         });
     };
@@ -137,18 +140,18 @@ fn comparison(
         start,
         op,
         quantifier,
-        left,
+        left: value,
         query,
     })
 }
 
 /// `[ NOT ] NULL` behind IS (ISO/IEC 9075:1992, 8.6).
-fn null_test(cursor: &mut Cursor, start: usize, value: Expr) -> Result<Expr, ParseStop>
-    ensures reads { ParsesFlat (grammar.NullOf (expr_of value)) cursor.old cursor.new (viewed expr_of result) }
-    ensures placed { IfOk result (λ expr. GoesOn (expr_leaves value ++ one (leaf.Reserved words.Is) start) cursor.old
-        cursor.new (expr_leaves expr)) }
+#[inline(never)]
+fn null_test(cursor: &mut Cursor, start: usize, value: Box<Expr>) -> Result<Expr, ParseStop>
+    ensures reads { ParsesFlat (grammar.NullOf (expr_of value.value)) cursor.old cursor.new (viewed expr_of result) }
+    ensures placed { IfOk result (λ expr. GoesOn (expr_leaves value.value ++ one (leaf.Reserved words.Is) start)
+        cursor.old cursor.new (expr_leaves expr)) }
 {
-    let value = Box::new(cursor.alloc, value)?;
     let negated = cursor.eat_word(Word::Not);
     cursor.expect_word(Word::Null)?;
     Ok(Expr::IsNull {
@@ -160,10 +163,16 @@ fn null_test(cursor: &mut Cursor, start: usize, value: Expr) -> Result<Expr, Par
 
 /// `BETWEEN .. | LIKE .. | IN ..`; or, but not behind NOT, nothing.
 #[cycle(expressions)]
-fn predicate(cursor: &mut Cursor, negated: bool, value: Expr, levels: u8) -> Result<Expr, ParseStop>
-    ensures reads { Parses (λ m. grammar.PredicateOf (within m) negated (expr_of value)) levels cursor.old cursor.new
-        (viewed expr_of result) }
-    ensures placed { IfOk result (λ expr. GoesOn (expr_leaves value) cursor.old cursor.new (expr_leaves expr)) }
+#[inline(never)]
+fn predicate(
+    cursor: &mut Cursor,
+    negated: bool,
+    value: Box<Expr>,
+    levels: u8,
+) -> Result<Expr, ParseStop>
+    ensures reads { Parses (λ m. grammar.PredicateOf (within m) negated (expr_of value.value)) levels cursor.old
+        cursor.new (viewed expr_of result) }
+    ensures placed { IfOk result (λ expr. GoesOn (expr_leaves value.value) cursor.old cursor.new (expr_leaves expr)) }
 {
     let start = cursor.start();
     if eat_predicate(cursor, negated, Word::Between) {
@@ -177,7 +186,7 @@ fn predicate(cursor: &mut Cursor, negated: bool, value: Expr, levels: u8) -> Res
     } else if negated {
         Err(cursor.stop())
     } else {
-        Ok(value)
+        Ok(Box::into_inner(value))
     }
 }
 
@@ -195,19 +204,19 @@ fn eat_predicate(cursor: &mut Cursor, negated: bool, word: Word) -> bool
 
 /// `sum AND sum` behind BETWEEN (ISO/IEC 9075:1992, 8.3).
 #[cycle(expressions)]
+#[inline(never)]
 fn between(
     cursor: &mut Cursor,
     start: usize,
     negated: bool,
-    value: Expr,
+    value: Box<Expr>,
     levels: u8,
 ) -> Result<Expr, ParseStop>
-    ensures reads { Parses (λ m. grammar.BetweenOf (within m) negated (expr_of value)) levels cursor.old cursor.new
-        (viewed expr_of result) }
-    ensures placed { IfOk result (λ expr. GoesOn (expr_leaves value ++ one (leaf.Reserved words.Between) start)
+    ensures reads { Parses (λ m. grammar.BetweenOf (within m) negated (expr_of value.value)) levels cursor.old
+        cursor.new (viewed expr_of result) }
+    ensures placed { IfOk result (λ expr. GoesOn (expr_leaves value.value ++ one (leaf.Reserved words.Between) start)
         cursor.old cursor.new (expr_leaves expr)) }
 {
-    let value = Box::new(cursor.alloc, value)?;
     let low = line(cursor, LineKind::Sum, levels)?;
     let low = Box::new(cursor.alloc, low)?;
     cursor.expect_word(Word::And)?;
@@ -223,12 +232,18 @@ fn between(
 }
 
 /// The pattern behind LIKE (ISO/IEC 9075:1992, 8.5).
-fn like(cursor: &mut Cursor, start: usize, negated: bool, value: Expr) -> Result<Expr, ParseStop>
-    ensures reads { ParsesFlat (grammar.LikeOf negated (expr_of value)) cursor.old cursor.new (viewed expr_of result) }
-    ensures placed { IfOk result (λ expr. GoesOn (expr_leaves value ++ one (leaf.Reserved words.Like) start)
+#[inline(never)]
+fn like(
+    cursor: &mut Cursor,
+    start: usize,
+    negated: bool,
+    value: Box<Expr>,
+) -> Result<Expr, ParseStop>
+    ensures reads { ParsesFlat (grammar.LikeOf negated (expr_of value.value)) cursor.old cursor.new
+        (viewed expr_of result) }
+    ensures placed { IfOk result (λ expr. GoesOn (expr_leaves value.value ++ one (leaf.Reserved words.Like) start)
         cursor.old cursor.new (expr_leaves expr)) }
 {
-    let value = Box::new(cursor.alloc, value)?;
     let pattern = cursor.string()?;
     Ok(Expr::Like {
         start,
@@ -240,19 +255,19 @@ fn like(cursor: &mut Cursor, start: usize, negated: bool, value: Expr) -> Result
 
 /// What stands behind `IN (` (ISO/IEC 9075:1992, 8.4).
 #[cycle(expressions)]
+#[inline(never)]
 fn in_list(
     cursor: &mut Cursor,
     start: usize,
     negated: bool,
-    value: Expr,
+    value: Box<Expr>,
     levels: u8,
 ) -> Result<Expr, ParseStop>
-    ensures reads { Parses (λ m. grammar.InListOf (within m) negated (expr_of value)) levels cursor.old cursor.new
+    ensures reads { Parses (λ m. grammar.InListOf (within m) negated (expr_of value.value)) levels cursor.old cursor.new
         (viewed expr_of result) }
-    ensures placed { IfOk result (λ expr. GoesOn (expr_leaves value ++ one (leaf.Reserved words.In) start) cursor.old
-        cursor.new (expr_leaves expr)) }
+    ensures placed { IfOk result (λ expr. GoesOn (expr_leaves value.value ++ one (leaf.Reserved words.In) start)
+        cursor.old cursor.new (expr_leaves expr)) }
 {
-    let value = Box::new(cursor.alloc, value)?;
     if cursor.sees_word(Word::Select) {
         let query = subquery(cursor, levels)?;
         return Ok(Expr::InQuery {
@@ -274,6 +289,7 @@ fn in_list(
 
 /// `member { "," member }`.
 #[cycle(expressions)]
+#[inline(never)]
 fn members(cursor: &mut Cursor, levels: u8) -> Result<Vec<Option<Expr>>, ParseStop>
     ensures reads { Parses (λ m. grammar.ListOf (grammar.MemberOf (within m))) levels cursor.old cursor.new
         (viewed (λ (xs : _). map member_of xs.items) result) }
@@ -294,6 +310,7 @@ fn members(cursor: &mut Cursor, levels: u8) -> Result<Vec<Option<Expr>>, ParseSt
 
 /// `sum | NULL`; NULL is none.
 #[cycle(expressions)]
+#[inline(never)]
 fn member(cursor: &mut Cursor, levels: u8) -> Result<Option<Expr>, ParseStop>
     ensures reads { Parses (λ m. grammar.MemberOf (within m)) levels cursor.old cursor.new (viewed member_of result) }
     ensures placed { IfOk result (λ member. Stands cursor.old cursor.new (if_there expr_leaves member)) }
@@ -369,6 +386,7 @@ fn other_primary(cursor: &mut Cursor, levels: u8) -> Result<Expr, ParseStop>
 
 /// What stands behind a set function and `(` (ISO/IEC 9075:1992, 6.5).
 #[cycle(expressions)]
+#[inline(never)]
 fn argument(
     cursor: &mut Cursor,
     start: usize,
@@ -425,6 +443,7 @@ fn parenthesis(cursor: &mut Cursor, start: usize, levels: u8) -> Result<Expr, Pa
 
 /// A query block, and the parenthesis that closes it (ISO/IEC 9075:1992, 7.11).
 #[cycle(expressions)]
+#[inline(never)]
 fn subquery(cursor: &mut Cursor, levels: u8) -> Result<Box<Block>, ParseStop>
     ensures reads { Parses (λ m. grammar.SubqueryOf (within m)) levels cursor.old cursor.new (viewed (λ (b : _).
         block_of b.value) result) }
@@ -437,6 +456,7 @@ fn subquery(cursor: &mut Cursor, levels: u8) -> Result<Box<Block>, ParseStop>
 }
 
 /// `name [ "." name ]`, where a rule looks for a class of tokens (ISO/IEC 9075:1992, 6.4).
+#[inline(never)]
 pub fn column_reference(
     cursor: &mut Cursor,
     class: TokenClass,

@@ -17,8 +17,9 @@ pub enum SyntaxFault {
     /// More than 64 levels of parentheses, signs and NOTs are open at a byte of the script.
     #[error("more than 64 levels are open at byte {offset}")]
     TooDeep { offset: usize },
-    #[error("out of memory")]
-    Memory,
+    /// Memory was wanting where a byte of the script was read.
+    #[error("out of memory at byte {offset}")]
+    Memory { offset: usize },
 }
 
 /// What stands where no script goes on, and what could have stood there. Offsets are in bytes of
@@ -45,8 +46,14 @@ impl fmt::Debug for Unexpected {
 }
 
 /// The fault that a stop in some tokens is, in a script of `end` bytes, where the rules looked for some
-/// classes of tokens.
-pub fn fault_of(tokens: &[Token], end: usize, stop: ParseStop, wanted: Wanted) -> SyntaxFault
+/// classes of tokens; `here` is where they stopped.
+pub fn fault_of(
+    tokens: &[Token],
+    end: usize,
+    stop: ParseStop,
+    here: usize,
+    wanted: Wanted,
+) -> SyntaxFault
     ensures { TellsStop tokens.now end stop result }
 {
     match stop {
@@ -54,7 +61,7 @@ pub fn fault_of(tokens: &[Token], end: usize, stop: ParseStop, wanted: Wanted) -
         ParseStop::Deep(at) => SyntaxFault::TooDeep {
             offset: offset_at(tokens, end, at),
         },
-        ParseStop::Memory => SyntaxFault::Memory,
+        ParseStop::Memory => SyntaxFault::Memory { offset: here },
     }
 }
 

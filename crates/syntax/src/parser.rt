@@ -30,7 +30,10 @@ pub fn parse(alloc: Global, tokens: &[Token], end: usize) -> Result<Vec<Statemen
     let mut cursor = Cursor::new(alloc, tokens, None);
     match script(alloc, &mut cursor) {
         Ok(statements) => Ok(statements),
-        Err(stop) => Err(fault_of(tokens, end, stop, wanted_at(alloc, tokens, stop))),
+        Err(stop) => {
+            let wanted = wanted_at(alloc, tokens, stop);
+            Err(fault_of(tokens, end, stop, cursor.start(), wanted))
+        }
     }
 }
 

@@ -59,6 +59,7 @@ pub fn distinct(cursor: &mut Cursor) -> bool
 
 /// `"*" | item { "," item }` (ISO/IEC 9075:1992, 7.9).
 #[cycle(expressions)]
+#[inline(never)]
 fn select_list(cursor: &mut Cursor, levels: u8) -> Result<SelectList, ParseStop>
     ensures reads { Parses (λ m. grammar.SelectListOf (within m)) levels cursor.old cursor.new (viewed list_of result) }
     ensures placed { IfOk result (λ list. Stands cursor.old cursor.new (list_leaves list)) }
@@ -72,6 +73,7 @@ fn select_list(cursor: &mut Cursor, levels: u8) -> Result<SelectList, ParseStop>
 }
 
 #[cycle(expressions)]
+#[inline(never)]
 fn items(cursor: &mut Cursor, levels: u8) -> Result<Vec<Item>, ParseStop>
     ensures reads { Parses (λ m. grammar.ListOf (grammar.ItemOf (within m))) levels cursor.old cursor.new
         (viewed (λ (xs : _). map item_of xs.items) result) }
@@ -92,6 +94,7 @@ fn items(cursor: &mut Cursor, levels: u8) -> Result<Vec<Item>, ParseStop>
 
 /// `expr [ AS name ]` (ISO/IEC 9075:1992, 7.9).
 #[cycle(expressions)]
+#[inline(never)]
 fn item(cursor: &mut Cursor, levels: u8) -> Result<Item, ParseStop>
     ensures reads { Parses (λ m. grammar.ItemOf (within m)) levels cursor.old cursor.new (viewed item_of result) }
     ensures placed { IfOk result (λ item. Stands cursor.old cursor.new (item_leaves item)) }
@@ -116,6 +119,7 @@ fn alias(cursor: &mut Cursor) -> Result<Option<Name>, ParseStop>
 
 /// `[ word expr ]`, the word being WHERE or HAVING (ISO/IEC 9075:1992, 7.6 and 7.8).
 #[cycle(expressions)]
+#[inline(never)]
 fn condition_behind(cursor: &mut Cursor, word: Word, levels: u8) -> Result<Option<Expr>, ParseStop>
     ensures reads { Parses (λ m. grammar.ConditionOf (within m) (word_of word)) levels cursor.old cursor.new
         (viewed condition_of result) }
@@ -130,6 +134,7 @@ fn condition_behind(cursor: &mut Cursor, word: Word, levels: u8) -> Result<Optio
 }
 
 /// `[ GROUP BY column { "," column } ]` (ISO/IEC 9075:1992, 7.7).
+#[inline(never)]
 fn groups(cursor: &mut Cursor) -> Result<Vec<ColumnReference>, ParseStop>
     ensures reads { ParsesFlat grammar.GroupsAt cursor.old cursor.new (viewed (λ (xs : _).
         map column_of xs.items) result) }

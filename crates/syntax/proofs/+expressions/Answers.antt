@@ -128,12 +128,15 @@ pub expr::test-returns-in_err-value-clause-reads : goal.expr::test-returns-in_er
 unfolding g.TestOf
 expr::test-returns-in_err-value-clause-reads i c = answers _ _ (search rules) (then_fails c.in_err-value.ensures.reads)
 
+pub expr::test-returns-in_err-left-clause-reads : goal.expr::test-returns-in_err-left-clause-reads
+expr::test-returns-in_err-left-clause-reads i c = answers _ _ (search rules) (no_memory refl)
+
 pub expr::test-returns-clause-reads : goal.expr::test-returns-clause-reads
 unfolding g.TestOf
-expr::test-returns-clause-reads i c = then_on (λ m. sum_alike (within_alike c.args.levels m)) c.in_ok-value.ensures.reads c.tail.ensures.reads
+expr::test-returns-clause-reads i c = then_on (λ m. sum_alike (within_alike c.args.levels m)) c.in_ok-value.ensures.reads (rw c.in_ok-left.ensures.ok at c.tail.ensures.reads)
 
 pub expr::test-returns-clause-placed : goal.expr::test-returns-clause-placed
-expr::test-returns-clause-placed i c = ok_behind _ _ _ c.tail.ensures.placed c.in_ok-value.ensures.placed
+expr::test-returns-clause-placed i c = ok_behind _ _ _ (rw c.in_ok-left.ensures.ok at c.tail.ensures.placed) c.in_ok-value.ensures.placed
 
 pub expr::tail-returns-in-Some-clause-reads : goal.expr::tail-returns-in-Some-clause-reads
 unfolding g.TailOf
@@ -163,9 +166,6 @@ expr::tail-returns-else-eat_word_as-2-clause-reads i c = reads_not_on c.in_defau
 pub expr::tail-returns-else-eat_word_as-2-clause-placed : goal.expr::tail-returns-else-eat_word_as-2-clause-placed
 expr::tail-returns-else-eat_word_as-2-clause-placed i c = ok_goes_on _ _ _ c.predicate-else-eat_word_as-2.ensures.placed (λ from d. stays (stays (stays d c.in_default.ensures.1) c.if-eat_word_as.ensures.1) c.if-eat_word_as-2.ensures.1)
 
-pub expr::comparison-returns-in_err-left-clause-reads : goal.expr::comparison-returns-in_err-left-clause-reads
-expr::comparison-returns-in_err-left-clause-reads i c = answers _ _ (search rules) (no_memory refl)
-
 pub expr::comparison-returns-in_err-right-clause-reads : goal.expr::comparison-returns-in_err-right-clause-reads
 unfolding g.ComparedOf
 expr::comparison-returns-in_err-right-clause-reads i c = answers _ _ (search rules) (reads_not_on c.in_default.ensures (then_fails c.in_err-right.ensures.reads))
@@ -175,10 +175,10 @@ expr::comparison-returns-in_err-right-2-clause-reads i c = answers _ _ (search r
 
 pub expr::comparison-returns-in_default-clause-reads : goal.expr::comparison-returns-in_default-clause-reads
 unfolding g.ComparedOf
-expr::comparison-returns-in_default-clause-reads i c = reads_not_on c.in_default.ensures (then_on (λ m. sum_alike (within_alike c.args.levels m)) c.in_ok-right.ensures.reads (gives_as (of_compare _ _ _ _ ∙ ap₂ (λ x y. tree.Compare (op_of c.args.op) (expr_of x) (expr_of y)) c.in_ok-left.ensures.ok c.in_ok-right-2.ensures.ok)))
+expr::comparison-returns-in_default-clause-reads i c = reads_not_on c.in_default.ensures (then_on (λ m. sum_alike (within_alike c.args.levels m)) c.in_ok-right.ensures.reads (gives_as (of_compare _ _ _ _ ∙ ap₂ (λ x y. tree.Compare (op_of c.args.op) (expr_of x) (expr_of y)) refl c.in_ok-right-2.ensures.ok)))
 
 pub expr::comparison-returns-in_default-clause-placed : goal.expr::comparison-returns-in_default-clause-placed
-expr::comparison-returns-in_default-clause-placed i c = λ from d. seen_as (leaves.of_compare _ _ _ _ ∙ ap₂ (λ x y. (expr_leaves x ++ one (op_leaf (op_of c.args.op)) c.args.start) ++ expr_leaves y) c.in_ok-left.ensures.ok c.in_ok-right-2.ensures.ok) (on (stays d c.in_default.ensures.1) c.in_ok-right.ensures.placed)
+expr::comparison-returns-in_default-clause-placed i c = λ from d. seen_as (leaves.of_compare _ _ _ _ ∙ ap₂ (λ x y. (expr_leaves x ++ one (op_leaf (op_of c.args.op)) c.args.start) ++ expr_leaves y) refl c.in_ok-right-2.ensures.ok) (on (stays d c.in_default.ensures.1) c.in_ok-right.ensures.placed)
 
 pub expr::comparison-returns-in_err-expect_symbol-clause-reads : goal.expr::comparison-returns-in_err-expect_symbol-clause-reads
 unfolding g.ComparedOf
@@ -194,10 +194,10 @@ expr::comparison-returns-in_err-query-clause-reads i c = answers _ _ (search rul
 
 pub expr::comparison-returns-clause-reads : goal.expr::comparison-returns-clause-reads
 unfolding g.ComparedOf
-expr::comparison-returns-clause-reads i c = reads_on c.in-Some.ensures (opens_past c.in_ok-below.ensures.ok refl c.in_ok-expect_symbol.ensures (then_on (λ m. (within_alike (suc c.in_ok-below.below) m).subquery) (inside (λ us at. nowhere_never us at) c.in_ok-query.ensures.reads) (gives_as (of_compare_all _ _ _ _ _ ∙ ap (λ x. tree.CompareAll (op_of c.args.op) (quantifier_of c.in-Some.quantifier) (expr_of x) (block_of c.in_ok-query.query.value)) c.in_ok-left.ensures.ok))))
+expr::comparison-returns-clause-reads i c = reads_on c.in-Some.ensures (opens_past c.in_ok-below.ensures.ok refl c.in_ok-expect_symbol.ensures (then_on (λ m. (within_alike (suc c.in_ok-below.below) m).subquery) (inside (λ us at. nowhere_never us at) c.in_ok-query.ensures.reads) (gives_as (of_compare_all _ _ _ _ _ ∙ ap (λ x. tree.CompareAll (op_of c.args.op) (quantifier_of c.in-Some.quantifier) (expr_of x) (block_of c.in_ok-query.query.value)) refl))))
 
 pub expr::comparison-returns-clause-placed : goal.expr::comparison-returns-clause-placed
-expr::comparison-returns-clause-placed i c = λ from d. seen_as (leaves.of_compare_all _ _ _ _ _ ∙ ap (λ x. (expr_leaves x ++ one (op_leaf (op_of c.args.op)) c.args.start) ++ block_leaves c.in_ok-query.query.value) c.in_ok-left.ensures.ok) (on (past refl (says_passed leaves.quantifier_passed d c.in-Some.ensures) c.in_ok-expect_symbol.ensures) c.in_ok-query.ensures.placed)
+expr::comparison-returns-clause-placed i c = λ from d. seen_as (leaves.of_compare_all _ _ _ _ _ ∙ ap (λ x. (expr_leaves x ++ one (op_leaf (op_of c.args.op)) c.args.start) ++ block_leaves c.in_ok-query.query.value) refl) (on (past refl (says_passed leaves.quantifier_passed d c.in-Some.ensures) c.in_ok-expect_symbol.ensures) c.in_ok-query.ensures.placed)
 
 pub expr::predicate-returns-then-eat_predicate-clause-reads : goal.expr::predicate-returns-then-eat_predicate-clause-reads
 unfolding g.PredicateOf
@@ -234,10 +234,10 @@ expr::predicate-returns-then-negated-clause-reads i c = rw c.if-negated.true (mi
 
 pub expr::predicate-returns-else-negated-clause-reads : goal.expr::predicate-returns-else-negated-clause-reads
 unfolding g.PredicateOf
-expr::predicate-returns-else-negated-clause-reads i c = rw c.if-negated.false (misses_on c.if-eat_predicate.ensures (misses_on c.if-eat_predicate-2.ensures (misses_on c.if-eat_predicate-3.ensures gives)))
+expr::predicate-returns-else-negated-clause-reads i c = rw (c.if-negated.false, c.into_inner.ensures) (misses_on c.if-eat_predicate.ensures (misses_on c.if-eat_predicate-2.ensures (misses_on c.if-eat_predicate-3.ensures gives)))
 
 pub expr::predicate-returns-else-negated-clause-placed : goal.expr::predicate-returns-else-negated-clause-placed
-expr::predicate-returns-else-negated-clause-placed i c = λ from d. stays (stays (stays d c.if-eat_predicate.ensures.1) c.if-eat_predicate-2.ensures.1) c.if-eat_predicate-3.ensures.1
+expr::predicate-returns-else-negated-clause-placed i c = λ from d. rw c.into_inner.ensures (stays (stays (stays d c.if-eat_predicate.ensures.1) c.if-eat_predicate-2.ensures.1) c.if-eat_predicate-3.ensures.1)
 
 pub expr::between-returns-in_err-low-clause-reads : goal.expr::between-returns-in_err-low-clause-reads
 unfolding g.BetweenOf
@@ -251,9 +251,6 @@ pub expr::between-returns-in_err-high-clause-reads : goal.expr::between-returns-
 unfolding g.BetweenOf
 expr::between-returns-in_err-high-clause-reads i c = answers _ _ (search rules) (then_on (λ m. sum_alike (within_alike c.args.levels m)) c.in_ok-low.ensures.reads (past_on c.in_ok-expect_word.ensures (then_fails c.in_err-high.ensures.reads)))
 
-pub expr::between-returns-in_err-value-clause-reads : goal.expr::between-returns-in_err-value-clause-reads
-expr::between-returns-in_err-value-clause-reads i c = answers _ _ (search rules) (no_memory refl)
-
 pub expr::between-returns-in_err-low-2-clause-reads : goal.expr::between-returns-in_err-low-2-clause-reads
 expr::between-returns-in_err-low-2-clause-reads i c = answers _ _ (search rules) (no_memory refl)
 
@@ -262,13 +259,10 @@ expr::between-returns-in_err-high-2-clause-reads i c = answers _ _ (search rules
 
 pub expr::between-returns-clause-reads : goal.expr::between-returns-clause-reads
 unfolding g.BetweenOf
-expr::between-returns-clause-reads i c = then_on (λ m. sum_alike (within_alike c.args.levels m)) c.in_ok-low.ensures.reads (past_on c.in_ok-expect_word.ensures (then_on (λ m. sum_alike (within_alike c.args.levels m)) c.in_ok-high.ensures.reads (gives_as (of_between _ _ _ _ _ ∙ ap₂ (λ x y. tree.Between c.args.negated (expr_of x) (expr_of y) (expr_of c.in_ok-high-2.high.value)) c.in_ok-value.ensures.ok c.in_ok-low-2.ensures.ok ∙ ap (λ x. tree.Between c.args.negated (expr_of c.args.value) (expr_of c.in_ok-low.low) (expr_of x)) c.in_ok-high-2.ensures.ok))))
+expr::between-returns-clause-reads i c = then_on (λ m. sum_alike (within_alike c.args.levels m)) c.in_ok-low.ensures.reads (past_on c.in_ok-expect_word.ensures (then_on (λ m. sum_alike (within_alike c.args.levels m)) c.in_ok-high.ensures.reads (gives_as (of_between _ _ _ _ _ ∙ ap₂ (λ x y. tree.Between c.args.negated (expr_of x) (expr_of y) (expr_of c.in_ok-high-2.high.value)) refl c.in_ok-low-2.ensures.ok ∙ ap (λ x. tree.Between c.args.negated (expr_of c.args.value.value) (expr_of c.in_ok-low.low) (expr_of x)) c.in_ok-high-2.ensures.ok))))
 
 pub expr::between-returns-clause-placed : goal.expr::between-returns-clause-placed
-expr::between-returns-clause-placed i c = λ from d. seen_as (leaves.of_between _ _ _ _ _ ∙ ap₂ (λ x y. ((expr_leaves x ++ one (Reserved words.Between) c.args.start) ++ expr_leaves y) ++ expr_leaves c.in_ok-high-2.high.value) c.in_ok-value.ensures.ok c.in_ok-low-2.ensures.ok ∙ ap (λ x. ((expr_leaves c.args.value ++ one (Reserved words.Between) c.args.start) ++ expr_leaves c.in_ok-low.low) ++ expr_leaves x) c.in_ok-high-2.ensures.ok) (on (past refl (on d c.in_ok-low.ensures.placed) c.in_ok-expect_word.ensures) c.in_ok-high.ensures.placed)
-
-pub expr::in_list-returns-in_err-value-clause-reads : goal.expr::in_list-returns-in_err-value-clause-reads
-expr::in_list-returns-in_err-value-clause-reads i c = answers _ _ (search rules) (no_memory refl)
+expr::between-returns-clause-placed i c = λ from d. seen_as (leaves.of_between _ _ _ _ _ ∙ ap₂ (λ x y. ((expr_leaves x ++ one (Reserved words.Between) c.args.start) ++ expr_leaves y) ++ expr_leaves c.in_ok-high-2.high.value) refl c.in_ok-low-2.ensures.ok ∙ ap (λ x. ((expr_leaves c.args.value.value ++ one (Reserved words.Between) c.args.start) ++ expr_leaves c.in_ok-low.low) ++ expr_leaves x) c.in_ok-high-2.ensures.ok) (on (past refl (on d c.in_ok-low.ensures.placed) c.in_ok-expect_word.ensures) c.in_ok-high.ensures.placed)
 
 pub expr::in_list-returns-in_err-query-clause-reads : goal.expr::in_list-returns-in_err-query-clause-reads
 unfolding g.InListOf
@@ -276,10 +270,10 @@ expr::in_list-returns-in_err-query-clause-reads i c = answers _ _ (search rules)
 
 pub expr::in_list-returns-then-sees_word-clause-reads : goal.expr::in_list-returns-then-sees_word-clause-reads
 unfolding g.InListOf
-expr::in_list-returns-then-sees_word-clause-reads i c = sees_on (c.sees_word.ensures.stands.0 c.if-sees_word.true) (begins c.sees_word.ensures.same (then_on (λ m. subquery_alike (within_alike c.args.levels m)) c.in_ok-query.ensures.reads (gives_as (of_in_query _ _ _ _ ∙ ap (λ x. tree.InQuery c.args.negated (expr_of x) (block_of c.in_ok-query.query.value)) c.in_ok-value.ensures.ok))))
+expr::in_list-returns-then-sees_word-clause-reads i c = sees_on (c.sees_word.ensures.stands.0 c.if-sees_word.true) (begins c.sees_word.ensures.same (then_on (λ m. subquery_alike (within_alike c.args.levels m)) c.in_ok-query.ensures.reads (gives_as (of_in_query _ _ _ _ ∙ ap (λ x. tree.InQuery c.args.negated (expr_of x) (block_of c.in_ok-query.query.value)) refl))))
 
 pub expr::in_list-returns-then-sees_word-clause-placed : goal.expr::in_list-returns-then-sees_word-clause-placed
-expr::in_list-returns-then-sees_word-clause-placed i c = λ from d. seen_as (leaves.of_in_query _ _ _ _ ∙ ap (λ x. (expr_leaves x ++ one (Reserved words.In) c.args.start) ++ block_leaves c.in_ok-query.query.value) c.in_ok-value.ensures.ok) (on (stays d c.sees_word.ensures.same) c.in_ok-query.ensures.placed)
+expr::in_list-returns-then-sees_word-clause-placed i c = λ from d. seen_as (leaves.of_in_query _ _ _ _ ∙ ap (λ x. (expr_leaves x ++ one (Reserved words.In) c.args.start) ++ block_leaves c.in_ok-query.query.value) refl) (on (stays d c.sees_word.ensures.same) c.in_ok-query.ensures.placed)
 
 pub expr::in_list-returns-in_err-members-clause-reads : goal.expr::in_list-returns-in_err-members-clause-reads
 unfolding g.InListOf
@@ -291,10 +285,10 @@ expr::in_list-returns-in_err-expect_symbol-clause-reads i c = answers _ _ (searc
 
 pub expr::in_list-returns-clause-reads : goal.expr::in_list-returns-clause-reads
 unfolding g.InListOf
-expr::in_list-returns-clause-reads i c = misses_on ((λ h. absurd (different (c.sees_word.ensures.stands.1 h) c.if-sees_word.false)), c.sees_word.ensures.same) (then_on {k = c.args.levels} (λ m. closed_alike (list_alike (member_alike (within_alike c.args.levels m)))) (then_on (λ m. list_alike (member_alike (within_alike c.args.levels m))) c.in_ok-members.ensures.reads (past_on c.in_ok-expect_symbol.ensures gives)) (gives_as (of_in_list _ _ _ _ ∙ ap (λ x. tree.InList c.args.negated (expr_of x) (g.member_list (map member_of c.in_ok-members.members.items))) c.in_ok-value.ensures.ok)))
+expr::in_list-returns-clause-reads i c = misses_on ((λ h. absurd (different (c.sees_word.ensures.stands.1 h) c.if-sees_word.false)), c.sees_word.ensures.same) (then_on {k = c.args.levels} (λ m. closed_alike (list_alike (member_alike (within_alike c.args.levels m)))) (then_on (λ m. list_alike (member_alike (within_alike c.args.levels m))) c.in_ok-members.ensures.reads (past_on c.in_ok-expect_symbol.ensures gives)) (gives_as (of_in_list _ _ _ _ ∙ ap (λ x. tree.InList c.args.negated (expr_of x) (g.member_list (map member_of c.in_ok-members.members.items))) refl)))
 
 pub expr::in_list-returns-clause-placed : goal.expr::in_list-returns-clause-placed
-expr::in_list-returns-clause-placed i c = λ from d. seen_as (leaves.of_in_list _ _ _ _ ∙ ap (λ x. (expr_leaves x ++ one (Reserved words.In) c.args.start) ++ all (if_there expr_leaves) c.in_ok-members.members.items) c.in_ok-value.ensures.ok) (past refl (on (stays d c.sees_word.ensures.same) c.in_ok-members.ensures.placed) c.in_ok-expect_symbol.ensures)
+expr::in_list-returns-clause-placed i c = λ from d. seen_as (leaves.of_in_list _ _ _ _ ∙ ap (λ x. (expr_leaves x ++ one (Reserved words.In) c.args.start) ++ all (if_there expr_leaves) c.in_ok-members.members.items) refl) (past refl (on (stays d c.sees_word.ensures.same) c.in_ok-members.ensures.placed) c.in_ok-expect_symbol.ensures)
 
 pub expr::member-returns-then-eat_word-clause-reads : goal.expr::member-returns-then-eat_word-clause-reads
 unfolding g.MemberOf

@@ -4,7 +4,7 @@ use Rattle.definitions.specs.Statement as tree
 use Rattle.parse_tree.specs.Trees.{expr_of, text_of}
 use Rattle.definitions.specs.Grammar as g
 use Rattle.definitions.proofs.Grammar.{string_alike}
-use Rattle.syntax_cursor.proofs.Outcomes.{gives_as, flat_on, then_fails, no_memory, answers}
+use Rattle.syntax_cursor.proofs.Outcomes.{gives_as, flat_on, then_fails, answers}
 use Rattle.syntax_cursor.proofs.Places.{on, seen_as}
 use Rattle.syntax.proofs.Places as leaves
 use Rattle.syntax_cursor.specs.Places.{Reserved, one, string_leaves}
@@ -17,13 +17,9 @@ pub returns-in_err-pattern-clause-reads : goal.returns-in_err-pattern-clause-rea
 unfolding g.LikeOf
 returns-in_err-pattern-clause-reads c l k = answers _ _ (search rules) (then_fails (c.in_err-pattern.ensures.reads l k))
 
-pub returns-in_err-value-clause-reads : goal.returns-in_err-value-clause-reads
-unfolding g.LikeOf
-returns-in_err-value-clause-reads c l k = answers _ _ (search rules) (no_memory refl)
-
 pub returns-clause-reads : goal.returns-clause-reads
 unfolding g.LikeOf
-returns-clause-reads c l k = flat_on string_alike c.in_ok-pattern.ensures.reads (gives_as (of_like _ _ _ _ ∙ ap (λ z. tree.Like c.args.negated (expr_of z) (text_of c.in_ok-pattern.pattern)) c.in_ok-value.ensures.ok))
+returns-clause-reads c l k = flat_on string_alike c.in_ok-pattern.ensures.reads (gives_as (of_like _ _ _ _ ∙ ap (λ z. tree.Like c.args.negated (expr_of z) (text_of c.in_ok-pattern.pattern)) refl))
 
 pub returns-clause-placed : goal.returns-clause-placed
-returns-clause-placed c = λ from d. seen_as (leaves.of_like _ _ _ _ ∙ ap (λ z. (expr_leaves z ++ one (Reserved words.Like) c.args.start) ++ string_leaves c.in_ok-pattern.pattern) c.in_ok-value.ensures.ok) (on d c.in_ok-pattern.ensures.placed)
+returns-clause-placed c = λ from d. seen_as (leaves.of_like _ _ _ _ ∙ ap (λ z. (expr_leaves z ++ one (Reserved words.Like) c.args.start) ++ string_leaves c.in_ok-pattern.pattern) refl) (on d c.in_ok-pattern.ensures.placed)
