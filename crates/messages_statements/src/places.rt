@@ -36,7 +36,7 @@ fn lexical_offset(fault: LexFault) -> usize {
         LexFault::StrayCharacter { offset, .. }
         | LexFault::OpenString { offset }
         | LexFault::LongLiteral { offset, .. }
-        | LexFault::LongName { offset, .. } => offset,
-        LexFault::Memory => 0,
+        | LexFault::LongName { offset, .. }
+        | LexFault::Memory { offset } => offset,
     }
 }

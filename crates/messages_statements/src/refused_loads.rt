@@ -6,7 +6,7 @@ use messages_excerpts::LineColumn;
 use std::alloc::{AllocError, Global};
 use syntax::Name;
 
-/// Where the LOAD of a table was refused last, by the table's place in the database.
+/// Where the LOAD of a table was refused, if its last one was, by the table's place in the database.
 #[derive(Drop)]
 pub(crate) struct RefusedLoads {
     places: Vec<Option<LineColumn>>,
@@ -29,6 +29,15 @@ impl RefusedLoads {
         }
     }
 
+    /// Forgets what was refused of a table that is loaded now.
+    pub(crate) fn forget(&mut self, database: &Database, name: &Name) {
+        if let Some(table) = place_of(database, name.text.as_str())
+            && let Some(kept) = self.places.get_mut(table)
+        {
+            *kept = None;
+        }
+    }
+
     fn put(&mut self, table: usize, place: LineColumn) -> Result<(), AllocError> {
         for _ in self.places.len()..table.saturating_add(1) {
             self.places.push(None)?;
@@ -39,7 +48,7 @@ impl RefusedLoads {
         Ok(())
     }
 
-    /// Where the LOAD into the table of a place was refused, if one was.
+    /// Where the last LOAD into the table of a place was refused, if it was.
     pub(crate) fn place(&self, table: usize) -> Option<LineColumn> {
         self.places.get(table).copied()?
     }

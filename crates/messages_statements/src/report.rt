@@ -74,6 +74,11 @@ impl<'a> Reporter<'a> {
         }
     }
 
+    /// Notes that a LOAD has gone well: nothing is said of those before any more.
+    pub fn note_load(&mut self, table: &Name, database: &Database) {
+        self.refused_loads.forget(database, table);
+    }
+
     /// The message on an exception.
     pub fn report_exception<'r>(&self, raise: Raise) -> ExceptionReport<'r>
     where

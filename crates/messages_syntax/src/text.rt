@@ -21,7 +21,7 @@ pub fn write_lexical<W: fmt::Write>(
             f,
             "a name has at most {MAX_NAME_CHARACTERS} characters, and this one has {characters}"
         ),
-        LexFault::Memory => Ok(()),
+        LexFault::Memory { .. } => Ok(()),
     }
 }
 

@@ -13,7 +13,7 @@ lexical_line f = fault_text f.refusal f.at
 -- the line that a fault tells; none where memory was wanting
 abbrev pub line_of : ScriptFault → Option (List ℕ)
 line_of (f.Refused refused offset) = Some (fault_text (refusal_of refused.refusal) offset)
-line_of f.Memory = None
+line_of (f.Memory offset) = None
 
 abbrev pub IsFaultLine : List ℕ → Option (List ℕ) → Type 0
 IsFaultLine script None = ⊤

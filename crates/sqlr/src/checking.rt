@@ -52,7 +52,7 @@ impl<L: Library> Session<L> {
                 sink.report(&refused, &self.database);
                 self.put_fault(refused.refusal, offset, sink)
             }
-            Err(ScriptFault::Memory) => Err(RunFault::Memory { offset: 0 }),
+            Err(ScriptFault::Memory { offset }) => Err(RunFault::Memory { offset }),
         }
     }
 

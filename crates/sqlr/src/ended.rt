@@ -19,8 +19,8 @@ pub enum Ended {
 /// Why a run broke off.
 #[derive(Clone, Copy, Debug, PartialEq, Eq, Error)]
 pub enum RunFault {
-    /// Memory was wanting, at a byte of the script: in the statement that names something there, or 0
-    /// where its text is read.
+    /// Memory was wanting, at a byte of the script: in the statement that names something there, or where
+    /// its text is read.
     #[error("out of memory")]
     Memory { offset: usize },
     /// The library's device failed, for a LOAD whose file is named at a byte of the script.

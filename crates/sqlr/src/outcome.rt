@@ -13,16 +13,19 @@ use crate::ended::Ended;
 use diagnostics::{Cause, Refused};
 use sqlvalue::{Raise, Refusal, write_exception, write_record_refusal, write_refusal};
 use std::alloc::{AllocError, Global};
+use syntax::Name;
 
 /// What is told of a statement beside its line.
 #[derive(Drop)]
 pub(crate) enum Told<'a> {
     Refused(Refused<'a>),
     Raised(Raise),
+    /// The table that a LOAD has loaded.
+    Loaded(&'a Name),
 }
 
-/// What a statement prints, how it ended, what is told of it, if it is refused or raises an exception, and the work of a SELECT that
-/// printed rows: how many it opened.
+/// What a statement prints, how it ended, what is told of it, if it is refused, raises an exception or has loaded a file, and the work of
+/// a SELECT that printed rows: how many it opened.
 #[derive(Drop)]
 pub struct Printed<'a> {
     pub text: Vec<u8>,
@@ -57,6 +60,18 @@ pub fn done<'a>(text: Vec<u8>) -> Printed<'a>
         ended: Ended::Well,
         told: None,
         work: None,
+    }
+}
+
+/// What a LOAD prints that has loaded its file into a table.
+pub fn loaded<'a>(text: Vec<u8>, table: &'a Name) -> Printed<'a>
+    ensures text { result.text ≡ text }
+    ensures ended { result.ended ≡ ended.Well }
+    ensures work { result.work ≡ None }
+{
+    Printed {
+        told: Some(Told::Loaded(table)),
+        ..done(text)
     }
 }
 

@@ -19,7 +19,10 @@ pub enum ScriptFault {
         refused: Refused<'static>,
         offset: usize,
     },
-    Memory,
+    /// Memory was wanting where a byte of it was read.
+    Memory {
+        offset: usize,
+    },
 }
 
 /// The statements of a script.
@@ -47,7 +50,7 @@ pub fn parse_script(alloc: Global, script: &str) -> Result<Vec<Statement>, Scrip
             },
             offset,
         }),
-        Err(SyntaxFault::Memory) => Err(ScriptFault::Memory),
+        Err(SyntaxFault::Memory { offset }) => Err(ScriptFault::Memory { offset }),
     }
 }
 
@@ -59,7 +62,7 @@ fn lexical(fault: LexFault) -> ScriptFault
         LexFault::OpenString { offset } => (Refusal::OpenString, offset),
         LexFault::LongLiteral { offset, .. } => (Refusal::LongLiteral, offset),
         LexFault::LongName { offset, .. } => (Refusal::LongName, offset),
-        LexFault::Memory => return ScriptFault::Memory,
+        LexFault::Memory { offset } => return ScriptFault::Memory { offset },
     };
     ScriptFault::Refused {
         refused: Refused {

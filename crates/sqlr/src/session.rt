@@ -14,7 +14,7 @@ use crate::changes::{create_index, create_table, set_index_statistics, set_table
 use crate::ended::{Ended, RunFault};
 use crate::explaining::explain;
 use crate::library::{FetchFault, Fetched, Library};
-use crate::outcome::{Printed, StepFault, Told, done, refusal_line, refused_record};
+use crate::outcome::{Printed, StepFault, Told, loaded, refusal_line, refused_record};
 use crate::progress::WatchedLoad;
 use crate::script::{ScriptFault, parse_script};
 use crate::select::select;
@@ -93,7 +93,7 @@ impl<L: Library> Session<L> {
                 sink.report(&refused, &self.database);
                 self.put_fault(refused.refusal, offset, sink)
             }
-            Err(ScriptFault::Memory) => Err(RunFault::Memory { offset: 0 }),
+            Err(ScriptFault::Memory { offset }) => Err(RunFault::Memory { offset }),
         }
     }
 
@@ -244,7 +244,7 @@ impl<L: Library> Session<L> {
         {
             Ok(rows) => {
                 write_loaded(&mut text, rows);
-                Ok(done(text))
+                Ok(loaded(text, load.table))
             }
             Err(LoadFault::NoTable) => unreachable!(),
             Err(LoadFault::Record(record)) => {
@@ -263,7 +263,7 @@ impl<L: Library> Session<L> {
     }
 }
 
-/// Tells a sink why a statement is refused, or that it raises an exception, if it is or does.
+/// Tells a sink why a statement is refused, that it raises an exception, or that it has loaded a file, if it is, does or has.
 pub(crate) fn tell_cause<S: Sink>(sink: &mut S, told: &Option<Told>, database: &Database)
     ensures taken { S.taken sink.new ≡ S.taken sink.old }
     ensures counted { S.failures sink.new ≡ S.failures sink.old }
@@ -271,6 +271,7 @@ pub(crate) fn tell_cause<S: Sink>(sink: &mut S, told: &Option<Told>, database: &
     match told {
         Some(Told::Refused(refused)) => sink.report(refused, database),
         Some(Told::Raised(raise)) => sink.report_exception(*raise),
+        Some(Told::Loaded(table)) => sink.report_load(table, database),
         None => {}
     }
 }

@@ -9,6 +9,7 @@ ghost use Rattle.sqlr.specs.Devices.{Took, TookBeginning};
 use catalog::Database;
 use diagnostics::{CheckedFile, Planned, Progress, Refused};
 use sqlvalue::Raise;
+use syntax::Name;
 use thiserror::Error;
 
 /// Takes what is printed, a statement's text as a whole, and is told what is not printed.
@@ -35,6 +36,13 @@ pub trait Sink {
 
     /// Is told of an exception that a query raises and of what raised it, before its line is put (own). It does nothing, unless a sink has another body.
     fn report_exception(&mut self, _raise: Raise)
+        ensures taken { taken self.new ≡ taken self.old }
+        ensures counted { failures self.new ≡ failures self.old }
+    {}
+
+    /// Is told of a LOAD that has loaded its file into a table of the database, before its line is put (own). It does nothing, unless a sink has
+    /// another body.
+    fn report_load(&mut self, _table: &Name, _database: &Database)
         ensures taken { taken self.new ≡ taken self.old }
         ensures counted { failures self.new ≡ failures self.old }
     {}

@@ -4,6 +4,7 @@
 mod folder;
 mod given;
 mod output;
+mod stack;
 mod standard_error;
 
 ghost use Rattle.std.specs.Prelude.{◌≡◌, ◌<◌};
@@ -30,6 +31,9 @@ const BROKEN_OFF: u8 = 2;
 
 fn main(rt: HostRuntime) -> io::Result<ExitCode> {
     let standard_error = StandardError::new(&rt, rt.stderr().is_terminal());
+    if !stack::is_enough(&rt, &standard_error) {
+        return Ok(ExitCode::from(BROKEN_OFF));
+    }
     let status = exit_status::<Brand, Brand, HostRuntime>(
         &rt,
         &standard_error,

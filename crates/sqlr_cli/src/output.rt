@@ -3,7 +3,9 @@
 use crate::standard_error::StandardError;
 use catalog::Database;
 use messages_statements::Reporter;
-use sqlr::{CheckedFile, Failures, LoadProgress, Planned, Progress, Refused, Sink, SinkFault};
+use sqlr::{
+    CheckedFile, Failures, LoadProgress, Name, Planned, Progress, Refused, Sink, SinkFault,
+};
 use sqlvalue::Raise;
 use std::cell::Cell;
 use std::io::{self, Write};
@@ -62,6 +64,10 @@ impl<L: Ledger, R: Runtime + AllocGlobal, W: Write + Drop> Sink for Output<'_, '
             let report = self.reporter.report_exception(raise);
             self.standard_error.print(report);
         }
+    }
+
+    fn report_load(&mut self, table: &Name, database: &Database) {
+        self.reporter.note_load(table, database);
     }
 
     fn report_plans(&self, planned: Planned<'_>, database: &Database) {

@@ -4,7 +4,7 @@ use Rattle.sqlr.proofs.session.Session.load_bytes.Goals as goal
 
 pub returns-in-Ok-clause-takes : goal.returns-in-Ok-clause-takes
 returns-in-Ok-clause-takes g c =
-    rw (sym c.self.view_is) (rows_taken c.self.inside.database _ _ _ _ c.done.result (rw (c.as_str.ensures.value, c.deref.ensures.value) at c.in-Ok.ensures.ok) (rw c.done.ensures.text (rw c.in_ok-text.ensures.items at c.write_loaded.ensures)) c.done.ensures.ended)
+    rw (sym c.self.view_is) (rows_taken c.self.inside.database _ _ _ _ c.loaded.result (rw (c.as_str.ensures.value, c.deref.ensures.value) at c.in-Ok.ensures.ok) (rw c.loaded.ensures.text (rw c.in_ok-text.ensures.items at c.write_loaded.ensures)) c.loaded.ensures.ended)
 
 pub returns-in-Err-Record-clause-takes : goal.returns-in-Err-Record-clause-takes
 returns-in-Err-Record-clause-takes g c =

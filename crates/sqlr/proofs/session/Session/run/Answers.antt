@@ -15,7 +15,7 @@ pub returns-in-Err-Refused-clause-breaks : goal.returns-in-Err-Refused-clause-br
 returns-in-Err-Refused-clause-breaks g c = line_broke _ _ _ _ _ _ _ _ (rw c.in-Err-Refused.field-0-is at c.in-Err-Refused.ensures.fault) (rw c.report.ensures.taken at c.put_fault.ensures.breaks)
 
 pub returns-in-Err-Memory-clause-breaks : goal.returns-in-Err-Memory-clause-breaks
-returns-in-Err-Memory-clause-breaks g c = nothing_done _ _ _ _ _ 0
+returns-in-Err-Memory-clause-breaks g c = nothing_done _ _ _ _ _ c.in-Err-Memory.offset
 
 pub returns-in-Err-Refused-clause-library : goal.returns-in-Err-Refused-clause-library
 returns-in-Err-Refused-clause-library g c = line_unasked _ _ _ _ _ c.put_fault.ensures.breaks
