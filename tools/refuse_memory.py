@@ -1,7 +1,7 @@
 #!/usr/bin/env python3
 """Refuses each allocation of the program in turn, and looks at what such a run prints.
 
-usage: refuse_memory.py PROGRAM [--words] [SCRIPT ..]
+usage: refuse_memory.py PROGRAM [--words | --sessions] [SCRIPT ..]
 
 The scripts are those of memory, or the named ones: a statement a line, and files beside them that they load. Each is run under a
 library that refuses one call of malloc or realloc: the first, then the second, and on to the last. Where its last statement is an EXPLAIN,
@@ -9,6 +9,9 @@ what that printed is a file of certificates, and `check` of it is run so as well
 status; or it ends with status 2 and `out of memory`, and what it printed is what whole statements print, of a check nothing. Words for people
 may be fewer where memory was wanting for them: --words prints the lines that no run with ample memory has, to be read. A line tells of each
 script and command; the status is 1 where a run is not so. A C compiler is needed.
+
+With --sessions PROGRAM is crates/cases_memory, which runs the statements of a script one by one in one session, and a second time where memory was
+wanting for one. Behind what it reads first, each refused allocation has to leave all that is printed as it is.
 """
 import concurrent.futures
 import os
@@ -103,6 +106,20 @@ class Room:
         return {end: ends.count(end) for end in ("whole", "cut")}, wrong, own
 
 
+    def resumed(self, script, pool):
+        """How often a session that goes on behind a refusal prints what it prints without one, how often it isn't begun, and the numbers of the others."""
+        text = script.read_text()
+        files = sorted(it.name for it in self.folder.glob("*.csv"))
+        whole, allocations = self.counted([self.written("script.sql", text.encode()), *files])
+        # a comment of as many bytes is read as the script is, and nothing is run
+        _, read = self.counted([self.written("comment.sql", b"-" * len(text.encode())), *files])
+        numbers = range(1, allocations + 1)
+        runs = list(pool.map(lambda number: self.ran(["script.sql", *files], number), numbers))
+        unbegun = [number for number, it in zip(numbers, runs) if number <= read and it.status != 0 and not it.output]
+        wrong = [number for number, it in zip(numbers, runs) if number not in unbegun and (it.status, it.output) != (whole.status, whole.output)]
+        return len(numbers) - len(unbegun) - len(wrong), len(unbegun), wrong
+
+
 def statements_of(script):
     return [line for line in script.read_text().splitlines(keepends=True) if not line.startswith("--")]
 
@@ -120,20 +137,44 @@ def commands_of(room, script):
         yield ["check", name, certificates], [b""]
 
 
-def main():
-    program, *named = [it for it in sys.argv[1:] if it != "--words"]
-    scripts = sorted(map(pathlib.Path, named)) or sorted(SCRIPTS.glob("*.sql"))
+def look_at_programs(room, scripts, pool, is_telling):
+    """Runs and checks the scripts, and gives how many allocations were refused, and how many were answered wrongly."""
     failed = refused = 0
+    for script in scripts:
+        for words, beginnings in commands_of(room, script):
+            ends, wrong, own = room.judged(words, beginnings, pool)
+            failed += len(wrong)
+            refused += sum(ends.values()) + len(wrong)
+            print(f"{words[0]} {script.name}: {ends['cut']} cut, {ends['whole']} done without{told_wrong(wrong)}")
+            for line in sorted(own) if is_telling else []:
+                print(f"    {line.decode()}")
+    return refused, failed
+
+
+def look_at_sessions(room, scripts, pool):
+    """Runs the scripts in sessions that go on, and gives the same."""
+    failed = refused = 0
+    for script in scripts:
+        same, unbegun, wrong = room.resumed(script, pool)
+        failed += len(wrong)
+        refused += same + unbegun + len(wrong)
+        print(f"session of {script.name}: {same} gone on behind, {unbegun} not begun{told_wrong(wrong)}")
+    return refused, failed
+
+
+def told_wrong(wrong):
+    return f", {len(wrong)} wrong, the first {wrong[:9]}" if wrong else ""
+
+
+def main():
+    program, *named = [it for it in sys.argv[1:] if it not in ("--words", "--sessions")]
+    scripts = sorted(map(pathlib.Path, named)) or sorted(SCRIPTS.glob("*.sql"))
     with tempfile.TemporaryDirectory() as folder, concurrent.futures.ThreadPoolExecutor(os.cpu_count()) as pool:
         room = Room(str(pathlib.Path(program).resolve()), folder)
-        for script in scripts:
-            for words, beginnings in commands_of(room, script):
-                ends, wrong, own = room.judged(words, beginnings, pool)
-                failed += len(wrong)
-                refused += sum(ends.values()) + len(wrong)
-                print(f"{words[0]} {script.name}: {ends['cut']} cut, {ends['whole']} done without" + (f", {len(wrong)} wrong, the first {wrong[:9]}" if wrong else ""))
-                for line in sorted(own) if "--words" in sys.argv else []:
-                    print(f"    {line.decode()}")
+        if "--sessions" in sys.argv:
+            refused, failed = look_at_sessions(room, scripts, pool)
+        else:
+            refused, failed = look_at_programs(room, scripts, pool, "--words" in sys.argv)
     print(f"{refused} allocations refused in turn, {failed} answered wrongly")
     sys.exit(1 if failed else 0)
 
