@@ -111,6 +111,8 @@ class Room:
         text = script.read_text()
         files = sorted(it.name for it in self.folder.glob("*.csv"))
         whole, allocations = self.counted([self.written("script.sql", text.encode()), *files])
+        if whole.status or not whole.output:
+            raise RuntimeError(f"{script.name} doesn't end well where nothing is refused")
         # a comment of as many bytes is read as the script is, and nothing is run
         _, read = self.counted([self.written("comment.sql", b"-" * len(text.encode())), *files])
         numbers = range(1, allocations + 1)

@@ -108,8 +108,9 @@ class Room:
         return ran.returncode, ran.stdout, ran.stderr
 
     def is_done(self, words, stack):
-        """Whether a call does in a stack what it does in an ample one."""
-        return self.ran(words, stack) == self.ran(words, AMPLE)
+        """Whether a call does in a stack what it does in an ample one, where it doesn't break off."""
+        ample = self.ran(words, AMPLE)
+        return ample[0] in (0, 1, 3) and self.ran(words, stack) == ample
 
     def least(self, words):
         """The least stack that a call is done in."""
