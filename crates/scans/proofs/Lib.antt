@@ -7,5 +7,6 @@ pub mod PathRuns
 pub mod WordRows
 pub mod Comparing
 pub mod Coming
+pub mod Listed
 pub mod Tests
 pub mod Scanning
