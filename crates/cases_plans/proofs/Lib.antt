@@ -1,2 +1,3 @@
-mod FirstBlock
+mod GivenPlans
 mod Planned
+mod WholeQuery

@@ -2,12 +2,14 @@
 
 use std::alloc::{AllocError, Global};
 
-/// What the words `|` and `down` stand for, and any that is no number. No answer has such numbers else.
+/// What the words `|`, `down` and `NULL` stand for, and any that is no number. No answer has such numbers else.
 pub(crate) const BAR: u64 = u64::MAX;
 
 pub(crate) const DOWN: u64 = u64::MAX - 1;
 
 pub(crate) const NONE: u64 = u64::MAX - 2;
+
+const NULL: u64 = u64::MAX - 3;
 
 /// The numbers that answer a question.
 #[derive(Drop)]
@@ -50,6 +52,17 @@ impl Answer {
         self.add_place(number.saturating_add(1));
     }
 
+    /// Adds the values of a printed row, each a number or NULL. With others it isn't whole.
+    pub(crate) fn add_row(&mut self, row: &str) {
+        for value in row.split('|') {
+            match number_of(value) {
+                NONE => self.fail(),
+                number => self.add(number),
+            }
+        }
+        self.add(BAR);
+    }
+
     /// Notes that there is no such question.
     pub(crate) fn fail(&mut self) {
         self.is_whole = false;
@@ -77,6 +90,7 @@ pub(crate) fn number_of(word: &str) -> u64 {
     match word {
         "|" => BAR,
         "down" => DOWN,
+        "NULL" => NULL,
         "yes" | "early" => 1,
         "late" => 0,
         _ => word.parse().unwrap_or(NONE),
@@ -88,6 +102,7 @@ fn push_number(text: &mut String, number: u64) -> Result<(), AllocError> {
         BAR => text.push_str(" |"),
         DOWN => text.push_str(" down"),
         NONE => text.push_str(" none"),
+        NULL => text.push_str(" NULL"),
         _ => write!(text, " {number}"),
     }
 }

@@ -1,5 +1,5 @@
-//! Asks plan spaces, searches and runs of given plans what rows of data files say of them; the gate compares what it prints. What `check` tells
-//! is asked of the built program, by tools/plan_rows.py.
+//! Asks plan spaces, searches, runs of given plans and answers by them what rows of data files say of them; the gate compares what it prints.
+//! What `check` tells is asked of the built program, by tools/plan_rows.py.
 #![tactic(auto)]
 
 mod answer;
@@ -7,13 +7,20 @@ mod blocks;
 mod questions;
 mod rows;
 mod running;
+mod selecting;
 mod statements;
 
 use rows::ask;
 use std::{fs, io};
 
 /// The files of rows, which lie where the program runs.
-const FILES: [&str; 4] = ["shares.rows", "orders.rows", "searches.rows", "runs.rows"];
+const FILES: [&str; 5] = [
+    "shares.rows",
+    "orders.rows",
+    "searches.rows",
+    "runs.rows",
+    "selects.rows",
+];
 
 fn main(rt: HostRuntime) -> io::Result<()> {
     for name in &FILES {

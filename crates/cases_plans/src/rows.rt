@@ -7,6 +7,7 @@
 use crate::answer::Answer;
 use crate::blocks::block;
 use crate::questions::ask_block;
+use crate::selecting::add_select;
 use crate::statements::{apply, load};
 use catalog::Database;
 use plan_space::Version;
@@ -124,6 +125,9 @@ fn answer(
         return Ok(());
     }
     let database = &group.database;
+    if let Some(plans) = question.strip_prefix("select ") {
+        return add_select(alloc, database, group.query, plans, found);
+    }
     match block(alloc, database, group.query) {
         Some(block) => ask_block(alloc, database, &block, group.version, question, found),
         None => {

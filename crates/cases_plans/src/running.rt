@@ -36,7 +36,7 @@ pub(crate) fn add_run(
 }
 
 /// The plan of a block that a text spells, if it spells one.
-fn spelled_plan(
+pub(crate) fn spelled_plan(
     alloc: Global,
     database: &Database,
     block: &Block,
