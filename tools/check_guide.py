@@ -1,9 +1,9 @@
 #!/usr/bin/env python3
-"""Compares docs/FIRST_STEPS.md with the cases of cases/first_steps, byte for byte.
+"""Compares docs/FIRST_STEPS.md and docs/REFUSALS.md with the cases of cases/first_steps, byte for byte.
 
 usage: check_guide.py
 
-On the page a csv block is a file, whose name stands in the line before it, as "the file `NAME`:". A sql
+The two pages are read as one. On it a csv block is a file, whose name stands in the line before it, as "the file `NAME`:". A sql
 block is a script, and the text block that comes next is the screen of its run. An sh block with
 "run NAME.sql" names the scripts of the screens behind it. Each script of the page has to be that of a case,
 with the page's files and this screen, which is the case's output with each message directly before its error
@@ -17,7 +17,7 @@ import sys
 from cases import parse
 
 ROOT = pathlib.Path(__file__).resolve().parent.parent
-PAGE = ROOT / "docs/FIRST_STEPS.md"
+PAGES = [ROOT / "docs/FIRST_STEPS.md", ROOT / "docs/REFUSALS.md"]
 CASES = ROOT / "cases/first_steps"
 
 # Where a message begins, as "script.sql:3:15: error E14 42000: ..", and where a line of output does that
@@ -118,11 +118,25 @@ def difference(line, shown, case, expected):
     return f"line {number}: the page has {found!r}, and {case} {wanted!r}"
 
 
+def placed(fault):
+    """A fault with the page that its line is on."""
+    told = re.match(r"line (\d+): ", fault)
+    if not told:
+        return fault
+    number = int(told[1])
+    for path in PAGES:
+        count = len(path.read_text(encoding="utf-8").splitlines())
+        if number <= count:
+            break
+        number -= count
+    return f"{path.name}:{number}: {fault[told.end():]}"
+
+
 def main():
     if len(sys.argv) > 1:
         sys.exit(__doc__)
     faults = []
-    files, scripts = page(PAGE.read_text(encoding="utf-8"), faults)
+    files, scripts = page("".join(it.read_text(encoding="utf-8") for it in PAGES), faults)
     tested_files, tested_scripts = tested(faults)
     for name, (line, body) in files.items():
         if tested_files.get(name) != body:
@@ -138,13 +152,13 @@ def main():
             faults.append(f"line {line}: the page has other notes than {case}")
     for name in tested_files:
         if name not in files:
-            faults.append(f"the cases' file {name} is not on the page")
+            faults.append(f"the cases' file {name} is on neither page")
     for script, (case, *_) in tested_scripts.items():
         if script not in scripts and not case.endswith("_in_words.case"):
-            faults.append(f"{case}: a script of it is not on the page")
+            faults.append(f"{case}: a script of it is on neither page")
     for fault in faults:
-        print(fault)
-    print(f"{len(files)} files and {len(scripts)} scripts with their screens on the page, {len(faults)} faults")
+        print(placed(fault))
+    print(f"{len(files)} files and {len(scripts)} scripts with their screens on the pages, {len(faults)} faults")
     sys.exit(1 if faults else 0)
 
 

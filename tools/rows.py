@@ -10,6 +10,7 @@ behind it in its file. An empty line, and one that begins with `--`, is passed o
     fault      the byte of the script's syntax fault
     message    that byte, the line and column that the message tells, and its words
     found      the end of these words: what stands there
+    hint       the first hint that is told, or `none`
 
 A line tells of each file, and one of each row that is wrong. The last counts the rows; the status is 1 where one is wrong, or there are
 others than COUNT.
@@ -26,6 +27,7 @@ ROWS = pathlib.Path(__file__).resolve().parent.parent / "cases/rows"
 BOUND = re.compile(r"(?:.*\n)*(?:\d+ rows|exception \d{5})\n")
 REFUSED = re.compile(r"error (E\d\d) \d{5}\n")
 FAULT = re.compile(r"error E05 42000 at (\d+)\n")
+HINT = re.compile(r"^hint: (.*)$", re.MULTILINE)
 MESSAGE = re.compile(r"<stdin>:(\d+:\d+): error E05 42000: (.*)\n")
 
 
@@ -52,7 +54,12 @@ def found(printed, said):
     return told and told.rpartition(", found ")[2]
 
 
-QUESTIONS = {it.__name__: it for it in (bind, fault, message, found)}
+def hint(_, said):
+    told = HINT.search(said)
+    return told[1] if told else "none"
+
+
+QUESTIONS = {it.__name__: it for it in (bind, fault, message, found, hint)}
 
 
 # ---- rows

@@ -62,7 +62,11 @@ impl<'r> FileReport<'r> {
         let number = message.block.saturating_add(1);
         writeln!(f, "block {number}: {}", message.reason)?;
         page.write_line(f, message.offset)?;
-        f.write_str(message.reason.hint())
+        f.write_str(message.reason.hint())?;
+        if message.offset == 0 {
+            f.write_str(head_hint(self.file))?;
+        }
+        Ok(())
     }
 
     /// That the file goes on behind the last text.
@@ -97,6 +101,18 @@ impl Display for FileReport<'_> {
             Some(offset) => self.write_rest(f, &mut page, offset),
             None => Ok(()),
         }
+    }
+}
+
+/// A hint on what stands before the first text of a file, as a line, or nothing.
+fn head_hint(file: &[u8]) -> &'static str {
+    let text = str::from_utf8(file).unwrap_or("");
+    if text.starts_with("\u{feff}") {
+        "hint: save the file without a byte order mark\n"
+    } else if text.split_once("\nCERTIFICATE ").is_some() && !text.starts_with("CERTIFICATE ") {
+        "hint: leave out the lines before CERTIFICATE: they are what other statements print\n"
+    } else {
+        ""
     }
 }
 

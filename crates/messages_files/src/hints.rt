@@ -24,6 +24,10 @@ pub fn write_record_hint<W: fmt::Write>(
             fault: ColumnFault::Value(FieldFault::Unprintable),
             column,
         } => write_character_hint(f, record.field(column)),
+        RecordFault::Field {
+            fault: ColumnFault::Value(FieldFault::NoNumber),
+            column,
+        } => write_sign_hint(f, record.field(column)),
         _ => Ok(()),
     }
 }
@@ -121,6 +125,14 @@ fn lacks_numbers(table: &Table, record: &FileRecord) -> bool {
         numbers = numbers.saturating_add(1);
     }
     numbers > 1
+}
+
+/// Which character of a field looks like one of a number, and is another.
+fn write_sign_hint<W: fmt::Write>(f: &mut Formatter<W>, field: &[u8]) -> fmt::Result {
+    if printable_length(field) == field.len() || !has_digit(field) {
+        return Ok(());
+    }
+    write_character_hint(f, field)
 }
 
 /// Which character of a text can't be stored.

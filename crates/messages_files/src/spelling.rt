@@ -31,7 +31,7 @@ pub(crate) fn spelling_of(field: &[u8]) -> Spelling {
         Spelling::WithComma
     } else if has_sign(field) {
         Spelling::WithSign
-    } else if field.contains(&b'e') || field.contains(&b'E') {
+    } else if has_exponent(field) {
         Spelling::WithExponent
     } else {
         Spelling::Other
@@ -46,6 +46,29 @@ fn has_sign(field: &[u8]) -> bool {
         }
     }
     false
+}
+
+/// Whether a field is a number with an exponent: digits, E, digits.
+fn has_exponent(field: &[u8]) -> bool {
+    let text = str::from_utf8(field).unwrap_or("");
+    let parts = match text.split_once('e') {
+        Some(parts) => Some(parts),
+        None => text.split_once('E'),
+    };
+    match parts {
+        Some((number, power)) => is_numeric(number.as_bytes()) && is_numeric(power.as_bytes()),
+        None => false,
+    }
+}
+
+/// Whether digits stand in a field, and nothing else but signs and points.
+fn is_numeric(field: &[u8]) -> bool {
+    for byte in field {
+        if !matches!(*byte, b'0'..=b'9' | b'.' | b'+' | b'-') {
+            return false;
+        }
+    }
+    has_digit(field)
 }
 
 pub(crate) fn has_digit(field: &[u8]) -> bool {

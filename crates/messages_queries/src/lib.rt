@@ -6,6 +6,7 @@ mod column_words;
 mod limit_words;
 mod limits;
 mod query_places;
+mod result_columns;
 mod suggestions;
 mod tables_in_sight;
 mod words;

@@ -5,6 +5,7 @@ use crate::column_words::{
     write_unknown_value_hint,
 };
 use crate::limit_words::write_limit;
+use crate::result_columns::{is_alias, write_alias_hint, write_key_hint};
 use crate::suggestions::write_near_table;
 use crate::tables_in_sight::TablesInSight;
 use binder::QueryFault;
@@ -82,10 +83,12 @@ impl QueryWords<'_> {
             QueryFault::NoTable(name) => {
                 write_near_table(f, self.alloc, self.database, name.text.as_str())
             }
-            QueryFault::NoColumn(column) => match self.sight(column) {
-                Some(sight) => write_no_column_hint(f, &sight, column),
-                None => Ok(()),
+            QueryFault::NoColumn(column) => self.write_column_hint(f, column),
+            QueryFault::GroupNotOwn(column) => match self.sight(column) {
+                Some(sight) if sight.has_column(column.name.text.as_str()) => Ok(()),
+                _ => self.write_column_hint(f, column),
             },
+            QueryFault::UnknownKey(key) => write_key_hint(f, self, key),
             QueryFault::AmbiguousColumn(column) => match self.sight(column) {
                 Some(sight) => write_ambiguous_hint(f, &sight, column.name.text.as_str()),
                 None => Ok(()),
@@ -95,6 +98,21 @@ impl QueryWords<'_> {
                 None => Ok(()),
             },
             _ => Ok(()),
+        }
+    }
+
+    /// Writes what may have been meant by a name that is no column's as a line, where one is sure.
+    fn write_column_hint<W: fmt::Write>(
+        &self,
+        f: &mut Formatter<W>,
+        column: &ColumnReference,
+    ) -> fmt::Result {
+        if is_alias(self, column) {
+            return write_alias_hint(f, column);
+        }
+        match self.sight(column) {
+            Some(sight) => write_no_column_hint(f, &sight, column),
+            None => Ok(()),
         }
     }
 }

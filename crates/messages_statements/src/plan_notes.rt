@@ -30,26 +30,16 @@ impl PlanReport<'_> {
         self.planned.notes.is_empty() && !self.has_refused_load()
     }
 
-    /// Whether the LOAD of a table was refused that is empty.
+    /// Whether the last LOAD of a table was refused.
     fn has_refused_load(&self) -> bool {
         for block in self.planned.blocks {
             for table in &block.tables {
-                if self.refused_load(*table).is_some() {
+                if self.refused_loads.place(*table).is_some() {
                     return true;
                 }
             }
         }
         false
-    }
-
-    /// Where the LOAD of a table was refused that is empty, by its place in the database.
-    fn refused_load(&self, table: usize) -> Option<LineColumn> {
-        let stored = self.database.tables().get(table)?;
-        if stored.len() == 0 {
-            self.refused_loads.place(table)
-        } else {
-            None
-        }
     }
 
     /// What there is to know of a block, as the script writes it.
@@ -88,7 +78,7 @@ impl PlanReport<'_> {
         write!(f, "{}:{line}:{column}: note: ", self.script_name)
     }
 
-    /// Why the tables of a block are empty that are, where their LOAD was refused: a line for each that stands in no block before.
+    /// What the tables of a block lack, where their last LOAD was refused: a line for each that stands in no block before.
     fn write_refused_loads<W: fmt::Write>(
         &self,
         f: &mut Formatter<W>,
@@ -108,26 +98,34 @@ impl PlanReport<'_> {
         Ok(())
     }
 
-    /// `script.sql:3:20: note: PUPILS is empty: its LOAD at 2:18 was refused`, where it was.
+    /// `script.sql:3:20: note: PUPILS is empty: its LOAD at 2:18 was refused`, where it was; or of a table that has rows of one before, that it
+    /// lacks those of that LOAD.
     fn write_refused_load<W: fmt::Write>(
         &self,
         f: &mut Formatter<W>,
         place: LineColumn,
         table: usize,
     ) -> fmt::Result {
-        if let (Some(stored), Some(refused)) = (
+        let (Some(stored), Some(refused)) = (
             self.database.tables().get(table),
-            self.refused_load(table),
-        ) {
-            let LineColumn { line, column } = refused;
-            self.write_place(f, place)?;
-            let name = stored.name();
+            self.refused_loads.place(table),
+        ) else {
+            return Ok(());
+        };
+        let LineColumn { line, column } = refused;
+        let (name, rows) = (stored.name(), stored.len());
+        self.write_place(f, place)?;
+        if rows == 0 {
             writeln!(
                 f,
                 "{name} is empty: its LOAD at {line}:{column} was refused"
-            )?;
+            )
+        } else {
+            writeln!(
+                f,
+                "{name} has {rows} rows, and none of its LOAD at {line}:{column}, which was refused"
+            )
         }
-        Ok(())
     }
 }
 

@@ -1,4 +1,4 @@
-//! The tables whose LOAD was refused, so that a query over one that is empty can say why it is.
+//! The tables whose last LOAD was refused, so that a query over one can say what it lacks.
 
 use catalog::Database;
 use diagnostics::Cause;

@@ -1,7 +1,9 @@
 //! What could have stood where a script goes wrong.
 
-use crate::dialects::{begins_with_word, first_word, hint_for, is_one_of, last_word};
+use crate::dialects::hint_for;
 use crate::nearest::Nearest;
+use crate::seen::Seen;
+use crate::spelling::{begins_with_word, first_word, is_one_of, is_type};
 use lexer::{Symbol, TokenKind, Word};
 use messages_excerpts::Visible;
 use std::alloc::Global;
@@ -97,15 +99,14 @@ pub fn write_unexpected_hint<W: fmt::Write>(
     if let Some(hint) = hint_for(script, unexpected) {
         return writeln!(f, "hint: {hint}");
     }
+    let seen = Seen::new(script, unexpected);
     match unexpected.found {
-        Some(TokenKind::Reserved(word)) if wants_name(unexpected, word) => {
+        Some(TokenKind::Reserved(word)) if is_meant_as_name(&seen, word) => {
             let word = word.as_str();
             writeln!(f, "hint: {word} is a reserved word and can't be a name")
         }
-        Some(TokenKind::Name) => write_near_word(f, alloc, script, unexpected),
-        Some(TokenKind::Mark(Symbol::OpenParen)) => {
-            write_subquery_word(f, alloc, script, unexpected)
-        }
+        Some(TokenKind::Name) => write_near_word(f, alloc, &seen),
+        Some(TokenKind::Mark(Symbol::OpenParen)) => write_subquery_word(f, alloc, &seen),
         _ => Ok(()),
     }
 }
@@ -114,14 +115,12 @@ pub fn write_unexpected_hint<W: fmt::Write>(
 fn write_subquery_word<W: fmt::Write>(
     f: &mut Formatter<W>,
     alloc: Global,
-    script: &str,
-    unexpected: &Unexpected,
+    seen: &Seen,
 ) -> fmt::Result {
-    if !begins_with_word(text_behind(script, unexpected), "SELECT") {
+    if !begins_with_word(seen.rest, "SELECT") {
         return Ok(());
     }
-    let before = last_word(script.get(..unexpected.behind).unwrap_or(""));
-    let Ok(before) = before.to_ascii_uppercase(alloc) else {
+    let Ok(before) = seen.before.to_ascii_uppercase(alloc) else {
         return Ok(());
     };
     let mut nearest = Nearest::new(alloc, before.as_str());
@@ -130,36 +129,51 @@ fn write_subquery_word<W: fmt::Write>(
     nearest.write_hint(f)
 }
 
-/// Whether a name could have stood there and may have been meant: where a value is wanted, words that go on with a query are no names.
-fn wants_name(unexpected: &Unexpected, word: Word) -> bool {
-    let classes = unexpected.wanted.classes();
-    if classes.contains(&TokenClass::Value) {
-        return !goes_on(word);
-    }
-    classes.contains(&TokenClass::Name)
+/// Whether a reserved word stands where a name could, before what goes on behind a name. One that goes on with a condition is never meant so.
+fn is_meant_as_name(seen: &Seen, word: Word) -> bool {
+    let could_stand = seen.wants(TokenClass::Name) || seen.wants(TokenClass::Value);
+    could_stand && !is_of_condition(word) && goes_on_behind_name(seen)
 }
 
-/// Whether a word goes on with a query.
-fn goes_on(word: Word) -> bool {
+/// Whether a word stands in conditions or begins a query.
+fn is_of_condition(word: Word) -> bool {
     matches!(
         word,
-        Word::From
-            | Word::Where
-            | Word::Group
-            | Word::Having
-            | Word::Order
-            | Word::By
-            | Word::And
+        Word::And
             | Word::Or
+            | Word::Not
             | Word::As
             | Word::Is
             | Word::In
             | Word::Like
             | Word::Between
             | Word::Null
+            | Word::Exists
             | Word::Select
     )
 }
+
+/// Whether what stands behind a word is what goes on behind a name: a type, a sign, or a word of a clause or a condition. Behind the word of a type
+/// a sign says nothing, since the name before it may be missing.
+fn goes_on_behind_name(seen: &Seen) -> bool {
+    if is_type(seen.next()) {
+        return true;
+    }
+    if is_type(seen.found) {
+        return false;
+    }
+    match seen.next_sign() {
+        b',' | b')' | b';' | b'=' | b'<' | b'>' | b'*' | b'/' => true,
+        b'(' => seen.follows("TABLE") || seen.follows("ON"),
+        _ => is_one_of(seen.next(), &BEHIND_NAMES),
+    }
+}
+
+/// The words that go on behind names.
+static BEHIND_NAMES: [&str; 15] = [
+    "FROM", "WHERE", "GROUP", "HAVING", "ORDER", "AS", "ASC", "DESC", "IS", "IN", "LIKE",
+    "BETWEEN", "AND", "OR", "NOT",
+];
 
 /// The words that begin types.
 static TYPE_WORDS: [Word; 8] = [
@@ -189,17 +203,12 @@ static OPERATOR_WORDS: [Word; 5] = [Word::Is, Word::Not, Word::Between, Word::Li
 
 static QUANTIFIER_WORDS: [Word; 3] = [Word::All, Word::Any, Word::Some];
 
-fn write_near_word<W: fmt::Write>(
-    f: &mut Formatter<W>,
-    alloc: Global,
-    script: &str,
-    unexpected: &Unexpected,
-) -> fmt::Result {
-    let Ok(found) = token_text(script, unexpected).to_ascii_uppercase(alloc) else {
+fn write_near_word<W: fmt::Write>(f: &mut Formatter<W>, alloc: Global, seen: &Seen) -> fmt::Result {
+    let Ok(found) = seen.found.to_ascii_uppercase(alloc) else {
         return Ok(());
     };
     let mut nearest = Nearest::new(alloc, found.as_str());
-    for class in unexpected.wanted.classes() {
+    for class in seen.unexpected.wanted.classes() {
         match class {
             TokenClass::Word(word) => nearest.offer_word(word.as_str()),
             TokenClass::Type => offer(&mut nearest, &TYPE_WORDS),
@@ -209,20 +218,31 @@ fn write_near_word<W: fmt::Write>(
             _ => {}
         }
     }
-    if nearest.name().is_none() && is_behind_item(script, unexpected) {
+    if nearest.name().is_none() && is_behind_item(seen) {
+        return write_item_hint(f, alloc, seen);
+    }
+    nearest.write_hint(f)
+}
+
+/// Behind a result column: that a comma is missing; or that the column stands where DISTINCT was meant.
+fn write_item_hint<W: fmt::Write>(f: &mut Formatter<W>, alloc: Global, seen: &Seen) -> fmt::Result {
+    let Ok(before) = seen.before.to_ascii_uppercase(alloc) else {
+        return Ok(());
+    };
+    let mut nearest = Nearest::new(alloc, before.as_str());
+    if seen.earlier().eq_ignore_ascii_case("SELECT") {
+        nearest.offer_word(Word::Distinct.as_str());
+    }
+    if nearest.name().is_none() {
         return f.write_str("hint: a comma stands between two columns, and AS before a new name\n");
     }
     nearest.write_hint(f)
 }
 
 /// Whether a result column is whole before the name that stands there, and the list or the query goes on behind it.
-fn is_behind_item(script: &str, unexpected: &Unexpected) -> bool {
-    let wants_name = unexpected
-        .wanted
-        .classes()
-        .contains(&TokenClass::Word(Word::As));
-    let rest = text_behind(script, unexpected);
-    wants_name && (rest.trim_start().starts_with(",") || begins_from(rest))
+fn is_behind_item(seen: &Seen) -> bool {
+    let wants_name = seen.wants(TokenClass::Word(Word::As));
+    wants_name && (seen.next_sign() == b',' || begins_from(seen.rest))
 }
 
 /// Whether a text begins with FROM and a name.
@@ -240,12 +260,6 @@ fn offer(nearest: &mut Nearest, words: &[Word]) {
     for word in words {
         nearest.offer_word(word.as_str());
     }
-}
-
-/// What stands behind that token.
-fn text_behind<'a>(script: &'a str, unexpected: &Unexpected) -> &'a str {
-    let end = unexpected.offset.saturating_add(unexpected.length);
-    script.get(end..).unwrap_or("")
 }
 
 /// The token that stands at the place, as it is written.
