@@ -1,6 +1,6 @@
 # Sourced by the commands at the top: `sources NAME` gives the sum of all that a program of crates/ is built of, which are the sources
 # of its crate and of those below it, and their lines of crates.txt.
-root=$(cd "$(dirname "${BASH_SOURCE[0]}")/.." && pwd)
+root=$(cd "${BASH_SOURCE[0]%/*}/.." && pwd)
 
 # The lines of crates.txt of a crate and of those below it.
 crates_below() {
