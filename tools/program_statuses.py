@@ -40,6 +40,9 @@ Examples:
   sqlr run first.sql
   sqlr run - < first.sql
   sqlr check first.sql first.certificates
+
+Exit status: 0 well, 1 refused or an exception, 2 broken off, 3 a certificate refused
+To read on: docs/FIRST_STEPS.md, docs/LANGUAGE.md
 """
 
 PARTS = b"""OK

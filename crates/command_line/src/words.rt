@@ -17,8 +17,8 @@ use std::alloc::{AllocError, Global};
 const VERSION: &str = "0.2.0";
 
 /// What stands at the end of help.
-const EXAMPLES: &str =
-    "Examples:\n  sqlr run first.sql\n  sqlr run - < first.sql\n  sqlr check first.sql first.certificates";
+const AFTER_HELP: &str =
+    "Examples:\n  sqlr run first.sql\n  sqlr run - < first.sql\n  sqlr check first.sql first.certificates\n\nExit status: 0 well, 1 refused or an exception, 2 broken off, 3 a certificate refused\nTo read on: docs/FIRST_STEPS.md, docs/LANGUAGE.md";
 
 /// What the words of a command line ask for, the first of which is the program's name, as `clap`
 /// gives them to the command; or `clap`'s fault, exactly where the words have one, of its kind. Help and
@@ -191,7 +191,7 @@ fn command<'a>(alloc: Global) -> Result<Command<'a>, AllocError>
     let check = check_command(alloc)?;
     Command::new(alloc, "sqlr")
         .about("An engine for Entry SQL over tables in memory")
-        .after_help(EXAMPLES)
+        .after_help(AFTER_HELP)
         .version(VERSION)
         .subcommand_required(true)
         .subcommand(run)?
@@ -222,7 +222,7 @@ fn on_script<'a>(alloc: Global, name: &'a str, about: &'a str) -> Result<Command
 {
     Command::new(alloc, name)
         .about(about)
-        .after_help(EXAMPLES)
+        .after_help(AFTER_HELP)
         .arg(word(alloc, "SCRIPT").help("A file of SQL statements, or - for standard input"))
 }
 

@@ -5,7 +5,7 @@ use std::fs;
 use std::rt::Runtime;
 
 /// How much stack any script and any certificate is run and checked in, in KB (own): what the deepest take, as measured, and a
-/// third more.
+/// fifth more.
 const NEEDED: u64 = 512;
 
 /// Where the system says what a process may take, a line each: its name, and then the limit that stands.
