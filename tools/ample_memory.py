@@ -5,7 +5,7 @@ usage: ample_memory.py PROGRAM
 
 That want of memory is told only where memory was refused, no contract can say: a body that claims it falsely is seen by runs that have
 ample memory and are long enough. So each thing that grows is grown here: sums and averages, lists of distinct rows and of distinct values,
-sorts, groups, lists of IN, a join with a sort, a unique index, and a table printed whole. Numbers with digits behind the point are given to
+sorts by columns and by other values, groups, lists of IN, a join with a sort, a unique index, and a table printed whole. Numbers with digits behind the point are given to
 SQLite in their least units, and texts without padding. The status is 1 where an answer is another, or the script doesn't end well.
 """
 import pathlib
@@ -33,6 +33,7 @@ QUERIES = [
     ("SELECT G, COUNT(DISTINCT C) FROM T GROUP BY G HAVING COUNT(*) > 1", None, (0, 0)),
     ("SELECT K, C FROM T ORDER BY C DESC, K", None, (0, None)),
     ("SELECT V, K FROM T ORDER BY V, K DESC", None, (2, 0)),
+    ("SELECT V * 2 AS X, K FROM T ORDER BY X, K", None, (2, 0)),
     ("SELECT K FROM T WHERE K IN (SELECT W FROM U)", None, (0,)),
     ("SELECT T.K, W FROM T, U WHERE V = W", "SELECT T.K, W FROM T, U WHERE V = W * 100", (0, 0)),
     ("SELECT COUNT(*) FROM T, U WHERE T.K = U.W", None, (0,)),
