@@ -160,7 +160,8 @@ def without_comma(text, at, end, told):
     return [text[:place] + " " + text[place + 1 :]]
 
 
-def without_statement_end(text, at, end, told):
+def left_out(text, at, end, told):
+    """Without the token that stands there."""
     return [text[:at] + text[end:]]
 
 
@@ -221,17 +222,17 @@ REMEDIES = {
     r"the comma before it is one too many": without_comma,
     r'a ";" is missing before it.*': before(";"),
     r'a ";" ends each statement': lambda text, at, end, told: [text + ";"],
-    r"a single ; ends a statement": without_statement_end,
+    r"a single ; ends a statement": left_out,
     r"a comma stands between two columns.*": before(",", "AS"),
     r"the name of a table is missing before it": before("PUPILS"),
     r"the name of the table is missing.*": before("PUPILS"),
-    r"an index has no name of its own.*": without_statement_end,
+    r"an index has no name of its own.*": left_out,
     r"a column that is a key has NOT NULL before it": before("NOT NULL"),
-    r"equal is a single =": without_statement_end,
+    r"equal is a single =": left_out,
     r"ORDER BY takes the name of a result column or its number.*": other_key,
     r"GROUP BY takes the names of columns": other_group,
     r"a subquery has no ORDER BY": without_order,
-    r"DISTINCT stands right behind SELECT.*": without_statement_end,
+    r"DISTINCT stands right behind SELECT.*": left_out,
     r"DISTINCT leaves out rows that come again": instead("DISTINCT"),
     r"\* stands alone.*": written_list,
     r"there is no \.\* here.*": without_table,
@@ -239,12 +240,12 @@ REMEDIES = {
     r"a remark begins with --.*": without_remark,
     r"a quote within a text is written twice.*": doubled_quote,
     r"names stand without quotes.*|strings stand in straight.*": lambda text, at, end, told: [text.replace('"', ""), text.replace('"', "'")],
-    r"values may be missing where NOT NULL doesn't stand.*": without_statement_end,
+    r"values may be missing where NOT NULL doesn't stand.*": left_out,
     r"LOAD name FROM 'file' names its table without \w+": lambda text, at, end, told: [re.sub(r"LOAD (TABLE|INTO) ", "LOAD ", text)],
     r"the operators are \+ - \* and /": instead("*", "/"),
     r"LIKE takes a pattern in quotes.*": instead("'A%'"),
     r"a pattern stands in quotes.*": lambda text, at, end, told: [re.sub(r"LIKE +(\w*%\w*)", r"LIKE '\1'", text)],
-    r"the other name of a table stands behind it without AS": without_statement_end,
+    r"the other name of a table stands behind it without AS": left_out,
     r"INTEGER and SMALLINT take no number of digits": lambda text, at, end, told: [text[:at] + re.sub(r"^\([^)]*\)", "", text[at:])],
 }
 
