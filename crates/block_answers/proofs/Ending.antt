@@ -1,7 +1,7 @@
 -- What is told where composites are taken one after another, and at their end.
-use Rattle.std.proofs.Common.{◌≡◌, ◌∙◌, refl, sym, ap, subst, ℕ, List, [], ◌∷◌, ◌++◌, Bool, true, false, append_assoc, map}
-use Rattle.std.specs.Prelude.{get_or, not, Contains, Ok, Err}
-use Rattle.std.proofs.lemmas.List.Sorted.{IsPermutation-map}
+use Rattle.std.proofs.Common.{◌≡◌, ◌∙◌, refl, sym, ap, subst, ℕ, List, [], ◌∷◌, ◌++◌, Bool, true, false, append_assoc, map, arith}
+use Rattle.std.specs.Prelude.{get_or, not, ◌&&◌, Contains, IsPermutation, Ok, Err}
+use Rattle.std.proofs.lemmas.List.Sorted.{length_permutation, IsPermutation-map, IsPermutation-refl}
 use Rattle.std.specs.List.{AllByRecursion}
 use Rattle.std.proofs.lemmas.Grind.{flat_map-append}
 use Rattle.std.proofs.lemmas.List.{append-nil}
@@ -13,13 +13,13 @@ use Rattle.definitions.specs.Arithmetic.{Meaning, Is, Raises}
 use Rattle.definitions.specs.Printing.{table_text}
 use Rattle.definitions.specs.Queries.Answer.{block_answer, distinct_rows, is_grouped}
 use Rattle.definitions.specs.Queries.BoundBlock.{Block, OrderKey}
-use Rattle.definitions.specs.Queries.Evaluation.{Combination, column_values}
+use Rattle.definitions.specs.Queries.Evaluation.{Combination}
 use Rattle.definitions.specs.Queries.Combinations.{Context, raises_of_late}
 use Rattle.definitions.specs.Queries.Conjuncts.{late_conjuncts}
 use Rattle.definitions.specs.Queries.Outcomes.{Allowed, Exception, Rows}
 use Rattle.definitions_answers.specs.Plain.{kept_of, late_raises}
 use Rattle.definitions_answers.specs.PlainRows.{plain_row}
-use Rattle.definitions_answers.specs.Told.{TellsRows}
+use Rattle.definitions_answers.specs.Told.{values_asked, Tells}
 use Rattle.definitions_answers.specs.Shapes.{HasShapes, Shape}
 use Rattle.definitions_execution.specs.OfBlock.{combination_of}
 use Rattle.definitions_execution.specs.Stored.{Composite}
@@ -32,7 +32,7 @@ use Rattle.result_rows.proofs.Faults.{raised_weaker}
 use Rattle.block_answers.specs.BlockRows.{comes_in_order, comes_in_order_by, AreRowsBy, HasRowsOf, HaveTaken, MayRaiseBy, MayRaiseOn, TellsOf}
 use Rattle.block_answers.specs.Groups.{AreTyped}
 use Rattle.block_answers.specs.Ready.{AreReady}
-use Rattle.result_rows.specs.Stores.{keeping, kind_of, printing, AreToldAs, Holds, StoreKind}
+use Rattle.result_rows.specs.Stores.{keeping, kind_of, printing, AreAsked, AreToldAs, Holds, StoreKind}
 use Rattle.block_answers.specs.Telling.{context_with, names_of, MayTell}
 use Rattle.block_answers.specs.declared.block_rows.BlockRows.{BlockRows}
 use Rattle.result_rows.specs.declared.row_store.RowStore.{RowStore}
@@ -62,13 +62,26 @@ raised_among context b all done left rest c raise split is h =
     (Contains-append_right (late_raises context b done) (here ++ late_raises context b rest) raise (Contains-append_left here (late_raises context b rest) raise h))
 
 -- what may be told with rows is told without
-pub raise_is_told : (m : Meaning (List Row)) (keys : List OrderKey) (raise : arithmetic.Raise) → Allowed m keys (Exception raise) → TellsRows m (Err raise)
-raise_is_told (Is bag) keys raise h = absurd h
-raise_is_told (Raises r rs) keys raise h = h
+pub raise_is_told : (existence : Bool) (m : Meaning (List Row)) (keys : List OrderKey) (raise : arithmetic.Raise) → Allowed m keys (Exception raise) → Tells existence m (Err raise)
+raise_is_told existence (Is bag) keys raise h = absurd h
+raise_is_told existence (Raises r rs) keys raise h = h
 
-bag_is_told : (m : Meaning (List Row)) (rs : List Row) → Allowed m [] (Rows rs) → TellsRows m (Ok (column_values rs))
-bag_is_told (Is bag) rs h = IsPermutation-map (λ (row : Row). get_or row 0 Null) bag rs h.0
-bag_is_told (Raises r q) rs h = absurd h
+-- whether there are rows hangs neither on their order nor on repeats
+any_in_order : (xs ys : List Row) → IsPermutation xs ys → values_asked true xs ≡ values_asked true ys
+any_in_order [] [] h = refl
+any_in_order (x ∷ xs) (y ∷ ys) h = refl
+any_in_order [] (y ∷ ys) h = let e = length_permutation [] (y ∷ ys) h in absurd (omega (arith, e))
+any_in_order (x ∷ xs) [] h = let e = length_permutation (x ∷ xs) [] h in absurd (omega (arith, e))
+
+any_distinct : (distinct : Bool) (rs : List Row) → values_asked true (distinct_rows distinct rs) ≡ values_asked true rs
+any_distinct false rs = refl
+any_distinct true [] = refl
+any_distinct true (r ∷ rs) = refl
+
+bag_is_told : (existence distinct : Bool) (m : Meaning (List Row)) (rs : List Row) → Allowed m [] (Rows (distinct_rows distinct rs)) → Tells existence m (Ok (values_asked existence (distinct_rows (not existence && distinct) rs)))
+bag_is_told false distinct (Is bag) rs h = IsPermutation-map (λ (row : Row). get_or row 0 Null) bag (distinct_rows distinct rs) h.0
+bag_is_told true distinct (Is bag) rs h = subst (λ vs. IsPermutation (values_asked true bag) vs) (any_in_order bag (distinct_rows distinct rs) h.0 ∙ any_distinct distinct rs) (IsPermutation-refl (values_asked true bag))
+bag_is_told existence distinct (Raises r q) rs h = absurd h
 
 module _ (source : BlockSource) (outer : List Combination) (inner : ℕ → List Combination → Meaning (List Row)) (all : List Composite) (ready : AreReady source outer all) where
   abbrev context : Context
@@ -138,12 +151,12 @@ module _ (source : BlockSource) (outer : List Combination) (inner : ℕ → List
         let there : AreToldAs (not (comes_in_order b)) b.distinct b.order rs printed = rw (kind, by) at arranged in
         (printed, told_by have.quiet (is_grouped b) refl rs are (not (comes_in_order b)) printed (not_false (comes_in_order b)) there, is)
 
-    -- the first values of the rows, in any order
-    pub values_told : (store : RowStore) (values : List Value) → ((ks : List Combination) → AreTyped source outer ks → TellsOf source outer ks told → HasRowsOf source outer ks store) → kind_of store ≡ keeping b.distinct
-        → ((names : List (List ℕ)) (rs : List Row) (shapes : List Shape) → Holds store names rs → AllByRecursion (HasShapes shapes) rs → values ≡ column_values (distinct_rows (kind_of store).distinct rs))
-        → TellsRows (block_answer context b) (Ok values)
-    values_told store values has kind gives =
+    -- what is asked of the rows, in any order
+    pub values_told : (existence : Bool) (store : RowStore) (values : List Value) → ((ks : List Combination) → AreTyped source outer ks → TellsOf source outer ks told → HasRowsOf source outer ks store) → kind_of store ≡ keeping existence b.distinct
+        → ((names : List (List ℕ)) (rs : List Row) (shapes : List Shape) → Holds store names rs → AllByRecursion (HasShapes shapes) rs → AreAsked (kind_of store) rs values)
+        → Tells existence (block_answer context b) (Ok values)
+    values_told existence store values has kind gives =
         let (rs, are, held) = has cs are_typed have.told in
         let (shapes, shaped') = shaped_by have.quiet (is_grouped b) refl rs are in
-        let is : values ≡ column_values (distinct_rows b.distinct rs) = gives (names_of source) rs shapes held shaped' ∙ ap (λ (k : StoreKind). column_values (distinct_rows k.distinct rs)) kind in
-        subst (λ vs. TellsRows (block_answer context b) (Ok vs)) (sym is) (bag_is_told (block_answer context b) (distinct_rows b.distinct rs) (bag_by have.quiet (is_grouped b) refl rs are))
+        let is : values ≡ values_asked existence (distinct_rows (not existence && b.distinct) rs) = gives (names_of source) rs shapes held shaped' ∙ ap (λ (k : StoreKind). values_asked k.existence (distinct_rows k.distinct rs)) kind in
+        subst (λ vs. Tells existence (block_answer context b) (Ok vs)) (sym is) (bag_is_told existence b.distinct (block_answer context b) rs (bag_by have.quiet (is_grouped b) refl rs are))

@@ -44,15 +44,21 @@ impl<'s> BlockRows<'s> {
         BlockRows::new(alloc, block, store)
     }
 
-    /// Rows of which the first values are kept.
-    pub fn to_keep(alloc: Global, block: &'s Block) -> Result<BlockRows<'s>, AllocError>
+    /// Rows of which the first values are kept, or whether there is any, if that is all that is asked.
+    pub fn to_keep(
+        alloc: Global,
+        block: &'s Block,
+        existence: bool,
+    ) -> Result<BlockRows<'s>, AllocError>
         ensures told { IfOk result (λ rows. (source : Source) (outer : List Combination) →
             source.block ≡ block.now → TellsOf source outer [] rows) }
         ensures well { IfOk result (λ rows. (source : Source) (outer : List Combination) →
             source.block ≡ block.now → IsWellFor source outer rows) }
-        ensures kind { IfOk result (λ rows. kind_of (store_in rows) ≡ keeping (block_of block.now).distinct) }
+        ensures kind { IfOk result (λ rows. kind_of (store_in rows)
+            ≡ keeping existence (block_of block.now).distinct) }
     {
-        BlockRows::new(alloc, block, RowStore::to_keep(alloc, block.distinct))
+        let store = RowStore::to_keep(alloc, existence, block.distinct);
+        BlockRows::new(alloc, block, store)
     }
 
     /// Rows that go to a store, of which none has come.

@@ -8,14 +8,14 @@ ghost use Rattle.definitions.specs.Queries.Evaluation.{Combination};
 ghost use Rattle.definitions_execution.specs.OfBlock.{combination_of};
 ghost use Rattle.definitions_execution.specs.Stored as stored;
 ghost use Rattle.definitions_answers.specs.Taking.{Says};
-ghost use Rattle.definitions_answers.specs.Told.{TellsRows};
+ghost use Rattle.definitions_answers.specs.Told.{Tells};
 ghost use Rattle.query_tree.specs.Bound.{block_of};
 ghost use Rattle.scans.specs.Sources.{block_in, BlockSource as Source};
 ghost use Rattle.subqueries.specs.Found.{said_in};
 ghost use Rattle.subqueries.specs.Telling.{told_in};
 ghost use Rattle.block_answers.specs.BlockRows.{store_in, IsWellFor};
 ghost use Rattle.block_answers.specs.Groups.{seen, AreTyped};
-ghost use Rattle.block_answers.specs.KeptRows.{rows_in, TellsKept};
+ghost use Rattle.block_answers.specs.KeptRows.{asks_existence, rows_in, TellsKept};
 ghost use Rattle.block_answers.specs.Ready.{AreReady, CanAnswer};
 ghost use Rattle.result_rows.specs.Stores.{keeping, kind_of};
 ghost use Rattle.block_answers.specs.Telling.{context_with};
@@ -36,17 +36,18 @@ pub struct KeptRows<'s> {
 }
 
 impl<'s> KeptRows<'s> {
-    /// The rows of an inner block, of which no composite has come.
-    pub fn new(alloc: Global, block: &'s Block) -> Result<KeptRows<'s>, AllocError>
+    /// The rows of an inner block, of which no composite has come; all that is asked may be whether it has a row.
+    pub fn new(alloc: Global, block: &'s Block, existence: bool) -> Result<KeptRows<'s>, AllocError>
         ensures told { IfOk result (λ kept. (source : Source) (outer : List Combination)
             (inner : ℕ → List Combination → Meaning (List Row)) → source.block ≡ block.now →
             TellsKept source outer inner [] kept) }
         ensures well { IfOk result (λ kept. (source : Source) (outer : List Combination) →
             source.block ≡ block.now → IsWellFor source outer (rows_in kept)) }
-        ensures kind { IfOk result (λ kept. kind_of (store_in (rows_in kept)) ≡ keeping (block_of block.now).distinct) }
+        ensures kind { IfOk result (λ kept. kind_of (store_in (rows_in kept))
+            ≡ keeping existence (block_of block.now).distinct) }
     {
         Ok(KeptRows {
-            rows: BlockRows::to_keep(alloc, block)?,
+            rows: BlockRows::to_keep(alloc, block, existence)?,
             late: None,
         })
     }
@@ -98,12 +99,13 @@ impl<'s> KeptRows<'s> {
         requires block { block.now ≡ source.now.block }
         requires can { CanAnswer source.now (A.combinations around.now) }
         requires well { IsWellFor source.now (A.combinations around.now) (rows_in self) }
-        requires kind { kind_of (store_in (rows_in self)) ≡ keeping (block_in source.now).distinct }
+        requires kind { kind_of (store_in (rows_in self)) ≡ keeping (asks_existence self) (block_in source.now).distinct }
         ensures { IfOk result (λ told. (inner : ℕ → List Combination → Meaning (List Row))
             (all : List stored.Composite) → AreReady source.now (A.combinations around.now) all →
             TellsKept source.now (A.combinations around.now) inner
             (map (combination_of source.now.database (block_in source.now)) all) self.entry →
-            TellsRows (block_answer (context_with source.now (A.combinations around.now) inner) (block_in source.now))
+            Tells (asks_existence self.entry)
+            (block_answer (context_with source.now (A.combinations around.now) inner) (block_in source.now))
             (told_in told)) }
     {
         let KeptRows { rows, late } = self;

@@ -1,8 +1,8 @@
 -- What conditions see of subqueries.
-use Rattle.std.proofs.Common.{◌≡◌, refl, sym, ap, ap₂, ◌∙◌, subst, ℕ, List, [], ◌∷◌, Some, None, Option, Result, Ok, Err, map, arith, lit<}
-use Rattle.std.specs.Prelude.{get_or, Contains, IsPermutation}
+use Rattle.std.proofs.Common.{◌≡◌, ◌⊎◌, inl, inr, true, refl, sym, ap, ap₂, ◌∙◌, subst, ℕ, List, [], ◌∷◌, Some, None, Option, Result, Ok, Err, map, arith, lit<}
+use Rattle.std.specs.Prelude.{flat_map, get_or, Contains, IsPermutation}
 use Rattle.std.specs.List.{AllByRecursion}
-use Rattle.std.proofs.lemmas.List.Elements.{All-contains_itself, All-cons, All-nil}
+use Rattle.std.proofs.lemmas.List.Elements.{recursion_from_All, All-contains_itself, All-cons, All-nil}
 use Rattle.std.proofs.lemmas.List.Sorted.{All-permutation, length_permutation, IsPermutation-map}
 use Rattle.definitions.specs.Value.{Value, Null, is_null}
 use Rattle.definitions.specs.Table.{Row}
@@ -17,8 +17,9 @@ use Rattle.definitions.specs.Queries.Conjuncts.{member_values, values_of, values
 use Rattle.definitions.specs.Queries.Evaluation.{Environment, value, chained, truth, truths, member, in_order, only_value, column_values, quantified, operation, signed, and_then, and_then_two, on_one, on_two}
 use Rattle.definitions.specs.Queries.Telling.{StandsFor}
 use Rattle.definitions.proofs.QueryTheory.Lemmas.{order_says_nothing}
-use Rattle.definitions_answers.specs.Told.{TellsRows, meaning_told, ConditionsSeeWhatIsTold}
-use Rattle.definitions_answers.proofs.Elements.{all_first, all_flat, all_weaker}
+use Rattle.definitions_answers.specs.Seen.{compared_blocks, compared_blocks_of_parts, seen_blocks}
+use Rattle.definitions_answers.specs.Told.{Tells, TellsAsked, TellsRows, meaning_told, values_asked, ConditionsSeeWhatIsTold}
+use Rattle.definitions_answers.proofs.Elements.{all_both, all_first, all_flat, all_joined, all_weaker}
 
 abbrev Same : {X : Type 0} → X → X → Type 0
 Same x y = x ≡ y
@@ -62,6 +63,26 @@ told_stands (Is rows) (Ok values) h = subst (IsPermutation (column_values rows))
 told_stands (Is rows) (Err e) h = absurd h
 told_stands (Raises r rs) (Ok values) h = absurd h
 told_stands (Raises r rs) (Err e) h = All-cons (Contains (r ∷ rs)) e [] h (All-nil (Contains (r ∷ rs)))
+
+-- whether there is any
+abbrev AreAny : List Row → List Row → Type 0
+AreAny rows rows' = has_row rows ≡ has_row rows'
+
+any_first : (values : List Value) → has_row (map (λ v. v ∷ []) values) ≡ has_row values
+any_first [] = refl
+any_first (v ∷ vs) = refl
+
+any_asked : (rows : List Row) (values : List Value) → IsPermutation (values_asked true rows) values → has_row values ≡ has_row rows
+any_asked [] [] h = refl
+any_asked (row ∷ rows) (v ∷ vs) h = refl
+any_asked [] (v ∷ vs) h = let e = length_permutation [] (v ∷ vs) h in absurd (omega (arith, e))
+any_asked (row ∷ rows) [] h = let e = length_permutation (Null ∷ []) [] h in absurd (omega (arith, e))
+
+pub existence_stands : (m : Meaning (List Row)) (told : Result (List Value) Raise) → Tells true m told → StandsFor AreAny m (meaning_told told)
+existence_stands (Is rows) (Ok values) h = sym (any_first values ∙ any_asked rows values h)
+existence_stands (Is rows) (Err e) h = absurd h
+existence_stands (Raises r rs) (Ok values) h = absurd h
+existence_stands (Raises r rs) (Err e) h = All-cons (Contains (r ∷ rs)) e [] h (All-nil (Contains (r ∷ rs)))
 
 -- the only value, and whether there is any, by the first values
 abbrev only_of : List Value → Meaning Value
@@ -145,33 +166,92 @@ module _ (env : Environment) (inner : ℕ → Meaning (List Row)) where
       (value env e) (value other e) (on_one column_values (env.inner n)) (on_one column_values (inner n)) h
       (then_stands SameFirst IsPermutation (λ rows. Is (column_values rows)) (λ rows. Is (column_values rows)) (λ x y p. p) (env.inner n) (inner n) k)
 
+  -- a test of whether there are rows
+  abbrev StandsAny : ℕ → Type 0
+  StandsAny n = StandsFor AreAny (env.inner n) (inner n)
+
   mutual
-    truth_stands : (c : Condition) → AllByRecursion ValueStands (values_of c) → AllByRecursion Stands (tested_blocks c) → StandsFor Same (truth env c) (truth other c)
-    truth_stands (b.Compare op x y) h k = two_same (compared op) (value env x) (value other x) (value env y) (value other y) h.0 h.1.0
-    truth_stands (b.Quantified op q e n) h k = against_rows q op e n h.0 k.0
-    truth_stands (b.IsNull negated e) h k = one_same (λ v. unless negated (known (is_null v))) (value env e) (value other e) h.0
-    truth_stands (b.Between negated e low high) h k =
+    truth_stands : (c : Condition) → AllByRecursion ValueStands (values_of c) → AllByRecursion Stands (compared_blocks c) → AllByRecursion StandsAny (tested_blocks c) → StandsFor Same (truth env c) (truth other c)
+    truth_stands (b.Compare op x y) h k j = two_same (compared op) (value env x) (value other x) (value env y) (value other y) h.0 h.1.0
+    truth_stands (b.Quantified op q e n) h k j = against_rows q op e n h.0 k.0
+    truth_stands (b.IsNull negated e) h k j = one_same (λ v. unless negated (known (is_null v))) (value env e) (value other e) h.0
+    truth_stands (b.Between negated e low high) h k j =
         one_same (unless negated) _ _ (two_same and _ _ _ _
         (two_same (compared GreaterOrEquals) (value env e) (value other e) (value env low) (value other low) h.0 h.1.0)
         (two_same (compared LessOrEquals) (value env e) (value other e) (value env high) (value other high) h.0 h.1.1.0))
-    truth_stands (b.Like negated e pattern) h k = one_same (λ v. unless negated (like pattern v)) (value env e) (value other e) h.0
-    truth_stands (b.InList negated e members) h k = one_same (unless negated) _ _ (two_same (compared_with_any Equals) (value env e) (value other e) _ _ h.0 (members_stand members h.1))
-    truth_stands (b.InQuery negated e n) h k = one_same (unless negated) _ _ (against_rows s.Any Equals e n h.0 k.0)
-    truth_stands (b.Exists n) h k = then_stands SameFirst Same (λ rows. Is (has_row rows)) (λ rows. Is (has_row rows)) rows_stand (env.inner n) (inner n) k.0
-    truth_stands (b.Not c) h k = one_same opposite (truth env c) (truth other c) (truth_stands c h k)
-    truth_stands (b.And parts) h k = one_same all_true (truths env parts) (truths other parts) (truths_stand parts h k)
-    truth_stands (b.Or parts) h k = one_same any_true (truths env parts) (truths other parts) (truths_stand parts h k)
+    truth_stands (b.Like negated e pattern) h k j = one_same (λ v. unless negated (like pattern v)) (value env e) (value other e) h.0
+    truth_stands (b.InList negated e members) h k j = one_same (unless negated) _ _ (two_same (compared_with_any Equals) (value env e) (value other e) _ _ h.0 (members_stand members h.1))
+    truth_stands (b.InQuery negated e n) h k j = one_same (unless negated) _ _ (against_rows s.Any Equals e n h.0 k.0)
+    truth_stands (b.Exists n) h k j = then_stands AreAny Same (λ rows. Is (has_row rows)) (λ rows. Is (has_row rows)) (λ x y e. e) (env.inner n) (inner n) j.0
+    truth_stands (b.Not c) h k j = one_same opposite (truth env c) (truth other c) (truth_stands c h k j)
+    truth_stands (b.And parts) h k j = one_same all_true (truths env parts) (truths other parts) (truths_stand parts h k j)
+    truth_stands (b.Or parts) h k j = one_same any_true (truths env parts) (truths other parts) (truths_stand parts h k j)
 
-    truths_stand : (parts : Conditions) → AllByRecursion ValueStands (values_of_parts parts) → AllByRecursion Stands (tested_blocks_of_parts parts) → StandsFor Same (truths env parts) (truths other parts)
-    truths_stand b.NoPart h k = refl
-    truths_stand (b.Part part others) h k =
+    truths_stand : (parts : Conditions) → AllByRecursion ValueStands (values_of_parts parts) → AllByRecursion Stands (compared_blocks_of_parts parts) → AllByRecursion StandsAny (tested_blocks_of_parts parts) → StandsFor Same (truths env parts) (truths other parts)
+    truths_stand b.NoPart h k j = refl
+    truths_stand (b.Part part others) h k j =
         let w = all_first ValueStands (values_of part) (values_of_parts others) h in
-        let v = all_first Stands (tested_blocks part) (tested_blocks_of_parts others) k in
-        two_same ◌∷◌ (truth env part) (truth other part) (truths env others) (truths other others) (truth_stands part w.0 v.0) (truths_stand others w.1 v.1)
+        let v = all_first Stands (compared_blocks part) (compared_blocks_of_parts others) k in
+        let u = all_first StandsAny (tested_blocks part) (tested_blocks_of_parts others) j in
+        two_same ◌∷◌ (truth env part) (truth other part) (truths env others) (truths other others) (truth_stands part w.0 v.0 u.0) (truths_stand others w.1 v.1 u.1)
+
+-- ---- conditions
+
+-- what is so of all that a condition tests is so of all that it compares with
+mutual
+  compared_all : (P : ℕ → Type 0) (c : Condition) → AllByRecursion P (tested_blocks c) → AllByRecursion P (compared_blocks c)
+  compared_all P (b.Compare op x y) h = tt
+  compared_all P (b.Quantified op q e n) h = h
+  compared_all P (b.IsNull negated e) h = tt
+  compared_all P (b.Between negated e low high) h = tt
+  compared_all P (b.Like negated e pattern) h = tt
+  compared_all P (b.InList negated e members) h = tt
+  compared_all P (b.InQuery negated e n) h = h
+  compared_all P (b.Exists n) h = tt
+  compared_all P (b.Not c) h = compared_all P c h
+  compared_all P (b.And parts) h = compared_all_of_parts P parts h
+  compared_all P (b.Or parts) h = compared_all_of_parts P parts h
+
+  compared_all_of_parts : (P : ℕ → Type 0) (parts : Conditions) → AllByRecursion P (tested_blocks_of_parts parts) → AllByRecursion P (compared_blocks_of_parts parts)
+  compared_all_of_parts P b.NoPart h = tt
+  compared_all_of_parts P (b.Part part others) h =
+      let w = all_first P (tested_blocks part) (tested_blocks_of_parts others) h in
+      all_joined P (compared_blocks part) (compared_blocks_of_parts others) (compared_all P part w.0) (compared_all_of_parts P others w.1)
+
+module _ (env : Environment) (told : ℕ → Result (List Value) Raise) where
+  abbrev inner_told : ℕ → Meaning (List Row)
+  inner_told n = meaning_told (told n)
+
+  any_stands : (m n : Meaning (List Row)) → StandsFor SameFirst m n → StandsFor AreAny m n
+  any_stands (Is x) (Is y) h = rows_stand x y h
+  any_stands (Is x) (Raises r rs) h = absurd h
+  any_stands (Raises r rs) (Is y) h = absurd h
+  any_stands (Raises r rs) (Raises q qs) h = h
+
+  asked_any : (seen : List ℕ) (n : ℕ) → TellsAsked seen (env.inner n) (told n) n → StandsAny env inner_told n
+  asked_any seen n (inl h) = any_stands (env.inner n) (inner_told n) (told_stands (env.inner n) (told n) h)
+  asked_any seen n (inr (none, h)) = existence_stands (env.inner n) (told n) h
+
+  asked_seen : (seen : List ℕ) (n : ℕ) → Contains seen n → TellsAsked seen (env.inner n) (told n) n → Stands env inner_told n
+  asked_seen seen n there (inl h) = told_stands (env.inner n) (told n) h
+  asked_seen seen n there (inr (none, h)) = absurd (none there)
+
+  -- by a list that has all blocks whose values it sees
+  pub condition_sees : (seen : List ℕ) (c : Condition) → AllByRecursion (Contains seen) (seen_blocks c) → AllByRecursion (λ n. TellsAsked seen (env.inner n) (told n) n) (blocks_of c)
+      → StandsFor Same (truth env c) (truth (record env { inner = inner_told }) c)
+  condition_sees seen c there h =
+      let Asked : ℕ → Type 0 = λ n. TellsAsked seen (env.inner n) (told n) n in
+      let of_values : List ℕ = flat_map blocks_in (values_of c) in
+      let w = all_first Asked (tested_blocks c) of_values h in
+      let asked : AllByRecursion Asked (seen_blocks c) = all_joined Asked (compared_blocks c) of_values (compared_all Asked c w.0) w.1 in
+      let stand : AllByRecursion (Stands env inner_told) (seen_blocks c) = all_both (Contains seen) Asked (Stands env inner_told) (asked_seen seen) (seen_blocks c) there asked in
+      let v = all_first (Stands env inner_told) (compared_blocks c) of_values stand in
+      let values = all_weaker (λ e. AllByRecursion (Stands env inner_told) (blocks_in e)) (ValueStands env inner_told) (value_stands env inner_told) (values_of c) (all_flat (Stands env inner_told) blocks_in (values_of c) v.1) in
+      truth_stands env inner_told c values v.0 (all_weaker Asked (StandsAny env inner_told) (asked_any seen) (tested_blocks c) w.0)
+
+-- a list has all that it has
+pub all_listed : (ns : List ℕ) → AllByRecursion (Contains ns) ns
+all_listed ns = recursion_from_All (Contains ns) ns (All-contains_itself ns)
 
 pub conditions_see_what_is_told : ConditionsSeeWhatIsTold
-conditions_see_what_is_told env told c h =
-    let inner : ℕ → Meaning (List Row) = λ n. meaning_told (told n) in
-    let stands : AllByRecursion (Stands env inner) (blocks_of c) = all_weaker (λ n. TellsRows (env.inner n) (told n)) (Stands env inner) (λ n t. told_stands (env.inner n) (told n) t) (blocks_of c) h in
-    let w = all_first (Stands env inner) (tested_blocks c) _ stands in
-    truth_stands env inner c (all_weaker (λ e. AllByRecursion (Stands env inner) (blocks_in e)) (ValueStands env inner) (λ e k. value_stands env inner e k) (values_of c) (all_flat (Stands env inner) blocks_in (values_of c) w.1)) w.0
+conditions_see_what_is_told env told c h = condition_sees env told (seen_blocks c) c (all_listed (seen_blocks c)) h

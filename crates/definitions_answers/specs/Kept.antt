@@ -1,5 +1,6 @@
--- A result that is kept: what was told of a block where its parameters had these values, and its total there.
-use Rattle.std.specs.Prelude.{ℕ, ◌≡◌, List, Result}
+-- A result that is kept: what was told of a block where its parameters had these values, and its total there. Without
+-- them it is kept for nothing but to be told once.
+use Rattle.std.specs.Prelude.{ℕ, ◌≡◌, Bool, List, Option, Some, Result}
 use Rattle.definitions.specs.Value.{Value}
 use Rattle.definitions.specs.Table.{Database}
 use Rattle.definitions.specs.Arithmetic.{Raise}
@@ -10,10 +11,11 @@ use Rattle.definitions.specs.Queries.Answer.{meanings}
 use Rattle.definitions.specs.Estimates.Version.{Version}
 use Rattle.definitions_execution.specs.Total.{totals}
 use Rattle.definitions_answers.specs.Parameters.{outer_values, parameters}
-use Rattle.definitions_answers.specs.Told.{TellsRows}
+use Rattle.definitions_answers.specs.Told.{Tells}
 
 pub record Kept : Type 0 where
-  pub key : List Value
+  pub key : Option (List Value)
+  pub existence : Bool
   pub told : Result (List Value) Raise
   pub total : ℕ
 
@@ -21,15 +23,21 @@ module _ (version : Version) (db : Database) (blocks : Blocks) (plans : List Pla
   -- it is told of the block, and is its total, wherever its parameters have these values
   abbrev pub IsRight : Kept → Type 0
   IsRight kept =
-      (outer : List Combination) → outer_values outer (parameters blocks k) ≡ kept.key
-      → TellsRows (meanings db 0 blocks k outer) kept.told × (kept.total ≡ totals version db 0 blocks plans k outer)
+      (outer : List Combination) → kept.key ≡ Some (outer_values outer (parameters blocks k))
+      → Tells kept.existence (meanings db 0 blocks k outer) kept.told
+      × (kept.total ≡ totals version db 0 blocks plans k outer)
 
   -- what is told once, and counted once, is right there
   abbrev pub WhatIsToldOnceIsRight : Type 0
   WhatIsToldOnceIsRight =
-      (outer : List Combination) (told : Result (List Value) Raise) (total : ℕ)
-      → TellsRows (meanings db 0 blocks k outer) told → total ≡ totals version db 0 blocks plans k outer
-      → IsRight (record { key = outer_values outer (parameters blocks k); told = told; total = total })
+      (outer : List Combination) (existence : Bool) (told : Result (List Value) Raise) (total : ℕ)
+      → Tells existence (meanings db 0 blocks k outer) told → total ≡ totals version db 0 blocks plans k outer
+      → IsRight (record {
+        key = Some (outer_values outer (parameters blocks k));
+        existence = existence;
+        told = told;
+        total = total;
+      })
 
 abbrev pub KeptIsRight : Type 0
 KeptIsRight =

@@ -12,6 +12,7 @@ pub mod Formed
 pub mod Lines
 pub mod Parameters
 pub mod InnerTotals
+pub mod Seen
 pub mod Told
 pub mod Laws
 pub mod Steps

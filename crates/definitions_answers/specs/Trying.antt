@@ -12,7 +12,8 @@ use Rattle.definitions.specs.Queries.Answer.{meanings}
 use Rattle.definitions_execution.specs.Total.{subqueries}
 use Rattle.definitions_answers.specs.Steps.{context_among, context_alone}
 use Rattle.definitions_answers.specs.Taking.{Says}
-use Rattle.definitions_answers.specs.Told.{TellsRows, told_environment}
+use Rattle.definitions_answers.specs.Seen.{seen_subqueries}
+use Rattle.definitions_answers.specs.Told.{TellsAsked, told_environment}
 
 module _ (db : Database) (blocks : Blocks) (b : Block) (outer : List Combination) (c : Combination) (told : ℕ
     → Result (List Value) Raise) where
@@ -30,5 +31,5 @@ abbrev pub LateConjunctsSayWhatIsTold : Type 0
 LateConjunctsSayWhatIsTold =
     (db : Database) (blocks : Blocks) (b : Block) (outer : List Combination) (c : Combination) (told : ℕ
     → Result (List Value) Raise)
-    → AllByRecursion (λ n. TellsRows (meanings db 0 blocks n (c ∷ outer)) (told n)) (subqueries b)
+    → AllByRecursion (λ n. TellsAsked (seen_subqueries b) (meanings db 0 blocks n (c ∷ outer)) (told n) n) (subqueries b)
     → SaysWhatIsTold db blocks b outer c told

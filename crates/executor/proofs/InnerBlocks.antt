@@ -1,7 +1,10 @@
 -- Blocks within blocks: what is asked one after another stays told, and what was told serves the conditions around.
 use Rattle.std.proofs.Common.{◌≡◌, ◌∙◌, refl, sym, ap, subst, inl, inr, ℕ, zero, suc, ◌+◌, ◌<◌, ◌≤◌, List, [], ◌∷◌, Option, Some, None, length, map, set, take, get_or, arith, min}
-use Rattle.std.specs.Prelude.{◌⊎◌, slice_get, sum_by, Result, Ok, Err}
-use Rattle.std.specs.List.{AllByRecursion}
+use Rattle.std.specs.Prelude.{◌⊎◌, Bool, true, false, not, slice_get, sum_by, Contains, Result, Ok, Err}
+use Rattle.std.specs.List.{list_any, AllByRecursion}
+use Rattle.std.proofs.Common.{nat_eq, true≢false}
+use Rattle.std.proofs.lemmas.Bool.Decides.{nat_tests}
+use Rattle.std.proofs.lemmas.List.Folds.{list_any_at}
 use Rattle.std.proofs.lemmas.List.{length-set, take_more}
 use Rattle.std.proofs.lemmas.List.Sums.{sum_by-append, sum_by-cons}
 use Rattle.definitions.specs.Value.{Value, Null}
@@ -14,7 +17,7 @@ use Rattle.definitions.specs.Queries.Evaluation.{Combination, column_values}
 use Rattle.definitions.specs.Queries.Laws.{MeansRows}
 use Rattle.definitions.specs.Queries.Answer.{meanings}
 use Rattle.definitions_answers.specs.Kept.{IsRight, Kept}
-use Rattle.definitions_answers.specs.Told.{meaning_told, TellsRows}
+use Rattle.definitions_answers.specs.Told.{meaning_told, values_asked, Tells, TellsAsked}
 use Rattle.definitions_answers.proofs.Reordered.{reordered}
 use Rattle.definitions_answers.proofs.Taken.{all_arranged, all_joined}
 use Rattle.subqueries.specs.BlockText.{Rising}
@@ -119,12 +122,12 @@ module _ (query : List ReadyBlock) where
 
   -- ---- what was told stays told while blocks of no smaller numbers are asked
 
-  module _ (outer : List Combination) where
+  module _ (seen : List ℕ) (outer : List Combination) where
     abbrev Told : List KeptResults → ℕ → Type 0
-    Told results = IsToldLast query outer results
+    Told results = IsToldLast query seen outer results
 
     stays_one : (below n : ℕ) (results results' : List KeptResults) → AreLeft query below results results' → n < below → Told results n → Told results' n
-    stays_one below n results results' left h told = subst (TellsRows (meanings db 0 (blocks_in query) n outer)) (sym (left n h)) told
+    stays_one below n results results' left h told = subst (λ t. TellsAsked seen (meanings db 0 (blocks_in query) n outer) t n) (sym (left n h)) told
 
     pub stays_all : (j : ℕ) (ns : List ℕ) (results results' : List KeptResults) → AreLeft query j results results' → AllByRecursion (λ n. n ≤ j) ns → AllByRecursion (Told results) ns → Told results' j → AllByRecursion (Told results') ns
     stays_all j [] results results' left h told new = tt
@@ -177,11 +180,28 @@ rows_typed : (type : ValueType) (values : List Value) → AllByRecursion (HasVal
 rows_typed type [] h = tt
 rows_typed type (v ∷ vs) h = (h.0, rows_typed type vs h.1)
 
-pub told_typed : (type : ValueType) (m : Meaning (List Row)) (told : Result (List Value) Raise) → MeansRows type m → TellsRows m told → MeansRows type (meaning_told told)
-told_typed type (Is rows) (Ok values) h tells = rows_typed type values (all_arranged (HasValueType type) (column_values rows) values (reordered (column_values rows) values tells) (values_typed type rows h))
-told_typed type (Raises r rs) (Err e) h tells = tt
-told_typed type (Is rows) (Err e) h tells = absurd tells
-told_typed type (Raises r rs) (Ok values) h tells = absurd tells
+asked_typed : (existence : Bool) (type : ValueType) (rows : List Row) → AllByRecursion (λ (row : Row). HasValueType type (get_or row 0 Null)) rows → AllByRecursion (HasValueType type) (values_asked existence rows)
+asked_typed false type rows h = values_typed type rows h
+asked_typed true type [] h = tt
+asked_typed true type (row ∷ rows) h = (tt, tt)
+
+told_typed : (existence : Bool) (type : ValueType) (m : Meaning (List Row)) (told : Result (List Value) Raise) → MeansRows type m → Tells existence m told → MeansRows type (meaning_told told)
+told_typed existence type (Is rows) (Ok values) h tells = rows_typed type values (all_arranged (HasValueType type) (values_asked existence rows) values (reordered (values_asked existence rows) values tells) (asked_typed existence type rows h))
+told_typed existence type (Raises r rs) (Err e) h tells = tt
+told_typed existence type (Is rows) (Err e) h tells = absurd tells
+told_typed existence type (Raises r rs) (Ok values) h tells = absurd tells
+
+pub what_is_asked_typed : (seen : List ℕ) (type : ValueType) (m : Meaning (List Row)) (told : Result (List Value) Raise) (n : ℕ) → MeansRows type m → TellsAsked seen m told n → MeansRows type (meaning_told told)
+what_is_asked_typed seen type m told n h (inl tells) = told_typed false type m told h tells
+what_is_asked_typed seen type m told n h (inr (none, tells)) = told_typed true type m told h tells
+
+-- a block whose values aren't seen is asked whether it has a row
+not_among : (ns : List ℕ) (n : ℕ) → list_any (λ y. nat_eq y n) ns ≡ false → Contains ns n → ⊥
+not_among ns n none (k, within, there) = true≢false (sym (list_any_at (λ y. nat_eq y n) ns k n within (grind (arith, nat_tests, there))) ∙ none)
+
+pub as_much_as_asked : (seen : List ℕ) (m : Meaning (List Row)) (told : Result (List Value) Raise) (n : ℕ) (among : Bool) → among ≡ list_any (λ y. nat_eq y n) seen → Tells (not among) m told → TellsAsked seen m told n
+as_much_as_asked seen m told n true is tells = inl tells
+as_much_as_asked seen m told n false is tells = inr (not_among seen n (sym is), tells)
 
 -- ---- elements by their places
 

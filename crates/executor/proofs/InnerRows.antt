@@ -24,7 +24,7 @@ use Rattle.definitions_execution.specs.TypedCombinations.{AreTypedAround}
 use Rattle.definitions_answers.specs.Standing.{Stands}
 use Rattle.definitions_answers.specs.Steps.{context_alone, context_among, AsksBehind}
 use Rattle.definitions_answers.specs.Taking.{Says}
-use Rattle.definitions_answers.specs.Told.{TellsRows}
+use Rattle.definitions_answers.specs.Told.{Tells}
 use Rattle.definitions_answers.proofs.Standing.{standing_are_formed}
 use Rattle.definitions_answers.proofs.Steps.{formed_ask_behind, meaning_by_one_step, total_by_one_step}
 use Rattle.plan_tree.specs.Plans.{plan_of}
@@ -90,9 +90,9 @@ module _ (query : List ReadyBlock) (every : AreReady query) (number : ℕ) (r : 
       let (around, formed, typed) = standing_are_formed db blocks number b outer (block_at query every number r here) stands in
       formed_ask_behind db blocks around number b formed
 
-  pub means : (told : Result (List Value) a.Raise) → TellsRows (block_answer (context_with r.source outer (meanings_in query)) b) told → TellsRows (meanings db 0 blocks number outer) told
-  means told h =
-      subst (λ m. TellsRows m told)
+  pub means : (existence : Bool) (told : Result (List Value) a.Raise) → Tells existence (block_answer (context_with r.source outer (meanings_in query)) b) told → Tells existence (meanings db 0 blocks number outer) told
+  means existence told h =
+      subst (λ m. Tells existence m told)
       (ap (λ (d : Database). block_answer (record { database = d; outer = outer; inner = meanings_in query }) b) ready.database ∙ sym (meaning_by_one_step db blocks number b outer (block_at query every number r here) behind)) h
 
   -- rows that one more composite grows

@@ -23,6 +23,7 @@ use Rattle.definitions_execution.proofs.FormedNames.{OfValues, typed_conjuncts}
 use Rattle.definitions_execution.proofs.TypedRows.{composites_typed}
 use Rattle.definitions_answers.specs.Standing.{Stands, StandsInside}
 use Rattle.definitions_answers.specs.Steps.{context_among}
+use Rattle.definitions_answers.specs.Seen.{seen_subqueries}
 use Rattle.definitions_answers.specs.Told.{meaning_told}
 use Rattle.definitions_answers.specs.Taking.{Says}
 use Rattle.definitions_answers.specs.Trying.{tried_in, SaysWhatIsTold}
@@ -44,7 +45,7 @@ use Rattle.subqueries.specs.declared.kept_results.KeptResults.{KeptResults}
 use Rattle.block_answers.specs.OneComposite.{are_true_in, raised_in}
 use Rattle.executor.specs.ReadyBlocks.{blocks_in, database_in, AreReady, IsReady, IsToldLast}
 use Rattle.executor.specs.declared.ready_block.ReadyBlock.{ReadyBlock}
-use Rattle.executor.proofs.InnerBlocks.{told_typed}
+use Rattle.executor.proofs.InnerBlocks.{what_is_asked_typed}
 use Rattle.executor.proofs.ToldValues.{told_can}
 use Rattle.executor.proofs.TypedMeanings.{answer_typed}
 
@@ -135,9 +136,12 @@ module _ (query : List ReadyBlock) (all : AreReady query) where
     pub inside_listed : AllByRecursion (StandsInside db blocks number (c ∷ outer)) r.subqueries.items
     inside_listed = all_arranged (StandsInside db blocks number (c ∷ outer)) (subqueries b) r.subqueries.items (reordered (subqueries b) r.subqueries.items ready.asked) inside
 
-    module _ (results : List KeptResults) (listed : AllByRecursion (IsToldLast query (c ∷ outer) results) r.subqueries.items) where
-      told : AllByRecursion (IsToldLast query (c ∷ outer) results) (subqueries b)
-      told = all_arranged (IsToldLast query (c ∷ outer) results) r.subqueries.items (subqueries b) (reordered r.subqueries.items (subqueries b) (IsPermutation-sym (subqueries b) r.subqueries.items ready.asked)) listed
+    module _ (results : List KeptResults) (listed : AllByRecursion (IsToldLast query r.seen.items (c ∷ outer) results) r.subqueries.items) where
+      abbrev Told : ℕ → Type 0
+      Told = IsToldLast query (seen_subqueries b) (c ∷ outer) results
+
+      told : AllByRecursion Told (subqueries b)
+      told = all_arranged Told r.subqueries.items (subqueries b) (reordered r.subqueries.items (subqueries b) (IsPermutation-sym (subqueries b) r.subqueries.items ready.asked)) (subst (λ seen. AllByRecursion (IsToldLast query seen (c ∷ outer) results) r.subqueries.items) ready.seen listed)
 
       pub says : SaysWhatIsTold db blocks b outer c (told_by results)
       says = late_conjuncts_say db blocks b outer c (told_by results) told
@@ -145,15 +149,15 @@ module _ (query : List ReadyBlock) (all : AreReady query) where
       abbrev inner : ℕ → Meaning (List Row)
       inner = λ n. meaning_told (told_by results n)
 
-      typed_blocks : (ns : List ℕ) → AllByRecursion (λ n. IsToldLast query (c ∷ outer) results n × StandsInside db blocks number (c ∷ outer) n) ns
+      typed_blocks : (ns : List ℕ) → AllByRecursion (λ n. Told n × StandsInside db blocks number (c ∷ outer) n) ns
           → AllByRecursion (λ n. (type : ValueType) → column_type blocks n ≡ Some type → MeansRows type (inner n)) ns
       typed_blocks [] h = tt
       typed_blocks (n ∷ ns) h =
-          ((λ type column. told_typed type (meanings db 0 blocks n (c ∷ outer)) (told_by results n) (stands_typed n (c ∷ outer) type h.0.1.there h.0.1.stands column) h.0.0), typed_blocks ns h.1)
+          ((λ type column. what_is_asked_typed (seen_subqueries b) type (meanings db 0 blocks n (c ∷ outer)) (told_by results n) n (stands_typed n (c ∷ outer) type h.0.1.there h.0.1.stands column) h.0.0), typed_blocks ns h.1)
 
       pub late_can_evaluate : AllByRecursion (CanEvaluate (record { combination = c; outer = outer; functions = []; inner = inner })) (late_conjuncts b)
       late_can_evaluate =
           let (around, formed, typed) = standing_are_formed db blocks number b outer (block_at number r here) stands in
           told_can db b outer valid blocks around number typed c own inner (late_conjuncts b)
           (all_filtered (OfValues (IsTypedValue db blocks around number b)) is_late (conjuncts b) (typed_conjuncts db blocks around number b formed))
-          (typed_blocks (subqueries b) (both_of (IsToldLast query (c ∷ outer) results) (StandsInside db blocks number (c ∷ outer)) (subqueries b) told inside))
+          (typed_blocks (subqueries b) (both_of Told (StandsInside db blocks number (c ∷ outer)) (subqueries b) told inside))

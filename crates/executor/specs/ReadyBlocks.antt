@@ -19,7 +19,8 @@ use Rattle.definitions_execution.specs.Total as total
 use Rattle.definitions_execution.specs.Total.{subqueries}
 use Rattle.definitions_answers.specs.Kept.{IsRight}
 use Rattle.definitions_answers.specs.Parameters.{parameters}
-use Rattle.definitions_answers.specs.Told.{TellsRows}
+use Rattle.definitions_answers.specs.Seen.{seen_subqueries}
+use Rattle.definitions_answers.specs.Told.{TellsAsked}
 use Rattle.plan_tree.specs.Plans.{plan_of}
 use Rattle.plan_space.specs.Planned.{space_in}
 use Rattle.scans.specs.Sources.{block_in}
@@ -52,6 +53,7 @@ pub record IsReadyIn (db : Database) (blocks : Blocks) (number : ℕ) (r : Ready
   pub late : conditions_of r.late.items ≡ late_conjuncts (block_in r.source)
   pub asked : IsPermutation (subqueries (block_in r.source)) r.subqueries.items
   pub rising : Rising r.subqueries.items
+  pub seen : r.seen.items ≡ seen_subqueries (block_in r.source)
   pub parameters : outer_columns_of r.parameters.items ≡ parameters blocks number
 
 abbrev pub IsReady : List ReadyBlock → ℕ → ReadyBlock → Type 0
@@ -69,16 +71,20 @@ abbrev pub subqueries_of : Option ReadyBlock → List ℕ
 subqueries_of None = []
 subqueries_of (Some r) = r.subqueries.items
 
+abbrev pub seen_of : Option ReadyBlock → List ℕ
+seen_of None = []
+seen_of (Some r) = r.seen.items
+
 module _ (query : List ReadyBlock) where
   -- the total of a block in rows of the blocks around it
   abbrev pub total_at : List Combination → ℕ → ℕ
   total_at outer number =
       total.totals current_version (database_in query) 0 (blocks_in query) (plans_in query) number outer
 
-  -- what was told last of a block is what it may tell there
-  abbrev pub IsToldLast : List Combination → List KeptResults → ℕ → Type 0
-  IsToldLast outer results number =
-      TellsRows (meanings (database_in query) 0 (blocks_in query) number outer) (told_by results number)
+  -- what was told last of a block is what it may tell there to those who see the values of these blocks alone
+  abbrev pub IsToldLast : (seen : List ℕ) → List Combination → List KeptResults → ℕ → Type 0
+  IsToldLast seen outer results number =
+      TellsAsked seen (meanings (database_in query) 0 (blocks_in query) number outer) (told_by results number) number
 
   -- results that are kept are right wherever the parameters have their values, and there is a list of them for each
   -- block
@@ -98,6 +104,10 @@ module _ (query : List ReadyBlock) where
   -- the blocks that its late conjuncts ask for, as code goes through them
   abbrev pub subqueries_at : ℕ → List ℕ
   subqueries_at number = subqueries_of (slice_get query number)
+
+  -- those whose values they see
+  abbrev pub seen_at : ℕ → List ℕ
+  seen_at number = seen_of (slice_get query number)
 
   -- what all blocks mean
   abbrev pub meanings_in : ℕ → List Combination → Meaning (List Row)

@@ -7,7 +7,7 @@ ghost use Rattle.definitions.specs.Queries.Answer.{meanings};
 ghost use Rattle.definitions_answers.specs.Standing.{Stands, StandsInside};
 ghost use Rattle.definitions_answers.specs.Steps.{context_among};
 ghost use Rattle.definitions_answers.specs.Taking.{Says};
-ghost use Rattle.definitions_answers.specs.Told.{TellsRows};
+ghost use Rattle.definitions_answers.specs.Told.{Tells};
 ghost use Rattle.definitions.specs.Queries.Combinations.{at};
 ghost use Rattle.definitions_answers.specs.Told.{told_environment};
 ghost use Rattle.scans.specs.Asks.{CanEvaluate};
@@ -20,7 +20,7 @@ ghost use Rattle.subqueries.specs.Found.{said_in};
 ghost use Rattle.subqueries.specs.Framed.{combination_in, combinations_in};
 ghost use Rattle.subqueries.specs.Telling.{told_in};
 ghost use Rattle.definitions_execution.specs.Total.{subqueries};
-ghost use Rattle.executor.specs.ReadyBlocks.{blocks_in, database_in, subqueries_at, total_at, AreLeft, AreReady, AreRight, IsToldLast, OfBlock};
+ghost use Rattle.executor.specs.ReadyBlocks.{blocks_in, database_in, seen_at, subqueries_at, total_at, AreLeft, AreReady, AreRight, IsToldLast, OfBlock};
 
 use crate::ready_block::ReadyBlock;
 use crate::running::run_plan;
@@ -32,13 +32,15 @@ use sqlvalue::Raise;
 use std::alloc::{AllocError, Global};
 use subqueries::{Frames, KeptResults, Late, Told, WorkWatch, bound_memory, key_of};
 
-/// Has a block told what it may tell in the rows of the blocks around it, which is then what it told last, and gives its
-/// total there. A result that is kept for the values of its parameters is told again (Selinger et al. 1979, section 6).
+/// Has a block told what it may tell in the rows of the blocks around it, or whether it has a row, if that is all that is asked, which
+/// is then what it told last, and gives its total there. A result that is kept for the values of its parameters is told again
+/// (Selinger et al. 1979, section 6).
 #[cycle(nested)]
 pub(crate) fn ask_block<'s, W: WorkWatch>(
     alloc: Global,
     query: &'s [ReadyBlock<'_>],
     number: usize,
+    existence: bool,
     frames: &mut Frames<'s, W>,
     results: &mut [KeptResults],
 ) -> Result<u64, AllocError>
@@ -46,19 +48,20 @@ pub(crate) fn ask_block<'s, W: WorkWatch>(
     requires number { number < length query.now }
     requires stands { Stands (database_in query.now) (blocks_in query.now) number (combinations_in frames.old) }
     requires right { AreRight query.now results.old }
-    ensures told { OnOk result (IsToldLast query.now (combinations_in frames.old) results.new number) }
+    ensures told { OnOk result (Tells existence (meanings (database_in query.now) 0 (blocks_in query.now) number
+        (combinations_in frames.old)) (told_by results.new number)) }
     ensures total { IfOk result (λ total. total ≡ total_at query.now (combinations_in frames.old) number) }
     ensures right { OnOk result (AreRight query.now results.new) }
     ensures left { OnOk result (AreLeft query.now number results.old results.new) }
     ensures frames { OnOk result (combinations_in frames.new ≡ combinations_in frames.old) }
 {
     let parameters = &query[number].parameters;
-    if let Some(total) = results[number].find(parameters, &*frames) {
+    if let Some(total) = results[number].find(existence, parameters, &*frames) {
         return Ok(total);
     }
-    let (told, total) = evaluate_block(alloc, query, number, frames, results)?;
-    let key = key_of(alloc, parameters, &*frames, results)?;
-    results[number].keep(key, told, total);
+    let (told, total) = evaluate_block(alloc, query, number, existence, frames, results)?;
+    let key = key_of(alloc, parameters, &*frames, results);
+    results[number].keep(key, existence, told, total);
     bound_memory(results);
     Ok(total)
 }
@@ -72,6 +75,7 @@ fn evaluate_block<'s, W: WorkWatch>(
     alloc: Global,
     query: &'s [ReadyBlock<'_>],
     number: usize,
+    existence: bool,
     frames: &mut Frames<'s, W>,
     results: &mut [KeptResults],
 ) -> Result<(Told, u64), AllocError>
@@ -79,7 +83,7 @@ fn evaluate_block<'s, W: WorkWatch>(
     requires number { number < length query.now }
     requires stands { Stands (database_in query.now) (blocks_in query.now) number (combinations_in frames.old) }
     requires right { AreRight query.now results.old }
-    ensures told { IfOk result (λ r. TellsRows (meanings (database_in query.now) 0 (blocks_in query.now) number
+    ensures told { IfOk result (λ r. Tells existence (meanings (database_in query.now) 0 (blocks_in query.now) number
         (combinations_in frames.old)) (told_in r.0)) }
     ensures total { IfOk result (λ r. r.1 ≡ total_at query.now (combinations_in frames.old) number) }
     ensures right { OnOk result (AreRight query.now results.new) }
@@ -94,7 +98,7 @@ fn evaluate_block<'s, W: WorkWatch>(
         &ready.plan,
         &*frames,
     )?;
-    let mut rows = KeptRows::new(alloc, ready.block)?;
+    let mut rows = KeptRows::new(alloc, ready.block, existence)?;
     let mut inner = 0;
     'composites: while let Some(composite) = pipeline.next(&*frames) {
         let (late, work) = try_late(alloc, query, number, &composite, frames, results)?;
@@ -149,7 +153,7 @@ pub(crate) fn try_late<'s, W: WorkWatch>(
 }
 
 /// Asks each block that a block's late conjuncts ask for, at the combination of it that was entered last, and gives the
-/// sum of their totals.
+/// sum of their totals. Where they don't see its values, no more is asked than whether it has a row (ISO/IEC 9075:1992, 8.9).
 #[cycle(nested)]
 fn ask_subqueries<'s, W: WorkWatch>(
     alloc: Global,
@@ -163,17 +167,19 @@ fn ask_subqueries<'s, W: WorkWatch>(
     requires inside { AllByRecursion (StandsInside (database_in query.now) (blocks_in query.now) number
         (combinations_in frames.old)) (subqueries_at query.now number) }
     requires right { AreRight query.now results.old }
-    ensures told { OnOk result (AllByRecursion (IsToldLast query.now (combinations_in frames.old) results.new)
-        (subqueries_at query.now number)) }
+    ensures told { OnOk result (AllByRecursion (IsToldLast query.now (seen_at query.now number)
+        (combinations_in frames.old) results.new) (subqueries_at query.now number)) }
     ensures total { IfOk result (λ work. work ≡ saturated (sum_by (total_at query.now (combinations_in frames.old))
         (subqueries_at query.now number))) }
     ensures right { OnOk result (AreRight query.now results.new) }
     ensures left { OnOk result (AreLeft query.now (number + 1) results.old results.new) }
     ensures frames { OnOk result (combinations_in frames.new ≡ combinations_in frames.old) }
 {
+    let ready = &query[number];
     let mut work = 0;
-    'blocks: for block in &query[number].subqueries {
-        let own = ask_block(alloc, query, *block, frames, results)?;
+    'blocks: for block in &ready.subqueries {
+        let existence = !ready.sees(*block);
+        let own = ask_block(alloc, query, *block, existence, frames, results)?;
         work = sum_of(work, own);
     }
     Ok(work)

@@ -1,7 +1,7 @@
 //! Blocks of a statement that are ready to be evaluated.
 
-ghost use Rattle.std.specs.Prelude.{◌≡◌, ℕ, IfOk, Some, map, slice_get};
-ghost use Rattle.std.specs.List.{AllByRecursion};
+ghost use Rattle.std.specs.Prelude.{◌≡◌, ℕ, IfOk, Some, map, nat_eq, slice_get};
+ghost use Rattle.std.specs.List.{list_any, AllByRecursion};
 ghost use Rattle.definitions.specs.Binding.Answerable.{IsAnswerable};
 ghost use Rattle.definitions.specs.Binding.Formed.{IsFormedSomewhere};
 ghost use Rattle.definitions.specs.Estimates.BlockSpace.{space_of};
@@ -25,10 +25,10 @@ use plan_tree::Plan;
 use query_tree::{Block, Condition};
 use scans::BlockSource;
 use std::alloc::{AllocError, Global};
-use subqueries::{OuterColumn, block_parameters, blocks_asked};
+use subqueries::{OuterColumn, block_parameters, blocks_asked, blocks_seen};
 
-/// A block with a plan of its space, its late conjuncts, the blocks that these ask for, in rising order, and its parameters:
-/// all that is made of it once, however often it is evaluated (own).
+/// A block with a plan of its space, its late conjuncts, the blocks that these ask for, in rising order, those of which they see the
+/// values, and its parameters: all that is made of it once, however often it is evaluated (own).
 #[derive(Drop)]
 pub struct ReadyBlock<'s> {
     pub source: BlockSource<'s>,
@@ -37,6 +37,7 @@ pub struct ReadyBlock<'s> {
     pub plan: Plan,
     pub late: Vec<&'s Condition>,
     pub subqueries: Vec<usize>,
+    pub seen: Vec<usize>,
     pub parameters: Vec<OuterColumn>,
 }
 
@@ -66,6 +67,7 @@ impl<'s> ReadyBlock<'s> {
         let source = BlockSource::new(alloc, database, block)?;
         let late = late_conditions(alloc, block)?;
         let subqueries = blocks_asked(alloc, &late)?;
+        let seen = blocks_seen(alloc, &late)?;
         let mut own = Vec::new(alloc);
         own.extend_from_slice(parameters)?;
         Ok(ReadyBlock {
@@ -75,8 +77,18 @@ impl<'s> ReadyBlock<'s> {
             plan,
             late,
             subqueries,
+            seen,
             parameters: own,
         })
+    }
+}
+
+impl ReadyBlock<'_> {
+    /// Whether its late conjuncts see the values of the block of a number.
+    pub fn sees(&self, number: usize) -> bool
+        ensures { result ≡ list_any (λ n. nat_eq n number) self.now.seen.items }
+    {
+        self.seen.contains(&number)
     }
 }
 

@@ -1,5 +1,5 @@
 -- What is kept of the rows of an answer, and what is printed of them at their end.
-use Rattle.std.specs.Prelude.{ℕ, ◌≡◌, ◌++◌, Bool, is_some, List, IsPermutation, IsSorted, IfSome, flat_map, length, map}
+use Rattle.std.specs.Prelude.{ℕ, ◌≡◌, ◌++◌, Bool, true, is_some, List, IsPermutation, IsSorted, IfSome, flat_map, length, map}
 use Rattle.std.specs.List.{AllByRecursion}
 use Rattle.definitions.specs.Table.{Row}
 use Rattle.definitions.specs.Printing.{fields_line, row_line}
@@ -9,11 +9,13 @@ use Rattle.definitions.specs.Queries.Evaluation.{column_values}
 use Rattle.definitions.specs.Lists.{without_repeats}
 use Rattle.definitions.specs.Queries.Grouping.{same_values}
 use Rattle.definitions.specs.Queries.Outcomes.{row_order}
+use Rattle.definitions_answers.specs.Told.{values_asked}
 use Rattle.definitions_answers.specs.Lines.{IsInBounds}
 use Rattle.definitions_answers.specs.Shapes.{Shape, HasShapes}
 use Rattle.sqlvalue.specs.Owned.{owned_value}
 use Rattle.result_rows.specs.Lines.{lines_of}
 use Rattle.result_rows.specs.Rows.{rows_of}
+use Rattle.result_rows.specs.declared.any_row.AnyRow.{AnyRow}
 use Rattle.result_rows.specs.declared.lines.DistinctLines.{DistinctLines}
 use Rattle.result_rows.specs.declared.printed_rows.PrintedRows.{PrintedRows}
 use Rattle.result_rows.specs.declared.distinct_rows.DistinctRows.{DistinctRows}
@@ -48,6 +50,10 @@ pub record HasFirstValues (rows : List Row) (f : FirstValueRows) : Type 0 where
   pub kept : (shapes : List Shape) → AllByRecursion (HasShapes shapes) rows
       → map owned_value f.values.items ≡ column_values (distinct_rows (is_some f.seen) rows)
   pub seen : IfSome f.seen (AreLinesOf rows)
+
+-- whether there is any
+abbrev pub HasAnyRow : List Row → AnyRow → Type 0
+HasAnyRow rows a = map owned_value a.values.items ≡ values_asked true rows
 
 -- rows are arranged by the keys
 pub record AreArranged (distinct : Bool) (keys : List OrderKey) (rows printed : List Row) : Type 0 where

@@ -1,13 +1,15 @@
 -- The rows of an answer, as far as they have come, and any of the stores where they are.
-use Rattle.std.specs.Prelude.{ℕ, ◌≡◌, Bool, true, false, is_some, List, [], ◌∷◌, ◌++◌, Option, Some, None, Contains}
+use Rattle.std.specs.Prelude.{ℕ, ◌≡◌, ◌&&◌, not, Bool, true, false, is_some, List, [], ◌∷◌, ◌++◌, Option, Some, None, Contains}
 use Rattle.definitions.specs.Table.{Row}
+use Rattle.definitions.specs.Value.{Value}
 use Rattle.definitions.specs.Arithmetic as arithmetic
 use Rattle.definitions.specs.Queries.BoundBlock.{Item, OrderKey}
 use Rattle.definitions.specs.Queries.Evaluation.{Environment}
 use Rattle.definitions.specs.Queries.Answer.{distinct_rows}
+use Rattle.definitions_answers.specs.Told.{values_asked}
 use Rattle.sqlvalue.specs.Raises.{raise_of}
 use Rattle.sqlvalue.specs.declared.raise.Raise.{Raise}
-use Rattle.result_rows.specs.ResultRows.{AreArranged, HasDistinct, HasFirstValues, HasOrdered, HasPrinted}
+use Rattle.result_rows.specs.ResultRows.{AreArranged, HasAnyRow, HasDistinct, HasFirstValues, HasOrdered, HasPrinted}
 use Rattle.result_rows.specs.RowAt.{row_in, row_raises_in}
 use Rattle.result_rows.specs.declared.result_rows.ResultRows.{ResultRows}
 use Rattle.result_rows.specs.declared.row_store.RowStore.{RowStore}
@@ -18,25 +20,37 @@ Holds (store.Printed p) names rows = HasPrinted names rows p
 Holds (store.Distinct d) names rows = HasDistinct names rows d
 Holds (store.Ordered o) names rows = HasOrdered names rows o
 Holds (store.FirstValues f) names rows = HasFirstValues rows f
+Holds (store.Existence a) names rows = HasAnyRow rows a
 
 -- whether rows are printed at their end, or their first values handed out; whether in the order of keys; whether
--- repeats are left out
+-- repeats are left out; whether no more is asked than if there are any, so that repeats don't matter
 pub record StoreKind : Type 0 where
   pub prints : Bool
   pub in_order : Bool
   pub distinct : Bool
+  pub existence : Bool
 
 abbrev pub printing : (in_order distinct : Bool) → StoreKind
-printing in_order distinct = record { prints = true; in_order = in_order; distinct = distinct }
+printing in_order distinct = record { prints = true; in_order = in_order; distinct = distinct; existence = false }
 
-abbrev pub keeping : (distinct : Bool) → StoreKind
-keeping distinct = record { prints = false; in_order = false; distinct = distinct }
+abbrev pub keeping : (existence distinct : Bool) → StoreKind
+keeping existence distinct = record {
+  prints = false;
+  in_order = false;
+  distinct = not existence && distinct;
+  existence = existence;
+}
 
 abbrev pub kind_of : RowStore → StoreKind
 kind_of (store.Printed p) = printing false false
 kind_of (store.Distinct d) = printing false true
 kind_of (store.Ordered o) = printing true (is_some o.seen)
-kind_of (store.FirstValues f) = keeping (is_some f.seen)
+kind_of (store.FirstValues f) = keeping false (is_some f.seen)
+kind_of (store.Existence a) = keeping true false
+
+-- values are what is asked of rows, under DISTINCT of each once
+abbrev pub AreAsked : StoreKind → List Row → List Value → Type 0
+AreAsked kind rows values = values ≡ values_asked kind.existence (distinct_rows kind.distinct rows)
 
 -- rows are told as they came, or in the order of keys; under DISTINCT each once
 abbrev pub AreToldAs : (in_order distinct : Bool) → List OrderKey → List Row → List Row → Type 0

@@ -1,10 +1,11 @@
 //! The rows of an answer, and what is kept of them until their end: lines that are printed as rows come, once each or in order, or
-//! the first value of each.
+//! the first value of each, or whether there is any.
 //!
-//! In reading order: `fault`; `row`, the values of a row, and `lines`, each once; `printed_rows`, `distinct_rows`, `ordered_rows` and
-//! `first_value_rows`, what is kept; `row_store`, any of them; `result_rows`, rows until one raises.
+//! In reading order: `fault`; `row`, the values of a row, and `lines`, each once; `printed_rows`, `distinct_rows`, `ordered_rows`,
+//! `first_value_rows` and `any_row`, what is kept; `row_store`, any of them; `result_rows`, rows until one raises.
 #![tactic(auto)]
 
+mod any_row;
 mod distinct_rows;
 mod fault;
 mod first_value_rows;
@@ -16,6 +17,7 @@ mod result_rows;
 mod row;
 mod row_store;
 
+pub use any_row::AnyRow;
 pub use distinct_rows::DistinctRows;
 pub use fault::AnswerFault;
 pub use first_value_rows::FirstValueRows;

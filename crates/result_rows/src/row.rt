@@ -103,6 +103,19 @@ pub(crate) fn keep_first<S: Environment>(
     Ok(first)
 }
 
+/// Evaluates the result columns, and keeps nothing; or tells the first exception that one of them raises.
+pub(crate) fn evaluate_row<S: Environment>(items: &[Item], env: &S) -> Result<(), AnswerFault>
+    requires { AllByRecursion (CanGive (S.environment env.now)) (items_of items.now) }
+    ensures quiet { OnOk result (row_raises_in (S.environment env.now) (items_of items.now) ≡ []) }
+    ensures raised { IfErr result (λ fault. IfRaised fault
+        (Contains (row_raises_in (S.environment env.now) (items_of items.now)))) }
+{
+    'items: for (i, item) in items.iter().enumerate() {
+        let _value = value(&item.value, env)?;
+    }
+    Ok(())
+}
+
 /// A row that was kept, as it is printed.
 pub(crate) fn write_kept(out: &mut Vec<u8>, row: &ResultRow) -> Result<(), AllocError>
     ensures { OnOk result (out.new.items ≡ out.old.items ++ row_line (row_of row.now)) }

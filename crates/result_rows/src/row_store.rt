@@ -4,16 +4,15 @@ ghost use Rattle.std.specs.Prelude.{◌≡◌, ◌++◌, ◌∷◌, [], Contains
 ghost use Rattle.std.specs.List.{AllByRecursion};
 ghost use Rattle.definitions.specs.Table.{Row};
 ghost use Rattle.definitions.specs.Printing.{table_text};
-ghost use Rattle.definitions.specs.Queries.Answer.{distinct_rows};
 ghost use Rattle.definitions.specs.Queries.BoundBlock as b;
-ghost use Rattle.definitions.specs.Queries.Evaluation.{column_values};
 ghost use Rattle.sqlvalue.specs.Owned.{owned_value};
 ghost use Rattle.definitions_answers.specs.Shapes.{HasShapes, Shape};
 ghost use Rattle.query_tree.specs.Bound.{key_of};
 ghost use Rattle.result_rows.specs.Faults.{IfRaised};
 ghost use Rattle.result_rows.specs.RowAt.{items_of, row_in, row_raises_in, CanGive};
-ghost use Rattle.result_rows.specs.Stores.{keeping, kind_of, printing, AreToldAs, Holds};
+ghost use Rattle.result_rows.specs.Stores.{keeping, kind_of, printing, AreAsked, AreToldAs, Holds};
 
+use crate::any_row::AnyRow;
 use crate::distinct_rows::DistinctRows;
 use crate::fault::AnswerFault;
 use crate::first_value_rows::FirstValueRows;
@@ -35,6 +34,8 @@ pub enum RowStore {
     Ordered(OrderedRows),
     /// Of each row the first value, which a subquery takes.
     FirstValues(FirstValueRows),
+    /// Whether there is any, which EXISTS asks.
+    Existence(AnyRow),
 }
 
 impl RowStore {
@@ -57,12 +58,16 @@ impl RowStore {
         }
     }
 
-    /// A store for rows whose first values are kept; none has come.
-    pub fn to_keep(alloc: Global, distinct: bool) -> RowStore
+    /// A store for rows whose first values are kept, or whether there is any, if that is all that is asked; none has come.
+    pub fn to_keep(alloc: Global, existence: bool, distinct: bool) -> RowStore
         ensures nothing { (names : List (List ℕ)) → Holds result names [] }
-        ensures kind { kind_of result ≡ keeping distinct }
+        ensures kind { kind_of result ≡ keeping existence distinct }
     {
-        RowStore::FirstValues(FirstValueRows::new(alloc, distinct))
+        if existence {
+            RowStore::Existence(AnyRow::new(alloc))
+        } else {
+            RowStore::FirstValues(FirstValueRows::new(alloc, distinct))
+        }
     }
 
     /// Adds a row; or tells the first exception that one of its columns raises.
@@ -85,6 +90,7 @@ impl RowStore {
             RowStore::Distinct(rows) => rows.add(alloc, items, env),
             RowStore::Ordered(rows) => rows.add(alloc, items, env),
             RowStore::FirstValues(rows) => rows.add(alloc, items, env),
+            RowStore::Existence(rows) => rows.add(items, env),
         }
     }
 
@@ -100,19 +106,21 @@ impl RowStore {
             RowStore::Printed(rows) => rows.end(),
             RowStore::Distinct(rows) => rows.end(),
             RowStore::Ordered(rows) => rows.end(keys),
-            RowStore::FirstValues(_) => unreachable!(),
+            RowStore::FirstValues(_) | RowStore::Existence(_) => unreachable!(),
         }
     }
 
-    /// The first values of rows that are not printed, in the order in which the rows came.
+    /// Of rows that are not printed the first values, in the order in which the rows came; or some where there are rows, if no
+    /// more is asked.
     pub fn into_values(self) -> Vec<OwnedValue>
         requires keeps { (kind_of self).prints ≡ false }
         ensures { (names : List (List ℕ)) (rows : List Row) (shapes : List Shape) →
             Holds self names rows → AllByRecursion (HasShapes shapes) rows →
-            map owned_value result.items ≡ column_values (distinct_rows (kind_of self).distinct rows) }
+            AreAsked (kind_of self) rows (map owned_value result.items) }
     {
         match self {
             RowStore::FirstValues(rows) => rows.into_values(),
+            RowStore::Existence(rows) => rows.into_values(),
             _ => unreachable!(),
         }
     }

@@ -1,6 +1,6 @@
 -- What is kept, place by place.
 use Rattle.std.proofs.Common.{◌≡◌, ◌∙◌, refl, sym, ap, subst, ℕ, zero, suc, ◌<◌, List, [], ◌∷◌, ◌++◌, Option, Some, None, length, map, get_or, set, inl, inr, arith}
-use Rattle.std.specs.Prelude.{◌⊎◌, IfSome, option_map, slice_get}
+use Rattle.std.specs.Prelude.{◌⊎◌, Bool, IfSome, option_and_then, option_map, slice_get}
 use Rattle.std.specs.List.{AllByRecursion}
 use Rattle.std.proofs.lemmas.List.{get_or-set_same, get_or-set_other, length-map, map-set}
 use Rattle.definitions.specs.Table.{Database}
@@ -12,7 +12,7 @@ use Rattle.definitions.specs.Estimates.Version.{Version}
 use Rattle.definitions_execution.specs.Total.{totals}
 use Rattle.definitions_answers.specs.Kept.{Kept, IsRight}
 use Rattle.definitions_answers.specs.Parameters.{outer_values, parameters}
-use Rattle.definitions_answers.specs.Told.{TellsRows}
+use Rattle.definitions_answers.specs.Told.{Tells}
 use Rattle.subqueries.specs.Keeping.{kept_at, kept_in, last_of_option, latest_in, latest_key, latest_total, places_in, told_by, told_last, told_of_option, AllKept, AreLeftOut, LeavesOut, Replaces}
 use Rattle.subqueries.specs.declared.kept_results.KeptResult.{KeptResult}
 use Rattle.subqueries.specs.declared.kept_results.KeptResults.{KeptResults}
@@ -148,16 +148,18 @@ module _ (version : Version) (db : Database) (blocks : Blocks) (plans : List Pla
   abbrev Right : Kept → Type 0
   Right = IsRight version db blocks plans k
 
-  right_told : (latest : Option Kept) → IfSome latest Right → option_map (λ (x : Kept). x.key) latest ≡ Some (outer_values outer (parameters blocks k)) → TellsRows (meanings db 0 blocks k outer) (told_of_option latest)
-  right_told None h e = absurd cc
-  right_told (Some x) h e = let is : x.key ≡ outer_values outer (parameters blocks k) = cc in (h outer (sym is)).0
+  right_told : (existence : Bool) (latest : Option Kept) → IfSome latest Right → option_and_then (λ (x : Kept). x.key) latest ≡ Some (outer_values outer (parameters blocks k)) → IfSome latest (λ (x : Kept). x.existence ≡ existence)
+      → Tells existence (meanings db 0 blocks k outer) (told_of_option latest)
+  right_told existence None h e asked = absurd cc
+  right_told existence (Some x) h e asked = subst (λ own. Tells own (meanings db 0 blocks k outer) x.told) asked (h outer e).0
 
-  right_total : (latest : Option Kept) (total : ℕ) → IfSome latest Right → option_map (λ (x : Kept). x.key) latest ≡ Some (outer_values outer (parameters blocks k)) → option_map (λ (x : Kept). x.total) latest ≡ Some total → total ≡ totals version db 0 blocks plans k outer
+  right_total : (latest : Option Kept) (total : ℕ) → IfSome latest Right → option_and_then (λ (x : Kept). x.key) latest ≡ Some (outer_values outer (parameters blocks k)) → option_map (λ (x : Kept). x.total) latest ≡ Some total → total ≡ totals version db 0 blocks plans k outer
   right_total None total h e t = absurd cc
-  right_total (Some x) total h e t = let is : x.key ≡ outer_values outer (parameters blocks k) = cc in let own : x.total ≡ total = cc in sym own ∙ (h outer (sym is)).1
+  right_total (Some x) total h e t = let own : x.total ≡ total = cc in sym own ∙ (h outer e).1
 
-  pub latest_is_told : (r : KeptResults) → AllKept Right r → latest_key r ≡ Some (outer_values outer (parameters blocks k)) → TellsRows (meanings db 0 blocks k outer) (told_last r)
-  latest_is_told r h e = right_told (latest_in r) (latest_is_kept Right r h) e
+  pub latest_is_told : (existence : Bool) (r : KeptResults) → AllKept Right r → latest_key r ≡ Some (outer_values outer (parameters blocks k)) → IfSome (latest_in r) (λ (x : Kept). x.existence ≡ existence)
+      → Tells existence (meanings db 0 blocks k outer) (told_last r)
+  latest_is_told existence r h e asked = right_told existence (latest_in r) (latest_is_kept Right r h) e asked
 
   pub latest_is_total : (r : KeptResults) (total : ℕ) → AllKept Right r → latest_key r ≡ Some (outer_values outer (parameters blocks k)) → latest_total r ≡ Some total → total ≡ totals version db 0 blocks plans k outer
   latest_is_total r total h e t = right_total (latest_in r) total (latest_is_kept Right r h) e t

@@ -2,6 +2,7 @@
 use Rattle.std.proofs.Common.{ℕ, List, Option, map}
 use Rattle.definitions.specs.Queries.BoundBlock as b
 use Rattle.definitions.specs.Queries.Conjuncts.{operand_blocks, member_values, tested_blocks_of_parts, values_of_parts}
+use Rattle.definitions_answers.specs.Seen.{compared_blocks_of_parts}
 use Rattle.definitions_answers.specs.Parameters.{OuterColumn, arguments_of, operand_parameters}
 use Rattle.query_tree.specs.Bound.{bound_function_of, condition_of, conditions, member_of, operand_of, operands}
 use Rattle.query_tree.specs.declared.block.Aggregate.{Aggregate}
@@ -15,6 +16,9 @@ parts_values cs = values_of_parts (conditions (map condition_of cs))
 
 abbrev pub parts_tested : List Condition → List ℕ
 parts_tested cs = tested_blocks_of_parts (conditions (map condition_of cs))
+
+abbrev pub parts_compared : List Condition → List ℕ
+parts_compared cs = compared_blocks_of_parts (conditions (map condition_of cs))
 
 -- the members of a list, and the arguments of set functions
 abbrev pub members_values : List (Option ValueExpr) → List b.ValueExpr

@@ -1,23 +1,39 @@
 -- The results of blocks that are kept.
-use Rattle.std.specs.Prelude.{ℕ, ◌≡◌, ◌⊎◌, ⊤, List, [], ◌∷◌, Option, Some, None, Result, Ok, IfSome, get_or, map}
-use Rattle.std.specs.Prelude.{option_map, set, slice_get}
+use Rattle.std.specs.Prelude.{ℕ, ◌≡◌, ◌⊎◌, ⊤, Bool, List, [], ◌∷◌, Option, Some, None, Result, Ok, IfSome, get_or, map}
+use Rattle.std.specs.Prelude.{option_and_then, option_map, set, slice_get}
+use Rattle.std.specs.Global.{Vec}
 use Rattle.std.specs.List.{AllByRecursion}
 use Rattle.definitions.specs.Value.{Value}
 use Rattle.definitions.specs.Arithmetic.{Raise}
 use Rattle.definitions_answers.specs.Kept.{Kept}
-use Rattle.sqlvalue.specs.Owned.{owned_value}
 use Rattle.sqlvalue.specs.declared.owned_value.OwnedValue.{OwnedValue}
+use Rattle.subqueries.specs.Keys.{key_of_option}
 use Rattle.subqueries.specs.Telling.{told_in}
 use Rattle.subqueries.specs.declared.telling.Told.{Told}
 use Rattle.subqueries.specs.declared.kept_results.KeptResult.{KeptResult}
 use Rattle.subqueries.specs.declared.kept_results.KeptResults.{KeptResults}
 
 abbrev pub kept_in : KeptResult → Kept
-kept_in r = record { key = map owned_value r.key.items; told = told_in r.told; total = r.total }
+kept_in r = record {
+  key = key_of_option r.key;
+  existence = r.existence;
+  told = told_in r.told;
+  total = r.total;
+}
 
 -- what is told of a block where its parameters have the values of a key, and its total there, to be kept
-abbrev pub kept_with : List OwnedValue → Told → ℕ → Kept
-kept_with key told total = record { key = map owned_value key; told = told_in told; total = total }
+abbrev pub kept_with : Option (Vec OwnedValue) → (existence : Bool) → Told → ℕ → Kept
+kept_with key existence told total = record {
+  key = key_of_option key;
+  existence = existence;
+  told = told_in told;
+  total = total;
+}
+
+-- there is none, or it is for other values, or not as much was asked
+abbrev pub IsOther : (existence : Bool) → List Value → Option Kept → Type 0
+IsOther existence key None = ⊤
+IsOther existence key (Some kept) = kept.key ≡ Some key → kept.existence ≡ existence → ⊥
 
 -- all places, and what is in each
 abbrev pub places_in : KeptResults → List (Option Kept)
@@ -36,7 +52,7 @@ abbrev pub kept_at : KeptResults → ℕ → Option Kept
 kept_at r place = get_or (places_in r) place None
 
 abbrev pub key_at : KeptResults → ℕ → Option (List Value)
-key_at r place = option_map (λ (k : Kept). k.key) (kept_at r place)
+key_at r place = option_and_then (λ (k : Kept). k.key) (kept_at r place)
 
 abbrev pub total_in : KeptResults → ℕ → Option ℕ
 total_in r place = option_map (λ (k : Kept). k.total) (kept_at r place)

@@ -6,4 +6,5 @@ pub mod Found
 pub mod Framed
 pub mod BlockText
 pub mod OuterColumns
+pub mod Keys
 pub mod Keeping

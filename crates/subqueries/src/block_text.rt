@@ -2,6 +2,7 @@
 
 ghost use Rattle.std.specs.Prelude.{◌≡◌, ◌++◌, ◌∷◌, [], IfOk, IsPermutation, OnOk, flat_map, map, option_map};
 ghost use Rattle.definitions.specs.Queries.Conjuncts.{blocks_in, blocks_of, member_values, tested_blocks, values_of};
+ghost use Rattle.definitions_answers.specs.Seen.{compared_blocks, seen_blocks};
 ghost use Rattle.definitions_answers.specs.Parameters.{arguments_of, asked_blocks, tested_of_option, values_in_block, values_of_option};
 ghost use Rattle.query_tree.specs.Bound.{block_of, bound_function_of, condition_of, member_of, value_of};
 ghost use Rattle.subqueries.specs.BlockText.{conditions_in, item_values, trees_of, Rising};
@@ -57,6 +58,18 @@ pub fn blocks_asked(alloc: Global, conditions: &[&Condition]) -> Result<Vec<usiz
     Ok(blocks)
 }
 
+/// The numbers of the inner blocks whose values conditions see: all that they ask for, but those that only EXISTS tests (own).
+pub fn blocks_seen(alloc: Global, conditions: &[&Condition]) -> Result<Vec<usize>, AllocError>
+    ensures { IfOk result (λ blocks. blocks.items ≡ flat_map seen_blocks (conditions_in conditions.now)) }
+{
+    let mut blocks = Vec::new(alloc);
+    'conditions: for condition in conditions {
+        push_compared(&mut blocks, condition)?;
+        push_inner(alloc, &mut blocks, condition)?;
+    }
+    Ok(blocks)
+}
+
 /// The inner blocks that a condition asks for: those that it tests itself, and those in its values.
 fn push_asked(
     alloc: Global,
@@ -65,9 +78,21 @@ fn push_asked(
 ) -> Result<(), AllocError>
     ensures { OnOk result (blocks.new.items ≡ blocks.old.items ++ blocks_of (condition_of condition.now)) }
 {
+    push_tested(blocks, condition)?;
+    push_inner(alloc, blocks, condition)
+}
+
+/// The inner blocks in the values of a condition.
+fn push_inner(
+    alloc: Global,
+    blocks: &mut Vec<usize>,
+    condition: &Condition,
+) -> Result<(), AllocError>
+    ensures { OnOk result (blocks.new.items ≡ blocks.old.items ++ flat_map blocks_in
+        (values_of (condition_of condition.now))) }
+{
     let mut values = Vec::new(alloc);
     push_values(&mut values, condition)?;
-    push_tested(blocks, condition)?;
     'values: for value in &values {
         push_blocks(blocks, value)?;
     }
@@ -231,6 +256,29 @@ fn push_tested(blocks: &mut Vec<usize>, condition: &Condition) -> Result<(), All
             Ok(())
         }
         Condition::Compare { .. }
+        | Condition::IsNull { .. }
+        | Condition::Between { .. }
+        | Condition::Like { .. }
+        | Condition::InList { .. } => Ok(()),
+    }
+}
+
+/// The inner blocks that a condition compares a value with, by a quantifier or IN (ISO/IEC 9075:1992, 8.4 and 8.7).
+fn push_compared(blocks: &mut Vec<usize>, condition: &Condition) -> Result<(), AllocError>
+    ensures { OnOk result (blocks.new.items ≡ blocks.old.items ++ compared_blocks (condition_of condition.now)) }
+{
+    match condition {
+        Condition::Quantified { block, .. } => blocks.extend_from_slice(&[*block]),
+        Condition::InQuery { block, .. } => blocks.extend_from_slice(&[*block]),
+        Condition::Not(operand) => push_compared(blocks, operand),
+        Condition::And(parts) | Condition::Or(parts) => {
+            for part in parts {
+                push_compared(blocks, part)?;
+            }
+            Ok(())
+        }
+        Condition::Exists { .. }
+        | Condition::Compare { .. }
         | Condition::IsNull { .. }
         | Condition::Between { .. }
         | Condition::Like { .. }

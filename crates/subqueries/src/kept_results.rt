@@ -1,14 +1,15 @@
 //! What was told of an inner block, kept by the values of its parameters.
 
-ghost use Rattle.std.specs.Prelude.{◌≡◌, ◌≢◌, ◌<◌, IfOk, length, map};
+ghost use Rattle.std.specs.Prelude.{◌≡◌, ◌<◌, IfOk, Some, length, map};
 ghost use Rattle.std.specs.Bool.{Decides};
 ghost use Rattle.definitions_answers.specs.Parameters.{outer_values};
 ghost use Rattle.definitions.specs.Value.{Null, Text};
 ghost use Rattle.sqlvalue.specs.Meaning.{number_of, value_of};
 ghost use Rattle.sqlvalue.specs.Owned.{owned_value};
+ghost use Rattle.subqueries.specs.Keys.{key_of_option};
 ghost use Rattle.subqueries.specs.OuterColumns.{outer_columns_of};
 
-use crate::memory::bytes_of_values;
+use crate::memory::bytes_of_key;
 use crate::parameters::OuterColumn;
 use crate::telling::Told;
 use query_tree::Quantifier;
@@ -19,10 +20,12 @@ use std::alloc::{AllocError, Global};
 /// An odd number of 64 bits, by which hashes are multiplied (own).
 const SPREAD: u64 = 0x9E37_79B9_7F4A_7C15;
 
-/// A result: what was told of a block where its parameters had these values, its total there, and about how many bytes it takes (own).
+/// A result: what was told of a block where its parameters had these values, whether its existence was all that was asked, its total
+/// there, and about how many bytes it takes (own). Where there was no memory for the values it isn't found again.
 #[derive(Drop)]
 struct KeptResult {
-    key: Vec<OwnedValue>,
+    key: Option<Vec<OwnedValue>>,
+    existence: bool,
     told: Told,
     total: u64,
     bytes: u64,
@@ -49,7 +52,7 @@ impl KeptResults {
     ghost use Rattle.sqlvalue.specs.Truths.{truth_of};
     ghost use Rattle.parse_tree.specs.Trees.{quantifier_of};
     ghost use Rattle.expr.specs.Answers.{values_answer_of};
-    ghost use Rattle.subqueries.specs.Keeping.{key_at, latest_in, kept_with, latest_key, latest_total, places_in, told_last, total_in, LeavesOut, Replaces};
+    ghost use Rattle.subqueries.specs.Keeping.{kept_at, key_at, latest_in, kept_with, latest_key, latest_total, places_in, told_last, total_in, IsOther, LeavesOut, Replaces};
 
     /// So many empty places, and at least one.
     pub fn new(alloc: Global, count: usize) -> Result<KeptResults, AllocError>
@@ -67,43 +70,51 @@ impl KeptResults {
         })
     }
 
-    /// The total of the result for the values that the parameters have in the rows around, if it is kept; it is the latest then.
-    /// The latest is looked at first, so it is found again where they are the same.
-    pub fn find<A: OuterRows>(&mut self, parameters: &[OuterColumn], around: &A) -> Option<u64>
+    /// The total of the result for the values that the parameters have in the rows around, if it is kept, and as much was asked; it is
+    /// the latest then. The latest is looked at first, so it is found again where they are the same.
+    pub fn find<A: OuterRows>(
+        &mut self,
+        existence: bool,
+        parameters: &[OuterColumn],
+        around: &A,
+    ) -> Option<u64>
         ensures key { OnSome result (latest_key self.new
             ≡ Some (outer_values (A.combinations around.now) (outer_columns_of parameters.now))) }
+        ensures asked { OnSome result (IfSome (latest_in self.new) (λ kept. kept.existence ≡ existence)) }
         ensures total { IfSome result (λ total. latest_total self.new ≡ Some total) }
         ensures kept { places_in self.new ≡ places_in self.old }
         ensures unchanged { IfNone result (self.new ≡ self.old) }
-        ensures missing { IfNone result (latest_key self.old
-            ≢ Some (outer_values (A.combinations around.now) (outer_columns_of parameters.now))) }
+        ensures missing { IfNone result (IsOther existence
+            (outer_values (A.combinations around.now) (outer_columns_of parameters.now)) (latest_in self.old)) }
     {
-        if let Some(total) = self.total_at(self.latest, parameters, around) {
+        if let Some(total) = self.total_at(self.latest, existence, parameters, around) {
             return Some(total);
         }
         let place = place_of(parameters, around, self.places.len());
-        let total = self.total_at(place, parameters, around)?;
+        let total = self.total_at(place, existence, parameters, around)?;
         self.latest = place;
         Some(total)
     }
 
-    /// The total of the result in a place, where it is for the values that the parameters have in the rows around.
+    /// The total of the result in a place, where it is for the values that the parameters have in the rows around, and as much was asked.
     fn total_at<A: OuterRows>(
         &self,
         place: usize,
+        existence: bool,
         parameters: &[OuterColumn],
         around: &A,
     ) -> Option<u64>
         requires { place < length self.now.places.items }
         ensures key { OnSome result (key_at self.now place
             ≡ Some (outer_values (A.combinations around.now) (outer_columns_of parameters.now))) }
+        ensures asked { OnSome result (IfSome (kept_at self.now place) (λ kept. kept.existence ≡ existence)) }
         ensures total { IfSome result (λ total. total_in self.now place ≡ Some total) }
-        ensures missing { IfNone result (key_at self.now place
-            ≢ Some (outer_values (A.combinations around.now) (outer_columns_of parameters.now))) }
+        ensures missing { IfNone result (IsOther existence
+            (outer_values (A.combinations around.now) (outer_columns_of parameters.now)) (kept_at self.now place)) }
     {
         match &self.places[place] {
             Some(kept) => {
-                if is_key(&kept.key, parameters, around) {
+                if kept.existence == existence && has_key(&kept.key, parameters, around) {
                     Some(kept.total)
                 } else {
                     None
@@ -113,24 +124,35 @@ impl KeptResults {
         }
     }
 
-    /// Keeps a result in place of another; it is the latest.
-    pub fn keep(&mut self, key: Vec<OwnedValue>, told: Told, total: u64)
-        ensures latest { latest_in self.new ≡ Some (kept_with key.items told total) }
-        ensures kept { Replaces (places_in self.old) (places_in self.new) (kept_with key.items told total) }
+    /// Keeps a result in place of another, by its key if it has one; it is the latest.
+    pub fn keep(&mut self, key: Option<Vec<OwnedValue>>, existence: bool, told: Told, total: u64)
+        ensures latest { latest_in self.new ≡ Some (kept_with key existence told total) }
+        ensures kept { Replaces (places_in self.old) (places_in self.new) (kept_with key existence told total) }
     {
-        let place = place_of_key(&key, self.places.len());
-        let bytes = bytes_of_values(&key).saturating_add(told.bytes());
+        let place = self.place_for(&key);
+        let bytes = bytes_of_key(&key).saturating_add(told.bytes());
         self.bytes = self
             .bytes
             .saturating_sub(self.bytes_at(place))
             .saturating_add(bytes);
         self.places[place] = Some(KeptResult {
             key,
+            existence,
             told,
             total,
             bytes,
         });
         self.latest = place;
+    }
+
+    /// Where a result is kept: by the hash of its key, or else where the latest one was.
+    fn place_for(&self, key: &Option<Vec<OwnedValue>>) -> usize
+        ensures { result < length self.now.places.items }
+    {
+        match key {
+            Some(values) => place_of_key(values, self.places.len()),
+            None => self.latest,
+        }
     }
 
     /// About how many bytes they take together.
@@ -252,6 +274,21 @@ fn hashed(hash: u64, value: &Value) -> u64 {
 
 fn mixed(hash: u64, part: u64) -> u64 {
     (hash ^ part).wrapping_mul(SPREAD)
+}
+
+/// Whether there is a key, of the very values that the parameters have in the rows around.
+fn has_key<A: OuterRows>(
+    key: &Option<Vec<OwnedValue>>,
+    parameters: &[OuterColumn],
+    around: &A,
+) -> bool
+    ensures { Decides result (key_of_option key.now
+        ≡ Some (outer_values (A.combinations around.now) (outer_columns_of parameters.now))) }
+{
+    match key {
+        Some(values) => is_key(values, parameters, around),
+        None => false,
+    }
 }
 
 /// Whether kept values are the very ones that the parameters have in the rows around.

@@ -15,7 +15,7 @@ mod memory;
 mod parameters;
 mod telling;
 
-pub use block_text::blocks_asked;
+pub use block_text::{blocks_asked, blocks_seen};
 pub use first_values::FirstValues;
 pub use forgetting::{bound_memory, key_of};
 pub use frames::{Frames, WorkWatch};

@@ -14,6 +14,14 @@ pub(crate) fn bytes_of_values(values: &Vec<OwnedValue>) -> u64 {
     bytes
 }
 
+/// About how many bytes a key takes, if there is one.
+pub(crate) fn bytes_of_key(key: &Option<Vec<OwnedValue>>) -> u64 {
+    match key {
+        Some(values) => bytes_of_values(values),
+        None => 0,
+    }
+}
+
 /// How many bytes a number of elements of a size takes; the greatest number where they are more than it counts.
 pub(crate) fn bytes_of(count: usize, size: usize) -> u64 {
     (count as u64).saturating_mul(size as u64)

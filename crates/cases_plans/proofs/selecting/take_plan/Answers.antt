@@ -15,5 +15,6 @@ returns-then-may_run-clause-ready c = λ db blocks number is. record {
   late = is.late;
   asked = is.asked;
   rising = is.rising;
+  seen = is.seen;
   parameters = is.parameters;
 }

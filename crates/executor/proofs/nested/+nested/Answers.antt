@@ -1,16 +1,24 @@
 use Rattle.std.proofs.Common.{rules, map, ◌++◌, ◌≡◌, ◌∙◌, refl, sym, ap, ap₂, subst, ℕ, ◌+◌, ◌-◌, ◌*◌, ◌<◌, Some, length, take, get_or, arith, slice_set}
-use Rattle.std.specs.Prelude.{flat_map, slice_get, sum_by, true, Contains, IfErr, IfOk, OnOk, Ok, List, [], ◌∷◌}
-use Rattle.std.specs.List.{AllByRecursion}
+use Rattle.std.proofs.Common.{nat_eq}
+use Rattle.std.specs.Prelude.{not, Bool, IfSome, None, Option, Result, flat_map, slice_get, sum_by, true, Contains, IfErr, IfOk, OnOk, Ok, List, [], ◌∷◌}
+use Rattle.std.specs.Global.{Vec}
+use Rattle.std.specs.List.{list_any, AllByRecursion}
 use Rattle.std.proofs.lemmas.Bool.Decides.{nat_tests}
 use Rattle.std.proofs.lemmas.List.{length-map, take_all}
 use Rattle.std.proofs.lemmas.Option.{slice_get-get_or}
-use Rattle.definitions.specs.Estimates.Version.{current_version}
+use Rattle.definitions.specs.Arithmetic.{Raise}
+use Rattle.definitions.specs.Estimates.Version.{current_version, Version}
+use Rattle.definitions.specs.Plans.Plan.{Plan}
+use Rattle.definitions.specs.Table.{Database}
+use Rattle.definitions.specs.Value.{Value}
+use Rattle.definitions_execution.specs.Total.{totals}
+use Rattle.sqlvalue.specs.declared.owned_value.OwnedValue.{OwnedValue}
 use Rattle.definitions.specs.Queries.Answer.{meanings}
 use Rattle.definitions_answers.specs.Kept.{IsRight}
 use Rattle.definitions.specs.Plans.Cost.{saturated}
 use Rattle.definitions_answers.specs.Standing.{Stands, StandsInside}
 use Rattle.std.proofs.lemmas.List.Sorted.{sum_by-IsPermutation}
-use Rattle.definitions.specs.Queries.BoundBlock.{Block}
+use Rattle.definitions.specs.Queries.BoundBlock.{Block, Blocks}
 use Rattle.definitions.specs.Queries.Combinations.{all_hold, at, raises_of_late, Context}
 use Rattle.definitions.specs.Queries.Conjuncts.{blocks_of, late_conjuncts}
 use Rattle.definitions.specs.Queries.Evaluation.{Combination, Environment}
@@ -22,21 +30,22 @@ use Rattle.sqlvalue.specs.Raises.{raise_of}
 use Rattle.subqueries.specs.Found.{said_in}
 use Rattle.block_answers.specs.OneComposite.{are_true_in, raised_in}
 use Rattle.block_answers.specs.Views.{conditions_of}
-use Rattle.definitions_answers.specs.Told.{told_environment, TellsRows}
+use Rattle.definitions_answers.specs.Told.{told_environment, Tells}
 use Rattle.definitions_answers.specs.Parameters.{outer_values, parameters}
 use Rattle.definitions_answers.proofs.Kept.{kept_is_right}
 use Rattle.subqueries.specs.BlockText.{Rising}
 use Rattle.subqueries.specs.Framed.{combination_in, combinations_in}
 use Rattle.subqueries.specs.Keeping.{kept_with, latest_key, places_in, told_by, told_of_option, Replaces}
+use Rattle.subqueries.specs.Keys.{key_of_option}
 use Rattle.subqueries.specs.OuterColumns.{outer_columns_of}
 use Rattle.subqueries.specs.Telling.{told_in}
 use Rattle.subqueries.specs.declared.kept_results.KeptResults.{KeptResults}
 use Rattle.sqlvalue.specs.Owned.{owned_value}
 use Rattle.subqueries.proofs.KeptPlaces.{latest_is_told, latest_is_total, left_out_told}
 use Rattle.scans.specs.Sources.{block_in, context_in, stored_in}
-use Rattle.executor.specs.ReadyBlocks.{blocks_in, database_in, meanings_in, plans_in, totals_in, subqueries_at, subqueries_of, total_at, IsReady, IsToldLast}
+use Rattle.executor.specs.ReadyBlocks.{blocks_in, database_in, meanings_in, plans_in, totals_in, seen_at, seen_of, subqueries_at, subqueries_of, total_at, IsReady, IsToldLast}
 use Rattle.executor.specs.declared.ready_block.ReadyBlock.{ReadyBlock}
-use Rattle.executor.proofs.InnerBlocks.{at_index, index_is, kept_same, left_below, left_less, left_out_left, left_out_right, left_twice, one_later, right_same, right_with, rising_before, stays_all, sum_later, sum_stops, told_here}
+use Rattle.executor.proofs.InnerBlocks.{as_much_as_asked, at_index, index_is, kept_same, left_below, left_less, left_out_left, left_out_right, left_twice, one_later, right_same, right_with, rising_before, stays_all, sum_later, sum_stops, told_here}
 use Rattle.definitions.specs.Estimates.BlockSpace.{space_of}
 use Rattle.definitions.specs.Plans.Space.{Space}
 use Rattle.definitions.specs.Queries.Answer.{block_answer}
@@ -47,16 +56,24 @@ use Rattle.operators.specs.Running.{left_of, opened_of, width_of, IsPipeline}
 use Rattle.plan_tree.specs.Plans.{plan_of}
 use Rattle.query_tree.specs.Bound.{block_of}
 use Rattle.scans.specs.Composites.{numbers_in}
-use Rattle.block_answers.specs.BlockRows.{IsWellFor}
-use Rattle.block_answers.specs.KeptRows.{rows_in, TellsKept}
+use Rattle.block_answers.specs.BlockRows.{store_in, IsWellFor}
+use Rattle.block_answers.specs.KeptRows.{asks_existence, rows_in, TellsKept}
 use Rattle.block_answers.specs.Ready as before
 use Rattle.block_answers.specs.Ready.{CanAnswer}
-use Rattle.result_rows.specs.Stores.{keeping}
+use Rattle.result_rows.specs.Stores.{keeping, kind_of, StoreKind}
 use Rattle.block_answers.specs.Telling.{context_with}
 use Rattle.block_answers.proofs.Ending.{all_done, first_at, split_later}
 use Rattle.executor.proofs.InnerRows.{can, costs, grows, means, surrounded, whole, TakesOne}
 use Rattle.executor.proofs.InnerTelling.{code_says, inside_listed, late_can_evaluate, same_block, says}
 use Rattle.executor.proofs.nested.+nested.Goals as goal
+
+-- what is told once is right with the key that it has, or with none
+once_is_right : (version : Version) (db : Database) (blocks : Blocks) (plans : List Plan) (k : ℕ) (outer : List Combination) (existence : Bool) (told : Result (List Value) Raise) (total : ℕ) (key : Option (Vec OwnedValue))
+    → IfSome key (λ own. map owned_value own.items ≡ outer_values outer (parameters blocks k)) → Tells existence (meanings db 0 blocks k outer) told → total ≡ totals version db 0 blocks plans k outer
+    → IsRight version db blocks plans k (record { key = key_of_option key; existence = existence; told = told; total = total })
+once_is_right version db blocks plans k outer existence told total None values tells is = λ outer' e. absurd cc
+once_is_right version db blocks plans k outer existence told total (Some own) values tells is =
+    subst (λ vs. IsRight version db blocks plans k (record { key = Some vs; existence = existence; told = told; total = total })) (sym values) (kept_is_right version db blocks plans k outer existence told total tells is)
 
 -- ---- a result that is kept
 
@@ -73,8 +90,8 @@ ask_block-returns-in-Some-clause-told g t c =
     let at_place : slice_get c.args.results.now number ≡ Some own = slice_get-get_or c.args.results.now number own within ∙ ap Some (sym c.index-results-number.is) in
     let params : outer_columns_of c.deref.result.now ≡ parameters (blocks_in query) number = ap outer_columns_of (c.deref.ensures.value ∙ ap (λ (x : ReadyBlock). x.parameters.items) (sym c.index-query-number.is)) ∙ ready.parameters in
     let key : latest_key c.find.new.self ≡ Some (outer_values outer (parameters (blocks_in query) number)) = c.in-Some.ensures.key ∙ ap (λ ps. Some (outer_values outer ps)) params in
-    subst (TellsRows (meanings (database_in query) 0 (blocks_in query) number outer)) (sym (told_here query c.args.results.now number own c.find.new.self at_place c.requires.right))
-    (latest_is_told current_version (database_in query) (blocks_in query) (plans_in query) number outer c.find.new.self (kept_same query c.args.results.now number own c.find.new.self at_place c.requires.right (c.find.ensures.kept ∙ ap places_in (sym c.index-results-number.is))) key)
+    subst (Tells c.args.existence (meanings (database_in query) 0 (blocks_in query) number outer)) (sym (told_here query c.args.results.now number own c.find.new.self at_place c.requires.right))
+    (latest_is_told current_version (database_in query) (blocks_in query) (plans_in query) number outer c.args.existence c.find.new.self (kept_same query c.args.results.now number own c.find.new.self at_place c.requires.right (c.find.ensures.kept ∙ ap places_in (sym c.index-results-number.is))) key c.in-Some.ensures.asked)
 
 pub ask_block-returns-in-Some-clause-total : goal.ask_block-returns-in-Some-clause-total
 ask_block-returns-in-Some-clause-total g t c =
@@ -114,12 +131,12 @@ ask_block-returns-clause-told g t c =
     let query = c.args.query.now in
     let outer = combinations_in c.args.frames.now in
     let number = c.args.number in
-    let results = c.key_of.new.results in
-    let right = left_out_right query c.evaluate_block.new.results results c.in_ok-key.ensures.results c.in_ok-told.ensures.right in
+    let results = c.key_of-key.new.results in
+    let right = left_out_right query c.evaluate_block.new.results results c.key_of-key.ensures.results c.in_ok-told.ensures.right in
     let own : KeptResults = c.index-results-number-2.result in
     let within : number < length results = subst (λ n. number < n) (sym right.count) c.requires.number in
     let at_place : slice_get results number ≡ Some own = slice_get-get_or results number own within ∙ ap Some (sym c.index-results-number-2.is) in
-    subst (TellsRows (meanings (database_in query) 0 (blocks_in query) number outer))
+    subst (Tells c.args.existence (meanings (database_in query) 0 (blocks_in query) number outer))
     (sym (left_out_told (slice_set results number c.keep.new.self) c.bound_memory.new.results number c.bound_memory.ensures ∙ told_here query results number own c.keep.new.self at_place right ∙ ap told_of_option c.keep.ensures.latest))
     c.in_ok-told.ensures.told
 
@@ -131,20 +148,21 @@ ask_block-returns-clause-right g t c =
     let r : ReadyBlock = c.index-query-number.result in
     let at_block : slice_get query number ≡ Some r = slice_get-get_or query number r c.requires.number ∙ ap Some (sym c.index-query-number.is) in
     let ready : IsReady query number r = c.requires.query number r at_block in
-    let results = c.key_of.new.results in
-    let right = left_out_right query c.evaluate_block.new.results results c.in_ok-key.ensures.results c.in_ok-told.ensures.right in
+    let results = c.key_of-key.new.results in
+    let right = left_out_right query c.evaluate_block.new.results results c.key_of-key.ensures.results c.in_ok-told.ensures.right in
     let own : KeptResults = c.index-results-number-2.result in
     let within : number < length results = subst (λ n. number < n) (sym right.count) c.requires.number in
     let at_place : slice_get results number ≡ Some own = slice_get-get_or results number own within ∙ ap Some (sym c.index-results-number-2.is) in
     let params : outer_columns_of c.deref-2.result.now ≡ parameters (blocks_in query) number = ap outer_columns_of (c.deref-2.ensures.value ∙ ap (λ (x : ReadyBlock). x.parameters.items) (sym c.index-query-number.is)) ∙ ready.parameters in
     let told = c.in_ok-told.told in
     let total = c.in_ok-told.total in
-    let key : map owned_value c.in_ok-key.key.items ≡ outer_values outer (parameters (blocks_in query) number) = c.in_ok-key.ensures.key ∙ ap₂ outer_values c.in_ok-told.ensures.frames params in
-    let kept = kept_with c.in_ok-key.key.items told total in
-    let Right : _ = IsRight current_version (database_in query) (blocks_in query) (plans_in query) number in
-    let is_right : Right kept =
-    subst (λ vs. Right (record { key = vs; told = told_in told; total = total })) (sym key)
-    (kept_is_right current_version (database_in query) (blocks_in query) (plans_in query) number outer (told_in told) total c.in_ok-told.ensures.told c.in_ok-told.ensures.total) in
+    let key = c.key_of-key.result in
+    let values : IfSome key (λ own. map owned_value own.items ≡ outer_values outer (parameters (blocks_in query) number)) =
+    subst (λ o. IfSome key (λ own. map owned_value own.items ≡ outer_values o (parameters (blocks_in query) number))) c.in_ok-told.ensures.frames
+    (subst (λ ps. IfSome key (λ own. map owned_value own.items ≡ outer_values (combinations_in c.evaluate_block.new.frames) ps)) params c.key_of-key.ensures.key) in
+    let kept = kept_with key c.args.existence told total in
+    let is_right : IsRight current_version (database_in query) (blocks_in query) (plans_in query) number kept =
+    once_is_right current_version (database_in query) (blocks_in query) (plans_in query) number outer c.args.existence (told_in told) total key values c.in_ok-told.ensures.told c.in_ok-told.ensures.total in
     left_out_right query (slice_set results number c.keep.new.self) c.bound_memory.new.results c.bound_memory.ensures
     (right_with query results number own c.keep.new.self at_place right kept (subst (λ (p : KeptResults). Replaces (places_in p) (places_in c.keep.new.self) kept) (sym c.index-results-number-2.is) c.keep.ensures.kept) is_right)
 
@@ -157,8 +175,8 @@ ask_block-returns-clause-left g t c =
     let at_first : slice_get c.args.results.now number ≡ Some first = slice_get-get_or c.args.results.now number first within' ∙ ap Some (sym c.index-results-number.is) in
     let found = slice_set c.args.results.now number c.find.new.self in
     let evaluated = c.evaluate_block.new.results in
-    let results = c.key_of.new.results in
-    let right = left_out_right query evaluated results c.in_ok-key.ensures.results c.in_ok-told.ensures.right in
+    let results = c.key_of-key.new.results in
+    let right = left_out_right query evaluated results c.key_of-key.ensures.results c.in_ok-told.ensures.right in
     let own : KeptResults = c.index-results-number-2.result in
     let within : number < length results = subst (λ n. number < n) (sym right.count) c.requires.number in
     let at_place : slice_get results number ≡ Some own = slice_get-get_or results number own within ∙ ap Some (sym c.index-results-number-2.is) in
@@ -166,7 +184,7 @@ ask_block-returns-clause-left g t c =
     let bounded = c.bound_memory.new.results in
     left_twice query number c.args.results.now found bounded (left_below query c.args.results.now number first c.find.new.self at_first c.requires.right)
     (left_twice query number found evaluated bounded (left_less query (number + 1) number found evaluated (omega arith) c.in_ok-told.ensures.left)
-    (left_twice query number evaluated results bounded (left_out_left query number evaluated results c.in_ok-key.ensures.results)
+    (left_twice query number evaluated results bounded (left_out_left query number evaluated results c.key_of-key.ensures.results)
     (left_twice query number results kept bounded (left_below query results number own c.keep.new.self at_place right) (left_out_left query number kept bounded c.bound_memory.ensures))))
 
 -- ---- all subqueries of a block
@@ -177,7 +195,7 @@ ask_subqueries-ask_block-requires g t c =
     let number = c.args.number in
     let r : ReadyBlock = c.index-query-number.result in
     let at_block : slice_get query number ≡ Some r = slice_get-get_or query number r c.requires.number ∙ ap Some (sym c.index-query-number.is) in
-    let items : c.deref-block-items.result.now ≡ subqueries_at query number = c.deref-block-items.ensures.value ∙ ap (λ (x : ReadyBlock). x.subqueries.items) (sym c.index-query-number.is) ∙ sym (ap subqueries_of at_block) in
+    let items : c.deref-block-items.result.now ≡ subqueries_at query number = c.deref-block-items.ensures.value ∙ sym (ap subqueries_of at_block) in
     let inside : StandsInside (database_in query) (blocks_in query) number (combinations_in c.args.frames.now) (get_or c.deref-block-items.result.now c.blocks-2.block-index 0) =
     at_index (StandsInside (database_in query) (blocks_in query) number (combinations_in c.args.frames.now)) c.deref-block-items.result.now c.blocks-2.block-index (subst (AllByRecursion (StandsInside (database_in query) (blocks_in query) number (combinations_in c.args.frames.now))) (sym items) c.requires.inside) c.blocks-2-test.true in
     let there : get_or c.deref-block-items.result.now c.blocks-2.block-index 0 < length query = subst (λ n. get_or c.deref-block-items.result.now c.blocks-2.block-index 0 < n) (length-map query (λ (x : ReadyBlock). block_in x.source)) inside.there in
@@ -197,17 +215,22 @@ ask_subqueries-blocks-2-preserved g t c =
     let list = c.deref-block-items.result.now in
     let i = c.blocks-2.block-index in
     let j = get_or list i 0 in
-    let is : list ≡ r.subqueries.items = c.deref-block-items.ensures.value ∙ ap (λ (x : ReadyBlock). x.subqueries.items) (sym c.index-query-number.is) in
+    let is : list ≡ r.subqueries.items = c.deref-block-items.ensures.value in
     let items : list ≡ subqueries_at query number = is ∙ sym (ap subqueries_of at_block) in
     let inside : StandsInside (database_in query) (blocks_in query) number outer j = at_index (StandsInside (database_in query) (blocks_in query) number outer) list i (subst (AllByRecursion (StandsInside (database_in query) (blocks_in query) number outer)) (sym items) c.requires.inside) c.blocks-2-test.true in
     let behind : number < j = inside.behind in
     let rising : Rising list = subst Rising (sym is) ready.rising in
-    let own : IsToldLast query outer c.ask_block.new.results j = subst (λ o. IsToldLast query o c.ask_block.new.results j) c.blocks-2.invariant.frames_are c.in_ok-own.ensures.told in
+    let seen = seen_at query number in
+    let among = list_any (λ y. nat_eq y j) seen in
+    let asked : c.sees-existence.result ≡ among = c.sees-existence.ensures ∙ ap (λ ns. list_any (λ y. nat_eq y j) ns) (sym (ap seen_of at_block)) in
+    let own : IsToldLast query seen outer c.ask_block.new.results j =
+    as_much_as_asked seen (meanings (database_in query) 0 (blocks_in query) j outer) (told_by c.ask_block.new.results j) j c.sees-existence.result asked
+    (subst (λ o. Tells (not c.sees-existence.result) (meanings (database_in query) 0 (blocks_in query) j o) (told_by c.ask_block.new.results j)) c.blocks-2.invariant.frames_are c.in_ok-own.ensures.told) in
     let worth : c.in_ok-own.own ≡ total_at query outer j = c.in_ok-own.ensures.total ∙ ap (λ o. total_at query o j) c.blocks-2.invariant.frames_are in
     record {
       told =
-          one_later (IsToldLast query outer c.ask_block.new.results) list i
-          (stays_all query outer j (take i list) c.blocks-2.results c.ask_block.new.results c.in_ok-own.ensures.left (rising_before list i j rising c.blocks-2-test.true (index_is list i c.blocks-2-test.true)) c.blocks-2.invariant.told own) c.blocks-2-test.true own;
+          one_later (IsToldLast query seen outer c.ask_block.new.results) list i
+          (stays_all query seen outer j (take i list) c.blocks-2.results c.ask_block.new.results c.in_ok-own.ensures.left (rising_before list i j rising c.blocks-2-test.true (index_is list i c.blocks-2-test.true)) c.blocks-2.invariant.told own) c.blocks-2-test.true own;
       total =
           c.sum_of-work.ensures
           ∙ ap₂ (λ a b. saturated (a + b)) c.blocks-2.invariant.total worth
@@ -226,9 +249,9 @@ ask_subqueries-returns-clause-told g t c =
     let r : ReadyBlock = c.index-query-number.result in
     let at_block : slice_get query number ≡ Some r = slice_get-get_or query number r c.requires.number ∙ ap Some (sym c.index-query-number.is) in
     let list = c.deref-block-items.result.now in
-    let items : list ≡ subqueries_at query number = c.deref-block-items.ensures.value ∙ ap (λ (x : ReadyBlock). x.subqueries.items) (sym c.index-query-number.is) ∙ sym (ap subqueries_of at_block) in
+    let items : list ≡ subqueries_at query number = c.deref-block-items.ensures.value ∙ sym (ap subqueries_of at_block) in
     let all : take c.blocks-2.block-index list ≡ list = take_all c.blocks-2.block-index list (grind (arith, nat_tests, c.blocks-2-test.false)) in
-    subst (AllByRecursion (IsToldLast query outer c.blocks-2.results)) (all ∙ items) c.blocks-2.invariant.told
+    subst (AllByRecursion (IsToldLast query (seen_at query number) outer c.blocks-2.results)) (all ∙ items) c.blocks-2.invariant.told
 
 pub ask_subqueries-returns-clause-total : goal.ask_subqueries-returns-clause-total
 ask_subqueries-returns-clause-total g t c =
@@ -238,7 +261,7 @@ ask_subqueries-returns-clause-total g t c =
     let r : ReadyBlock = c.index-query-number.result in
     let at_block : slice_get query number ≡ Some r = slice_get-get_or query number r c.requires.number ∙ ap Some (sym c.index-query-number.is) in
     let list = c.deref-block-items.result.now in
-    let items : list ≡ subqueries_at query number = c.deref-block-items.ensures.value ∙ ap (λ (x : ReadyBlock). x.subqueries.items) (sym c.index-query-number.is) ∙ sym (ap subqueries_of at_block) in
+    let items : list ≡ subqueries_at query number = c.deref-block-items.ensures.value ∙ sym (ap subqueries_of at_block) in
     let all : take c.blocks-2.block-index list ≡ list = take_all c.blocks-2.block-index list (grind (arith, nat_tests, c.blocks-2-test.false)) in
     c.blocks-2.invariant.total ∙ ap (λ ns. saturated (sum_by (total_at query outer) ns)) (all ∙ items)
 
@@ -306,9 +329,9 @@ try_late-try_conjuncts-late-requires g t c =
     let asked : combinations_in c.ask_subqueries.new.frames ≡ combination_in r.source c.args.composite.now ∷ outer = c.in_ok-work.ensures.frames ∙ entered in
     let back : combinations_in c.leave.new.self ≡ outer = c.leave.ensures (combination_in r.source c.args.composite.now) outer asked in
     let results = c.ask_subqueries.new.results in
-    let listed : AllByRecursion (IsToldLast query (combination_in r.source c.args.composite.now ∷ outer) results) r.subqueries.items =
-    subst (AllByRecursion (IsToldLast query (combination_in r.source c.args.composite.now ∷ outer) results)) (ap subqueries_of at_block)
-    (subst (λ o. AllByRecursion (IsToldLast query o results) (subqueries_at query number)) entered c.in_ok-work.ensures.told) in
+    let listed : AllByRecursion (IsToldLast query r.seen.items (combination_in r.source c.args.composite.now ∷ outer) results) r.subqueries.items =
+    subst (λ (x : Option ReadyBlock). AllByRecursion (IsToldLast query (seen_of x) (combination_in r.source c.args.composite.now ∷ outer) results) (subqueries_of x)) at_block
+    (subst (λ o. AllByRecursion (IsToldLast query (seen_at query number) o results) (subqueries_at query number)) entered c.in_ok-work.ensures.told) in
     let ready : IsReady query number r = c.requires.query number r at_block in
     let late : conditions_of c.deref.result.now ≡ late_conjuncts (block_in r.source) = ap conditions_of c.deref.ensures.value ∙ ready.late in
     let can = late_can_evaluate query c.requires.query number r at_block outer c.requires.stands c.args.composite.now results listed in
@@ -326,9 +349,9 @@ try_late-returns-clause-says g t c r' at' =
     let asked : combinations_in c.ask_subqueries.new.frames ≡ combination_in r.source c.args.composite.now ∷ outer = c.in_ok-work.ensures.frames ∙ entered in
     let back : combinations_in c.leave.new.self ≡ outer = c.leave.ensures (combination_in r.source c.args.composite.now) outer asked in
     let results = c.ask_subqueries.new.results in
-    let listed : AllByRecursion (IsToldLast query (combination_in r.source c.args.composite.now ∷ outer) results) r.subqueries.items =
-    subst (AllByRecursion (IsToldLast query (combination_in r.source c.args.composite.now ∷ outer) results)) (ap subqueries_of at_block)
-    (subst (λ o. AllByRecursion (IsToldLast query o results) (subqueries_at query number)) entered c.in_ok-work.ensures.told) in
+    let listed : AllByRecursion (IsToldLast query r.seen.items (combination_in r.source c.args.composite.now ∷ outer) results) r.subqueries.items =
+    subst (λ (x : Option ReadyBlock). AllByRecursion (IsToldLast query (seen_of x) (combination_in r.source c.args.composite.now ∷ outer) results) (subqueries_of x)) at_block
+    (subst (λ o. AllByRecursion (IsToldLast query (seen_at query number) o results) (subqueries_at query number)) entered c.in_ok-work.ensures.told) in
     let ready : IsReady query number r = c.requires.query number r at_block in
     let late : conditions_of c.deref.result.now ≡ late_conjuncts (block_in r.source) = ap conditions_of c.deref.ensures.value ∙ ready.late in
     let env : List Combination → Environment = λ o. told_environment (at (context_in r.source o) (combination_in r.source c.args.composite.now)) (told_by results) in
@@ -505,7 +528,8 @@ evaluate_block-end-requires-clause-kind g t c =
     let r : ReadyBlock = c.index-query-number.result in
     let at_block : slice_get query number ≡ Some r = slice_get-get_or query number r c.requires.number ∙ ap Some (sym c.index-query-number.is) in
     let ready : IsReady query number r = c.requires.query number r at_block in
-    c.composites.invariant.kind ∙ c.in_ok-rows.ensures.kind ∙ ap (λ x. keeping (block_of x).distinct) ready.block
+    let kind : kind_of (store_in (rows_in c.composites.rows)) ≡ keeping c.args.existence (block_in r.source).distinct = c.composites.invariant.kind ∙ c.in_ok-rows.ensures.kind ∙ ap (λ x. keeping c.args.existence (block_of x).distinct) ready.block in
+    kind ∙ ap (λ e. keeping e (block_in r.source).distinct) (sym (ap (λ (k : StoreKind). k.existence) kind))
 
 pub evaluate_block-returns-clause-told : goal.evaluate_block-returns-clause-told
 evaluate_block-returns-clause-told g t c =
@@ -524,10 +548,11 @@ evaluate_block-returns-clause-told g t c =
     record { answerable = ready.answerable; valid = ready.valid; surrounded = surrounded query c.requires.query number r at_block outer c.requires.stands; arranged = c.in_ok-pipeline.ensures.arranged; ordered = c.in_ok-pipeline.ensures.required ready.required } in
     let kept : TellsKept r.source outer (meanings_in query) (map (combination_of r.source.database (block_in r.source)) whole_list) c.composites.rows =
     subst (λ cs. TellsKept r.source outer (meanings_in query) (map (combination_of r.source.database (block_in r.source)) cs) c.composites.rows) all have in
-    let told : TellsRows (block_answer (context_with r.source outer (meanings_in query)) (block_in r.source)) (told_in c.in_ok-told.told) =
-    subst (λ o. before.AreReady r.source o whole_list → TellsKept r.source o (meanings_in query) (map (combination_of r.source.database (block_in r.source)) whole_list) c.composites.rows → TellsRows (block_answer (context_with r.source o (meanings_in query)) (block_in r.source)) (told_in c.in_ok-told.told))
+    let asks : asks_existence c.composites.rows ≡ c.args.existence = ap (λ (k : StoreKind). k.existence) (c.composites.invariant.kind ∙ c.in_ok-rows.ensures.kind) in
+    let told : Tells (asks_existence c.composites.rows) (block_answer (context_with r.source outer (meanings_in query)) (block_in r.source)) (told_in c.in_ok-told.told) =
+    subst (λ o. before.AreReady r.source o whole_list → TellsKept r.source o (meanings_in query) (map (combination_of r.source.database (block_in r.source)) whole_list) c.composites.rows → Tells (asks_existence c.composites.rows) (block_answer (context_with r.source o (meanings_in query)) (block_in r.source)) (told_in c.in_ok-told.told))
     same (c.in_ok-told.ensures (meanings_in query) whole_list) given kept in
-    means query c.requires.query number r at_block outer c.requires.stands (told_in c.in_ok-told.told) told
+    means query c.requires.query number r at_block outer c.requires.stands c.args.existence (told_in c.in_ok-told.told) (subst (λ e. Tells e (block_answer (context_with r.source outer (meanings_in query)) (block_in r.source)) (told_in c.in_ok-told.told)) asks told)
 
 pub evaluate_block-returns-clause-total : goal.evaluate_block-returns-clause-total
 evaluate_block-returns-clause-total g t c =

@@ -9,7 +9,7 @@ use Rattle.scans.specs.Sources.{block_in}
 use Rattle.subqueries.specs.Framed.{combinations_in}
 use Rattle.block_answers.specs.BlockRows.{store_in, IsWellFor}
 use Rattle.block_answers.specs.KeptRows.{rows_in, TellsKept}
-use Rattle.executor.specs.ReadyBlocks.{meanings_in, total_at, totals_in, AreLeft, AreRight, IsToldLast}
+use Rattle.executor.specs.ReadyBlocks.{meanings_in, seen_at, total_at, totals_in, AreLeft, AreRight, IsToldLast}
 use Rattle.result_rows.specs.Stores.{kind_of}
 use Rattle.executor.proofs.nested.+nested.Given as goal
 
@@ -29,7 +29,7 @@ decreases-ask_subqueries g l = 4 * (length l.query.now - l.number)
 -- those before one are told, and counted
 abbrev pub invariant-ask_subqueries-blocks-2 : goal.invariant-ask_subqueries-blocks-2
 invariant-ask_subqueries-blocks-2 g l = record {
-  told : AllByRecursion (IsToldLast l.query (combinations_in l.fn.frames) l.results) (take l.block-index l.block-items);
+  told : AllByRecursion (IsToldLast l.query (seen_at l.query l.number) (combinations_in l.fn.frames) l.results) (take l.block-index l.block-items);
   total : l.work ≡ saturated (sum_by (total_at l.query (combinations_in l.fn.frames)) (take l.block-index l.block-items));
   right : AreRight l.query l.results;
   left : AreLeft l.query (l.number + 1) l.fn.results l.results;

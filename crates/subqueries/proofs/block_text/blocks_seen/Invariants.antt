@@ -1,0 +1,9 @@
+use Rattle.std.proofs.Common.{◌≡◌, ◌++◌, drop}
+use Rattle.std.specs.Prelude.{flat_map}
+use Rattle.definitions_answers.specs.Seen.{seen_blocks}
+use Rattle.subqueries.specs.BlockText.{conditions_in}
+use Rattle.subqueries.proofs.block_text.blocks_seen.Given as goal
+
+-- with those of the conditions that are left, it is all of them
+abbrev pub invariant-conditions : goal.invariant-conditions
+invariant-conditions l = l.blocks.items ++ flat_map seen_blocks (conditions_in (drop l.condition-index l.conditions)) ≡ flat_map seen_blocks (conditions_in l.conditions)
