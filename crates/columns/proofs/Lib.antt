@@ -8,4 +8,5 @@ pub mod Orders
 pub mod TextOrders
 pub mod Rows
 pub mod Scans
+pub mod Extended
 mod Lookups

@@ -19,7 +19,7 @@ use Rattle.columns.proofs.WordFlags.{bit_at_word, flag_number}
 abbrev pub flags : List ℕ → ℕ → List Bool
 flags words count = map (null_flag words) (range_with_len 0 count)
 
-flag_at : (words : List ℕ) (count row : ℕ) (d : Bool) → row < count → get_or (flags words count) row d ≡ null_flag words row
+pub flag_at : (words : List ℕ) (count row : ℕ) (d : Bool) → row < count → get_or (flags words count) row d ≡ null_flag words row
 flag_at words count row d h = get_or-map-range_with_len (null_flag words) 0 count row row d h (omega arith)
 
 -- one flag more, where those before it stay
@@ -54,7 +54,7 @@ pushed_word : (w s ones flag : ℕ) (null : Bool) → s < 64 → ones ≡ 2 ^ s 
 pushed_word w s ones flag null h e f =
     rw (e, f ∙ flag_number null, and_mask w s, shl_whole (cond null 1 0) 1 s 64 (flag_below null) (omega arith)) (omega arith)
 
-flag_read : (f : Bool) → nat_eq (cond f 1 0) 1 ≡ f
+pub flag_read : (f : Bool) → nat_eq (cond f 1 0) 1 ≡ f
 flag_read true = refl
 flag_read false = refl
 

@@ -75,7 +75,7 @@ alike_numbers f b scale (u ∷ us) [] z h l = absurd (omega (arith, l))
 alike_numbers f b scale (u ∷ us) (n ∷ ns) z h l = ap₂ (λ x xs. x ∷ xs) (alike_cell f (Number u scale) b n z (h u)) (alike_numbers f b scale us ns z h (omega (arith, l)))
 
 -- parts of them
-drop-number_values : (k scale : ℕ) (us : List ℤ) (nulls : List Bool) → length us ≡ length nulls → drop k (number_values scale us nulls) ≡ number_values scale (drop k us) (drop k nulls)
+pub drop-number_values : (k scale : ℕ) (us : List ℤ) (nulls : List Bool) → length us ≡ length nulls → drop k (number_values scale us nulls) ≡ number_values scale (drop k us) (drop k nulls)
 drop-number_values zero scale us nulls l = refl
 drop-number_values (suc k) scale [] [] l = refl
 drop-number_values (suc k) scale [] (n ∷ ns) l = absurd (omega (arith, l))
@@ -98,12 +98,12 @@ pub alike_texts : (f : Value → Bool) (b : Bool) (n : ℕ) (codes : List ℕ) (
 alike_texts f b n codes [] z h = refl
 alike_texts f b n codes (null ∷ nulls) z h = ap₂ (λ x xs. x ∷ xs) (alike_cell f (Text (take n codes)) b null z (h (take n codes))) (alike_texts f b n (drop n codes) nulls z h)
 
-part-text_values : (k n : ℕ) (codes : List ℕ) (nulls : List Bool) → take k (text_values n codes nulls) ≡ text_values n codes (take k nulls)
+pub part-text_values : (k n : ℕ) (codes : List ℕ) (nulls : List Bool) → take k (text_values n codes nulls) ≡ text_values n codes (take k nulls)
 part-text_values zero n codes nulls = refl
 part-text_values (suc k) n codes [] = refl
 part-text_values (suc k) n codes (null ∷ nulls) = ap (λ vs. cond null Null (Text (take n codes)) ∷ vs) (part-text_values k n (drop n codes) nulls)
 
-drop-text_values : (k n : ℕ) (codes : List ℕ) (nulls : List Bool) → drop k (text_values n codes nulls) ≡ text_values n (drop (k * n) codes) (drop k nulls)
+pub drop-text_values : (k n : ℕ) (codes : List ℕ) (nulls : List Bool) → drop k (text_values n codes nulls) ≡ text_values n (drop (k * n) codes) (drop k nulls)
 drop-text_values zero n codes nulls = let e : 0 * n ≡ 0 = omega arith in rw e refl
 drop-text_values (suc k) n codes [] = refl
 drop-text_values (suc k) n codes (null ∷ nulls) =

@@ -1,6 +1,6 @@
 //! A column of numbers or of texts, behind one interface.
 
-ghost use Rattle.std.specs.Prelude.{◌≡◌, ◌<◌, ◌≤◌, ◌+◌, ◌∷◌, ◌++◌, ◌&&◌, not, [], take, length, slice_index_or, IfSome, IsNone, OnOk, OnErr};
+ghost use Rattle.std.specs.Prelude.{◌≡◌, ◌<◌, ◌≤◌, ◌+◌, ◌-◌, ◌∷◌, ◌++◌, ◌&&◌, not, [], take, length, slice_index_or, IfSome, IsNone, OnOk, OnErr};
 ghost use Rattle.definitions.specs.Value as spec;
 ghost use Rattle.definitions.specs.Value.{is_null as is_null_value};
 ghost use Rattle.definitions.specs.IndexRun.{is_from};
@@ -136,6 +136,30 @@ impl Column {
         match (self, other) {
             (Column::Numbers(column), Column::Numbers(other)) => column.push_from(other, row),
             (Column::Texts(column), Column::Texts(other)) => column.push_from(other, row),
+            _ => Err(AllocError),
+        }
+    }
+
+    /// Adds the values that another column of the same type has in the rows from one on up to another, copied as they
+    /// stand there together. An `Err` leaves the column as it was.
+    pub fn extend_from(&mut self, other: &Column, from: usize, to: usize) -> Result<(), AllocError>
+        requires alike { (cells_of self.old).type ≡ (cells_of other.now).type }
+        requires forward { from ≤ to }
+        requires within { to ≤ length (cells_of other.now).values }
+        ensures ok { OnOk result (cells_of self.new ≡ record (cells_of self.old) {
+          values = (cells_of self.old).values ++
+              part_of from (to - from) (cells_of other.now).values;
+        }) }
+        ensures err { OnErr result (cells_of self.new ≡ cells_of self.old) }
+    {
+        if from == to {
+            return Ok(());
+        }
+        match (self, other) {
+            (Column::Numbers(column), Column::Numbers(other)) => {
+                column.extend_from(other, from, to)
+            }
+            (Column::Texts(column), Column::Texts(other)) => column.extend_from(other, from, to),
             _ => Err(AllocError),
         }
     }

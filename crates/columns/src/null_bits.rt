@@ -1,6 +1,6 @@
 //! Which rows of a column are null.
 
-ghost use Rattle.std.specs.Prelude.{◌≡◌, ◌<◌, ◌≤◌, ◌+◌, ◌∷◌, [], ◌++◌, true, false, not, IsTrue, length, take, drop, OnOk, OnErr, slice_index_or};
+ghost use Rattle.std.specs.Prelude.{◌≡◌, ◌<◌, ◌≤◌, ◌+◌, ◌-◌, ◌%◌, ◌∷◌, [], ◌++◌, List, Bool, true, false, not, IsTrue, length, take, drop, OnOk, OnErr, slice_index_or};
 ghost use Rattle.definitions.specs.Scanning.{word_of};
 
 use crate::words::all_rows;
@@ -75,6 +75,67 @@ impl NullBits {
         }
         let bit = self.len % 64;
         self.words[place] = (self.words[place] & all_rows(bit)) + (u64::from(null) << bit);
+        self.len = len;
+        Ok(())
+    }
+
+    /// Adds the rows that others have from one on up to another. An `Err` leaves the rows as they were, and comes of
+    /// memory or of more rows than a `usize` counts (own).
+    pub(crate) fn extend_from(
+        &mut self,
+        other: &NullBits,
+        from: usize,
+        to: usize,
+    ) -> Result<(), AllocError>
+        requires forward { from ≤ to }
+        requires within { to ≤ length other.now }
+        ensures ok { OnOk result (self.new ≡ self.old ++ take (to - from) (drop from other.now)) }
+        ensures err { OnErr result (self.new ≡ self.old) }
+    {
+        let len = self.len();
+        match self.add_from(other, from, to) {
+            Ok(()) => Ok(()),
+            Err(error) => {
+                self.truncate(len);
+                Err(error)
+            }
+        }
+    }
+
+    /// The same, 64 rows at a time where a word ends; an `Err` may come behind some of the rows (own).
+    fn add_from(&mut self, other: &NullBits, from: usize, to: usize) -> Result<(), AllocError>
+        requires forward { from ≤ to }
+        requires within { to ≤ length other.now }
+        ensures ok { OnOk result (self.new ≡ self.old ++ take (to - from) (drop from other.now)) }
+        ensures more { length self.old ≤ length self.new }
+        ensures before { take (length self.old) self.new ≡ self.old }
+    {
+        let mut row = from;
+        while row < to {
+            if self.len() % 64 == 0 && to - row >= 64 {
+                self.push_word(other.word(row, 64))?;
+                row += 64;
+            } else {
+                self.push(other.is_null(row))?;
+                row += 1;
+            }
+        }
+        Ok(())
+    }
+
+    /// Adds 64 rows, given as a word, where one ends. An `Err` leaves the rows as they were, and comes of memory or of
+    /// more rows than a `usize` counts (own).
+    fn push_word(&mut self, word: u64) -> Result<(), AllocError>
+        requires ended { length self.old % 64 ≡ 0 }
+        ensures ok { (flags : List Bool) → length flags ≡ 64 → word ≡ word_of flags →
+            OnOk result (self.new ≡ self.old ++ flags) }
+        ensures err { OnErr result (self.new ≡ self.old) }
+    {
+        let Some(len) = self.len.checked_add(64) else {
+            return Err(AllocError);
+        };
+        self.words.truncate(self.len / 64);
+        self.words.push(word)?;
         self.len = len;
         Ok(())
     }

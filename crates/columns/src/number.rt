@@ -1,6 +1,6 @@
 //! A column of numbers: 64-bit units at the column's scale, and its null bits.
 
-ghost use Rattle.std.specs.Prelude.{◌&&◌, not, IsNone, ◌≡◌, ◌<◌, ◌≤◌, ◌+◌, ◌∷◌, [], ◌++◌, length, map, take, All, FitsSigned, IfSome, OnOk, OnErr, slice_index_or};
+ghost use Rattle.std.specs.Prelude.{◌&&◌, not, IsNone, ◌≡◌, ◌<◌, ◌≤◌, ◌+◌, ◌-◌, ◌∷◌, [], ◌++◌, length, map, take, All, FitsSigned, IfSome, OnOk, OnErr, slice_index_or};
 ghost use Rattle.std.specs.Int.{w64};
 ghost use Rattle.definitions.specs.Value as spec;
 ghost use Rattle.definitions.specs.Scanning.{part_of, true_word, unknown_word, word_of};
@@ -153,6 +153,29 @@ impl NumberColumn {
         ensures held { IsHeld other.now.type (value_in other.now row) }
     {
         self.push(other.units_in(row))
+    }
+
+    /// Adds the numbers that another column of the same type has in the rows from one on up to another. An `Err` leaves
+    /// the column as it was.
+    pub fn extend_from(
+        &mut self,
+        other: &NumberColumn,
+        from: usize,
+        to: usize,
+    ) -> Result<(), AllocError>
+        requires alike { self.old.type ≡ other.now.type }
+        requires forward { from ≤ to }
+        requires within { to ≤ length other.now.values }
+        ensures ok { OnOk result (self.new ≡ record self.old {
+          values = self.old.values ++
+              part_of from (to - from) other.now.values;
+        }) }
+        ensures err { OnErr result (self.new ≡ self.old) }
+    {
+        self.units.reserve(to - from)?;
+        self.nulls.extend_from(&other.nulls, from, to)?;
+        self.units.extend_from_slice(&other.units[from..to])?;
+        Ok(())
     }
 
     /// The units in a row, or none for null and past the end.

@@ -179,6 +179,37 @@ impl TextColumn {
         self.push(other.text_in(row))
     }
 
+    /// Adds the texts that another column of the same type has in the rows from one on up to another. An `Err` leaves
+    /// the column as it was.
+    pub fn extend_from(
+        &mut self,
+        other: &TextColumn,
+        from: usize,
+        to: usize,
+    ) -> Result<(), AllocError>
+        requires alike { self.old.type ≡ other.now.type }
+        requires forward { from ≤ to }
+        requires within { to ≤ list_length other.now.values }
+        ensures ok { OnOk result (self.new ≡ record self.old {
+          values = self.old.values ++
+              part_of from (to - from) other.now.values;
+        }) }
+        ensures err { OnErr result (self.new ≡ self.old) }
+    {
+        let length = self.characters.len();
+        let width = usize::from(self.length);
+        let characters = other.characters.as_str();
+        self.characters
+            .push_str(&characters[from * width..to * width])?;
+        match self.nulls.extend_from(&other.nulls, from, to) {
+            Ok(()) => Ok(()),
+            Err(error) => {
+                self.characters.truncate(length);
+                Err(error)
+            }
+        }
+    }
+
     /// The values from a limit on, nulls being none of them, made ready for look-ups in columns of this type; `None`
     /// where the limit's value is no text (ISO/IEC 9075:1992, 8.2).
     pub fn start<'a>(&self, limit: Bound<Value<'a>>) -> Option<LowerBound<'a>>

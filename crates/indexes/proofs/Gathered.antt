@@ -4,12 +4,9 @@ use Rattle.std.proofs.lemmas.List.{get_or-map, length-map, append-nil, drop_all}
 use Rattle.definitions.specs.Value.{Null, SqlType}
 use Rattle.columns.specs.Cells.{CellList}
 use Rattle.columns.specs.Starts.{value_in}
-use Rattle.indexes.specs.Keys.{key_in, entry_in, types_of, AreOfHeight, columns_of}
+use Rattle.indexes.specs.Keys.{gathered, key_in, entry_in, types_of, AreOfHeight, columns_of}
 use Rattle.columns.specs.declared.column.Column.{Column}
 use Rattle.indexes.specs.Runs.{entries_at}
-
-abbrev pub gathered : List ℕ → CellList → CellList
-gathered rows column = record column { values = map (value_in column) rows }
 
 pub types_gathered : (rows : List ℕ) (columns : List CellList) → types_of (map (gathered rows) columns) ≡ types_of columns
 types_gathered rows [] = refl

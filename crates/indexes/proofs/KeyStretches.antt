@@ -131,7 +131,7 @@ behind (v ∷ vs) (c ∷ cs) i j d h p q n =
     let e = alike (value_in c i) (value_in c j) v a.0 b.0 in
     behind vs cs i j d (omega (arith, h)) a.1 b.1 (λ g. n (ap (λ o. ordering_then o (row_rank cs i j)) e ∙ g))
 
-height_at : (columns : List CellList) {rows : ℕ} (place : ℕ) (d : CellList) → AreOfHeight rows columns → place < length columns → length (get_or columns place d).values ≡ rows
+pub height_at : (columns : List CellList) {rows : ℕ} (place : ℕ) (d : CellList) → AreOfHeight rows columns → place < length columns → length (get_or columns place d).values ≡ rows
 height_at [] place d all h = absurd (omega (arith, h))
 height_at (c ∷ cs) zero d (first, rest) h = first
 height_at (c ∷ cs) (suc place) d (first, rest) h = height_at cs place d rest (omega (arith, h))

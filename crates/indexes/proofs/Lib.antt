@@ -10,6 +10,8 @@ mod IndexCounting
 mod SortedRows
 mod FirstRepeated
 mod MergedRows
+mod Weaving
+mod Carried
 mod Rows
 pub mod KeyCells
 pub mod Placing

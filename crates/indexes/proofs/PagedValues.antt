@@ -11,6 +11,7 @@ use Rattle.std.proofs.lemmas.List.FromFn.{get_or-map-range_with_len, length-map-
 use Rattle.definitions.specs.Value.{Value, Null, SqlType}
 use Rattle.columns.specs.Cells.{CellList}
 use Rattle.columns.specs.Starts.{value_in, IsHeld}
+use Rattle.indexes.specs.Keys.{gathered}
 
 abbrev pub every_value : CellList → List ℕ → ℕ → ℕ → Value
 every_value column rows step place = value_in column (get_or rows (place * step) 0)
@@ -39,7 +40,7 @@ held_at c row all = at c.values row all
     at (v ∷ vs) zero (first, rest) = first
     at (v ∷ vs) (suc row) (first, rest) = at vs row rest
 
-pub all_taken : (c column : CellList) (rows : List ℕ) → c ≡ taken column rows 1 (div_ceil (length rows) 1) → c ≡ record column { values = map (value_in column) rows }
+pub all_taken : (c column : CellList) (rows : List ℕ) → c ≡ taken column rows 1 (div_ceil (length rows) 1) → c ≡ gathered rows column
 all_taken c column rows e =
     let n : div_ceil (length rows) 1 ≡ length rows = omega arith in
     e ∙ ap (λ k. taken column rows 1 k) n ∙ ap (λ vs. record column { values = vs }) (sym (fill_by_all (every_value column rows 1) (map (value_in column) rows) (length rows) Null (length-map rows (value_in column)) each))
@@ -47,11 +48,9 @@ all_taken c column rows e =
     each : (k : ℕ) → k < length rows → get_or (map (value_in column) rows) k Null ≡ every_value column rows 1 k
     each k h = let e : k * 1 ≡ k = omega arith in get_or-map (value_in column) rows k 0 Null h ∙ ap (λ j. value_in column (get_or rows j 0)) (sym e)
 
-module _ (column values heads : CellList) (rows : List ℕ) (e : values ≡ taken column rows 1 (div_ceil (length rows) 1)) (h : heads ≡ taken column rows 256 (div_ceil (length rows) 256)) where
+module _ (column values heads : CellList) (rows : List ℕ) (e : values ≡ gathered rows column) (h : heads ≡ taken column rows 256 (div_ceil (length rows) 256)) where
   pub counted : length values.values ≡ length rows
-  counted =
-      let n : div_ceil (length rows) 1 ≡ length rows = omega arith in
-      ap (λ (c : CellList). length c.values) e ∙ length-map-range_with_len (every_value column rows 1) 0 _ ∙ n
+  counted = ap (λ (c : CellList). length c.values) e ∙ length-map rows (value_in column)
 
   pub pages_counted : length heads.values ≡ div_ceil (length values.values) 256
   pages_counted = ap (λ (c : CellList). length c.values) h ∙ length-map-range_with_len (every_value column rows 256) 0 _ ∙ ap (λ k. div_ceil k 256) (sym counted)
@@ -60,7 +59,7 @@ module _ (column values heads : CellList) (rows : List ℕ) (e : values ≡ take
   heads_read page l =
       let k : page * 256 < length rows = omega (arith, l, counted) in
       ap (λ (c : CellList). value_in c page) h ∙ get_or-map-range_with_len (every_value column rows 256) 0 _ page page Null (omega (arith, k)) (omega arith)
-      ∙ sym (ap (λ (c : CellList). value_in c (page * 256)) (all_taken values column rows e) ∙ get_or-map (value_in column) rows (page * 256) 0 Null k)
+      ∙ sym (ap (λ (c : CellList). value_in c (page * 256)) e ∙ get_or-map (value_in column) rows (page * 256) 0 Null k)
 
 -- places of pages are places of rows
 pub in_rows : (place step n : ℕ) → 0 < step → place < n / step + min 1 (n % step) → place * step < n

@@ -59,7 +59,7 @@ module _ (columns : List CellList) (entries : List Entry) (run : IsRun (take (le
   own_entries [] all = refl
   own_entries (e ∷ es) all = ap₂ ◌∷◌ all.0 (own_entries es all.1)
 
-  entries_own : map (entry_in columns) (entry_rows entries) ≡ entries
+  pub entries_own : map (entry_in columns) (entry_rows entries) ≡ entries
   entries_own =
       let P : Entry → Type 0 = λ x. entry_in columns x.row ≡ x in
       own_entries entries (recursion_from_All P entries (All-permutation P (entries_from 0 (take (length entries) (keys_in columns))) entries run.0 (All-from_recursion P (entries_from 0 (take (length entries) (keys_in columns))) (own_from 0 (height columns) (length entries)))))

@@ -26,6 +26,10 @@ height (column ∷ columns) = length column.values
 abbrev pub AreOfHeight : ℕ → List CellList → Type 0
 AreOfHeight rows = AllByRecursion (λ (column : CellList). length column.values ≡ rows)
 
+-- a column's values in some rows
+abbrev pub gathered : List ℕ → CellList → CellList
+gathered rows column = record column { values = map (value_in column) rows }
+
 -- the key of a row, and those of all rows
 abbrev pub key_in : List CellList → ℕ → Key
 key_in columns row = map (λ column. value_in column row) columns

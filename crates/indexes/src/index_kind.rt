@@ -36,15 +36,9 @@ impl IndexKind {
         ensures refused { IfErr result (RefusesOrder (columns_of keys.now) unique) }
     {
         if unique {
-            match UniqueIndex::build(alloc, keys) {
-                Ok(index) => Ok(IndexKind::Unique(index)),
-                Err(fault) => Err(fault),
-            }
+            IndexKind::Unique(UniqueIndex::new(alloc)).with_further_rows(alloc, keys)
         } else {
-            match SortedIndex::build(alloc, keys) {
-                Ok(index) => Ok(IndexKind::Sorted(index)),
-                Err(_) => Err(UniqueFault::Memory),
-            }
+            IndexKind::Sorted(SortedIndex::new(alloc)).with_further_rows(alloc, keys)
         }
     }
 
@@ -66,10 +60,9 @@ impl IndexKind {
                 Ok(index) => Ok(IndexKind::Sorted(index)),
                 Err(_) => Err(UniqueFault::Memory),
             },
-            IndexKind::Unique(index) => match index.with_further_rows(alloc, keys) {
-                Ok(index) => Ok(IndexKind::Unique(index)),
-                Err(fault) => Err(fault),
-            },
+            IndexKind::Unique(index) => {
+                Ok(IndexKind::Unique(index.with_further_rows(alloc, keys)?))
+            }
         }
     }
 

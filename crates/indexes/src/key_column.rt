@@ -1,14 +1,17 @@
 //! A column of keys in their order, and look-ups in it.
 
-ghost use Rattle.std.specs.Prelude.{ℕ, ◌≡◌, ◌<◌, ◌≤◌, ◌*◌, ◌&&◌, not, map, length, slice_index_or, IfOk};
+ghost use Rattle.std.specs.Prelude.{ℕ, ◌≡◌, ◌<◌, ◌≤◌, ◌*◌, ◌&&◌, not, map, length, slice_index_or, IfOk, IfSome};
 ghost use Rattle.std.specs.List.{AllByRecursion, range_with_len};
 ghost use Rattle.std.specs.Int.{div_ceil};
 ghost use Rattle.definitions.specs.Value.{is_null};
 ghost use Rattle.definitions.specs.IndexRun.{is_from, is_up_to};
 ghost use Rattle.columns.specs.Columns.{cells_of};
 ghost use Rattle.columns.specs.Starts.{AreOrdered, IsHeld, Splits, limit_of, starts, value_in};
+ghost use Rattle.indexes.specs.Keys.{gathered};
+ghost use Rattle.indexes.specs.Merging.{IsCarried};
 ghost use Rattle.indexes.specs.Stretches.{IsWithin, AreInOrder, is_within, turned_limit};
 
+use crate::merging::KeyedRows;
 use columns::{Column, LowerBound};
 use sqlvalue::Value;
 use std::alloc::{AllocError, Global};
@@ -45,19 +48,24 @@ impl Model for KeyColumn {
 }
 
 impl KeyColumn {
-    /// The values that a column has in some rows, in their order.
+    /// The values that a column has in some rows, in their order. There may be a column that has those of the old rows:
+    /// what stands together there is copied as it is.
     pub(crate) fn of_rows(
         alloc: Global,
         column: &Column,
-        rows: &[u32],
+        keyed: &KeyedRows,
+        old: Option<&KeyColumn>,
     ) -> Result<KeyColumn, AllocError>
-        ensures { IfOk result (λ keys. keys ≡ record (cells_of column.now) {
-          values = map
-              (value_in (cells_of column.now)) rows.now;
-        }) }
+        requires { IfSome old (λ kept. IsCarried keyed.now (cells_of column.now) kept.now) }
+        ensures { IfOk result (λ keys. keys ≡ gathered keyed.now.rows.items (cells_of column.now)) }
     {
-        let values = every(alloc, column, rows, 1)?;
-        let heads = every(alloc, column, rows, PAGE)?;
+        let values = match old {
+            Some(old) if old.values.sql_type() == column.sql_type() => {
+                woven(alloc, &old.values, column, keyed)?
+            }
+            _ => every(alloc, column, keyed.rows.as_slice(), 1)?,
+        };
+        let heads = every(alloc, column, keyed.rows.as_slice(), PAGE)?;
         Ok(KeyColumn { values, heads })
     }
 
@@ -145,16 +153,39 @@ fn opposite_limit<'a>(bound: Bound<Value<'a>>) -> Bound<Value<'a>>
     }
 }
 
+/// The values that a column has in some rows: those of another one, with those of the further rows at their places.
+fn woven(
+    alloc: Global,
+    old: &Column,
+    column: &Column,
+    keyed: &KeyedRows,
+) -> Result<Column, AllocError>
+    requires alike { (cells_of old.now).type ≡ (cells_of column.now).type }
+    requires held { AllByRecursion (IsHeld (cells_of old.now).type) (cells_of old.now).values }
+    requires carried { IsCarried keyed.now (cells_of column.now) (cells_of old.now) }
+    ensures held { IfOk result (λ taken. AllByRecursion (IsHeld (cells_of taken).type) (cells_of taken).values) }
+    ensures values { IfOk result (λ taken. cells_of taken ≡ gathered keyed.now.rows.items (cells_of column.now)) }
+{
+    let mut taken = Column::like(alloc, column);
+    let mut from = 0;
+    for (place, row) in keyed.further.iter().enumerate() {
+        let to = keyed.places[place];
+        taken.extend_from(old, from, to)?;
+        taken.push_from(column, *row as usize)?;
+        from = to;
+    }
+    taken.extend_from(old, from, old.len())?;
+    Ok(taken)
+}
+
 /// The values that a column has in every so-many-th of some rows.
 fn every(alloc: Global, column: &Column, rows: &[u32], step: usize) -> Result<Column, AllocError>
     requires { 0 < step }
     ensures held { IfOk result (λ taken. AllByRecursion (IsHeld (cells_of taken).type) (cells_of taken).values) }
-    ensures values { IfOk result (λ taken. cells_of taken
-        ≡ record (cells_of column.now) {
-          values = map (λ place.
-              value_in (cells_of column.now) (slice_index_or rows.now (place * step) 0))
-              (range_with_len 0 (div_ceil (length rows.now) step));
-        }) }
+    ensures values { IfOk result (λ taken. cells_of taken ≡ record (cells_of column.now) {
+      values = map (λ place. value_in (cells_of column.now) (slice_index_or rows.now (place * step) 0))
+          (range_with_len 0 (div_ceil (length rows.now) step));
+    }) }
 {
     let mut taken = Column::like(alloc, column);
     for place in 0..rows.len().div_ceil(step) {

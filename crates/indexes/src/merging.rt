@@ -4,17 +4,20 @@ ghost use Rattle.std.specs.Prelude.{◌≡◌, ◌≤◌, ◌<◌, ◌++◌, IfO
 ghost use Rattle.definitions.specs.IndexRun.{AreRising};
 ghost use Rattle.columns.specs.Starts.{AreOrdered, Splits};
 ghost use Rattle.indexes.specs.Keys.{columns_of, count_keys, entry_in};
-ghost use Rattle.indexes.specs.Merging.{AreEarlier, begins_anew, is_behind};
+ghost use Rattle.indexes.specs.Merging.{AreEarlier, AreWoven, begins_anew, is_behind};
 
 use crate::keys::{is_full, order_of_rows, rank_of_keys};
 use columns::Column;
 use std::alloc::{AllocError, Global};
 use std::cmp::Ordering;
 
-/// Rows in the order of their keys, and how many keys without a null they have, equal ones counted once.
+/// Rows in the order of their keys, and how many keys without a null they have, equal ones counted once. The further
+/// ones stand alone too, and for each of these how many old ones come before it.
 #[derive(Drop)]
 pub(crate) struct KeyedRows {
     pub rows: Vec<u32>,
+    pub further: Vec<u32>,
+    pub places: Vec<usize>,
     pub key_count: usize,
 }
 
@@ -31,11 +34,13 @@ pub(crate) fn merged_rows(
     requires old { AreRising (map (entry_in (columns_of keys.now)) old.now) }
     requires further { AreRising (map (entry_in (columns_of keys.now)) further.now) }
     requires counted { key_count ≡ count_keys (columns_of keys.now) old.now }
+    ensures woven { IfOk result (AreWoven old.now) }
     ensures same { IfOk result (λ merged. IsPermutation (old.now ++ further.now) merged.rows.items) }
     ensures rising { IfOk result (λ merged. AreRising (map (entry_in (columns_of keys.now)) merged.rows.items)) }
     ensures counted { IfOk result (λ merged. merged.key_count ≡ count_keys (columns_of keys.now) merged.rows.items) }
 {
     let mut rows = Vec::with_capacity(alloc, old.len() + further.len())?;
+    let mut places = Vec::with_capacity(alloc, further.len())?;
     let mut key_count = key_count;
     let mut from = 0;
     for row in further {
@@ -43,10 +48,16 @@ pub(crate) fn merged_rows(
         rows.extend_from_slice(&old[from..to])?;
         key_count += usize::from(begins_anew(keys, rows.as_slice(), *row));
         rows.push(*row)?;
+        places.push(to)?;
         from = to;
     }
     rows.extend_from_slice(&old[from..])?;
-    Ok(KeyedRows { rows, key_count })
+    Ok(KeyedRows {
+        rows,
+        further: Vec::from_slice(alloc, further)?,
+        places,
+        key_count,
+    })
 }
 
 /// Whether the key of a row has no null and differs from that of the last row before it.

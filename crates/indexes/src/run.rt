@@ -1,12 +1,13 @@
 //! The rows of a table in the order of their keys, with these.
 
-ghost use Rattle.std.specs.Prelude.{◌≡◌, ◌≤◌, ◌<◌, ◌-◌, IfOk, drop, map, length, take};
+ghost use Rattle.std.specs.Prelude.{◌≡◌, ◌≤◌, ◌<◌, ◌-◌, [], IfOk, drop, map, length, take};
 ghost use Rattle.definitions.specs.Key.{distinct_keys, full_keys};
 ghost use Rattle.definitions.specs.IndexRun.{AreRising, equal_part, keys_of, range_part, entry_rows};
 ghost use Rattle.sqlvalue.specs.Meaning.{value_of};
 ghost use Rattle.columns.specs.Starts.{limit_of};
 ghost use Rattle.indexes.specs.Stretches.{IsStretchOf};
 ghost use Rattle.indexes.specs.Keys.{columns_of, count_keys, entry_in, types_of};
+ghost use Rattle.indexes.specs.Merging.{AreWoven};
 
 use crate::key_column::{KeyColumn, Stretch};
 use crate::merging::KeyedRows;
@@ -38,26 +39,40 @@ impl Model for KeyRun {
 }
 
 impl KeyRun {
-    /// The run of rows that are in the order of their keys.
-    pub(crate) fn of_rows(
+    /// The run of no rows.
+    pub(crate) fn new(alloc: Global) -> KeyRun
+        ensures { result ≡ record { types = []; entries = [] } }
+    {
+        KeyRun {
+            rows: Vec::new(alloc),
+            columns: Vec::new(alloc),
+            key_count: 0,
+        }
+    }
+
+    /// The run of rows that are in the order of their keys, and of which this one has the old ones.
+    pub(crate) fn with_rows(
+        &self,
         alloc: Global,
         keys: &[&Column],
         keyed: KeyedRows,
     ) -> Result<KeyRun, AllocError>
+        requires old { map (entry_in (columns_of keys.now)) (entry_rows self.now.entries) ≡ self.now.entries }
+        requires woven { AreWoven (entry_rows self.now.entries) keyed }
         requires rising { AreRising (map (entry_in (columns_of keys.now)) keyed.rows.items) }
         requires counted { keyed.key_count ≡ count_keys (columns_of keys.now) keyed.rows.items }
         ensures types { IfOk result (λ run. run.types ≡ types_of (columns_of keys.now)) }
         ensures entries { IfOk result (λ run. run.entries ≡ map (entry_in (columns_of keys.now)) keyed.rows.items) }
     {
-        let KeyedRows { rows, key_count } = keyed;
         let mut columns = Vec::new(alloc);
-        for key in keys {
-            columns.push(KeyColumn::of_rows(alloc, key, rows.as_slice())?)?;
+        for (place, key) in keys.iter().enumerate() {
+            let old = self.columns.get(place);
+            columns.push(KeyColumn::of_rows(alloc, key, &keyed, old)?)?;
         }
         Ok(KeyRun {
-            rows,
+            rows: keyed.rows,
             columns,
-            key_count,
+            key_count: keyed.key_count,
         })
     }
 

@@ -1,6 +1,6 @@
 //! An index in which keys may come again.
 
-ghost use Rattle.std.specs.Prelude.{◌≡◌, ◌<◌, ◌^◌, IfOk, take, length};
+ghost use Rattle.std.specs.Prelude.{◌≡◌, ◌<◌, ◌^◌, [], IfOk, take, length};
 ghost use Rattle.definitions.specs.Key.{distinct_keys, full_keys};
 ghost use Rattle.definitions.specs.IndexRun.{AreRising, IsRun, keys_of};
 ghost use Rattle.indexes.specs.Keys.{AreOfHeight, columns_of, height, keys_in, types_of};
@@ -29,17 +29,13 @@ impl Model for SortedIndex {
 }
 
 impl SortedIndex {
-    /// The index of columns of a table, each of which has a value for each row. An `Err` comes of memory alone.
-    pub fn build(alloc: Global, keys: &[&Column]) -> Result<SortedIndex, AllocError>
-        requires table { AreOfHeight (height (columns_of keys.now)) (columns_of keys.now) }
-        requires few { height (columns_of keys.now) < 2 ^ 32 }
-        ensures types { IfOk result (λ index. index.types ≡ types_of (columns_of keys.now)) }
-        ensures run { IfOk result (λ index. IsRun (keys_in (columns_of keys.now)) index.entries) }
+    /// The index of no rows.
+    pub fn new(alloc: Global) -> SortedIndex
+        ensures { result ≡ record { types = []; entries = [] } }
     {
-        let rows = run_rows(alloc, keys, &[], 0)?;
-        Ok(SortedIndex {
-            run: KeyRun::of_rows(alloc, keys, rows)?,
-        })
+        SortedIndex {
+            run: KeyRun::new(alloc),
+        }
     }
 
     /// The index of the same columns with more rows behind those that this one has. An `Err` comes of memory alone.
@@ -56,7 +52,7 @@ impl SortedIndex {
     {
         let rows = run_rows(alloc, keys, self.run.rows(), self.run.key_count())?;
         Ok(SortedIndex {
-            run: KeyRun::of_rows(alloc, keys, rows)?,
+            run: self.run.with_rows(alloc, keys, rows)?,
         })
     }
 

@@ -4,6 +4,7 @@ ghost use Rattle.std.specs.Prelude.{◌≡◌, ◌≤◌, ◌<◌, ◌^◌, ◌-
 ghost use Rattle.std.specs.List.{range_with_len};
 ghost use Rattle.definitions.specs.IndexRun.{AreRising};
 ghost use Rattle.indexes.specs.Keys.{columns_of, count_keys, entry_in, height};
+ghost use Rattle.indexes.specs.Merging.{AreWoven};
 
 use crate::keys::order_of_rows;
 use crate::merging::{KeyedRows, merged_rows};
@@ -23,6 +24,7 @@ pub(crate) fn run_rows(
     requires within { length old.now ≤ height (columns_of keys.now) }
     requires rising { AreRising (map (entry_in (columns_of keys.now)) old.now) }
     requires counted { key_count ≡ count_keys (columns_of keys.now) old.now }
+    ensures woven { IfOk result (AreWoven old.now) }
     ensures same { IfOk result (λ run. IsPermutation (range_with_len 0 (height (columns_of keys.now))) run.rows.items) }
     ensures rising { IfOk result (λ run. AreRising (map (entry_in (columns_of keys.now)) run.rows.items)) }
     ensures counted { IfOk result (λ run. run.key_count ≡ count_keys (columns_of keys.now) run.rows.items) }

@@ -1,13 +1,11 @@
 //! An index in which no key comes again.
 
-ghost use Rattle.std.specs.Prelude.{◌≡◌, ◌<◌, ◌^◌, IfOk, IfErr, OnOk, IsPermutation, map, take, length};
+ghost use Rattle.std.specs.Prelude.{◌≡◌, ◌<◌, ◌^◌, [], IfOk, IfErr, OnOk, take, length};
 ghost use Rattle.definitions.specs.Key.{AreUnique, distinct_keys, full_keys};
 ghost use Rattle.definitions.specs.IndexRun.{AreRising, IsRun, keys_of};
-ghost use Rattle.std.specs.List.{range_with_len};
 ghost use Rattle.indexes.specs.Repeats.{IfRepeated, IsFirstRepeated, IsMemory};
-ghost use Rattle.indexes.specs.Keys.{entry_in, AreOfHeight, columns_of, count_keys, height, keys_in, types_of};
+ghost use Rattle.indexes.specs.Keys.{AreOfHeight, columns_of, height, keys_in, types_of};
 
-use crate::merging::KeyedRows;
 use crate::ordered::OrderedIndex;
 use crate::repeated::{RepeatedKey, first_repeated};
 use crate::run::KeyRun;
@@ -53,18 +51,13 @@ impl Model for UniqueIndex {
 }
 
 impl UniqueIndex {
-    /// The index of columns of a table, each of which has a value for each row, if no key comes again
-    /// (ISO/IEC 9075:1992, 8.9: one with a null never does).
-    pub fn build(alloc: Global, keys: &[&Column]) -> Result<UniqueIndex, UniqueFault>
-        requires table { AreOfHeight (height (columns_of keys.now)) (columns_of keys.now) }
-        requires few { height (columns_of keys.now) < 2 ^ 32 }
-        ensures types { IfOk result (λ index. index.types ≡ types_of (columns_of keys.now)) }
-        ensures run { IfOk result (λ index. IsRun (keys_in (columns_of keys.now)) index.entries) }
-        ensures unique { OnOk result (AreUnique (keys_in (columns_of keys.now))) }
-        ensures repeated { IfErr result (IfRepeated (IsFirstRepeated (keys_in (columns_of keys.now)))) }
+    /// The index of no rows.
+    pub fn new(alloc: Global) -> UniqueIndex
+        ensures { result ≡ record { types = []; entries = [] } }
     {
-        let rows = run_rows(alloc, keys, &[], 0)?;
-        UniqueIndex::of_rows(alloc, keys, rows, 0)
+        UniqueIndex {
+            run: KeyRun::new(alloc),
+        }
     }
 
     /// The index of the same columns with more rows behind those that this one has, if no key comes again
@@ -82,31 +75,12 @@ impl UniqueIndex {
         ensures unique { OnOk result (AreUnique (keys_in (columns_of keys.now))) }
         ensures repeated { IfErr result (IfRepeated (IsFirstRepeated (keys_in (columns_of keys.now)))) }
     {
-        let rows = run_rows(alloc, keys, self.run.rows(), self.run.key_count())?;
-        UniqueIndex::of_rows(alloc, keys, rows, self.run.len())
-    }
-
-    /// The index of all rows, in the order of their keys. None of the first `old` rows repeats a key.
-    fn of_rows(
-        alloc: Global,
-        keys: &[&Column],
-        keyed: KeyedRows,
-        old: usize,
-    ) -> Result<UniqueIndex, UniqueFault>
-        requires same { IsPermutation (range_with_len 0 (height (columns_of keys.now))) keyed.rows.items }
-        requires rising { AreRising (map (entry_in (columns_of keys.now)) keyed.rows.items) }
-        requires counted { keyed.key_count ≡ count_keys (columns_of keys.now) keyed.rows.items }
-        requires once { AreUnique (take old (keys_in (columns_of keys.now))) }
-        ensures types { IfOk result (λ index. index.types ≡ types_of (columns_of keys.now)) }
-        ensures run { IfOk result (λ index. IsRun (keys_in (columns_of keys.now)) index.entries) }
-        ensures unique { OnOk result (AreUnique (keys_in (columns_of keys.now))) }
-        ensures repeated { IfErr result (IfRepeated (IsFirstRepeated (keys_in (columns_of keys.now)))) }
-    {
-        if let Some(repeated) = first_repeated(keys, keyed.rows.as_slice(), old) {
+        let keyed = run_rows(alloc, keys, self.run.rows(), self.run.key_count())?;
+        if let Some(repeated) = first_repeated(keys, keyed.rows.as_slice(), self.run.len()) {
             return Err(UniqueFault::Repeated(repeated));
         }
         Ok(UniqueIndex {
-            run: KeyRun::of_rows(alloc, keys, keyed)?,
+            run: self.run.with_rows(alloc, keys, keyed)?,
         })
     }
 
