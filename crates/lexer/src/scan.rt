@@ -30,5 +30,7 @@ pub fn lex(alloc: Global, script: &str) -> Result<Vec<Token<'_>>, LexFault>
         }
         start = end;
     }
+    // A list grows by doubling; what it has no use for is given back.
+    tokens.shrink_to_fit();
     Ok(tokens)
 }

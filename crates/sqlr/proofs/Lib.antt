@@ -3,6 +3,7 @@ pub mod Taking
 pub mod Changing
 pub mod Breaking
 pub mod Running
+pub mod Turns
 pub mod Preparing
 pub mod CheckingRuns
 pub mod Selecting

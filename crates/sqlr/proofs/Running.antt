@@ -2,11 +2,14 @@
 use Rattle.std.proofs.Common.{ℕ, ◌≡◌, ◌<◌, ◌∙◌, ◌++◌, refl, sym, ap, subst, zero, suc, List, [], ◌∷◌, Option, Some, None, Result, Ok, Err, length, take, drop, get_or, IfOk, IfErr, arith}
 use Rattle.std.specs.Prelude.{◌+◌}
 use Rattle.std.proofs.lemmas.List.{append-nil, append_assoc}
+use Rattle.definitions.specs.Grammar.{Derives}
 use Rattle.definitions.specs.Ended.{both_ended}
 use Rattle.definitions.specs.Ended as ends
 use Rattle.definitions.specs.Statement.{Statement}
 use Rattle.definitions_execution.specs.Step as step
-use Rattle.definitions_execution.specs.Step.{Answering, Failing, State, Step, Steps, AreStatements, FaultLine, StepBreaks}
+use Rattle.definitions_execution.specs.Step.{Answering, Failing, State, Step, Steps, FaultLine, StepBreaks}
+use Rattle.lexer.specs.Meaning.{kinds_of, tokens_of}
+use Rattle.lexer.specs.declared.token.Token.{Token}
 use Rattle.parse_tree.specs.declared.statement.Statement as tree
 use Rattle.parse_tree.specs.Trees.{statement_of, statements_of}
 use Rattle.sqlr.specs.declared.ended.Ended.{Ended}
@@ -14,6 +17,7 @@ use Rattle.sqlr.specs.declared.ended.Ended.TheVariants as e
 use Rattle.sqlr.specs.declared.ended.RunFault.{RunFault}
 use Rattle.sqlr.specs.declared.ended.RunFault.TheVariants as r
 use Rattle.sqlr.specs.declared.outcome.Printed.{Printed}
+use Rattle.sqlr.specs.Scripts.{AreScript}
 use Rattle.sqlr.specs.Devices.{Took, TookBeginning, TookUpTo}
 use Rattle.sqlr.specs.Sessions.{break_of, BreaksIn, BreaksLine, BreaksOff, IsBoth, IsLibraryBlamed, Runs, RunsAll, Takes, Prints}
 
@@ -34,13 +38,18 @@ ended_assoc ends.Refused b c = refl
 
 -- ---- steps
 
--- steps, and one more
-steps_more : {L : Type 0} (answers : Answering L) (ss : List Statement) (old mid new : State L) (s : Statement) (text own : List ℕ) (a b : ends.Ended)
-    → Steps answers old ss mid text a → Step answers mid s new own b → Steps answers old (ss ++ s ∷ []) new (text ++ own) (both_ended a b)
-steps_more answers [] old mid new s text own a b (same, none, well) h =
-    (new, own, [], b, ends.Well, subst (λ x. Step answers x s new own b) same h, (refl, refl, refl), ap (λ t. t ++ own) none ∙ sym (append-nil own), ap (λ x. both_ended x b) well ∙ sym (ended_first b))
-steps_more answers (x ∷ ss) old mid new s text own a b (next, first, rest, c, d, this, others, joined, both) h =
-    (next, first, rest ++ own, c, both_ended d b, this, steps_more answers ss next mid new s rest own d b others h, ap (λ t. t ++ own) joined ∙ append_assoc first rest own, ap (λ x. both_ended x b) both ∙ ended_assoc c d b)
+-- steps, and those behind them
+steps_on : {L : Type 0} (answers : Answering L) (ss ts : List Statement) (old mid new : State L) (text own : List ℕ) (a b : ends.Ended)
+    → Steps answers old ss mid text a → Steps answers mid ts new own b → Steps answers old (ss ++ ts) new (text ++ own) (both_ended a b)
+steps_on answers [] ts old mid new text own a b (same, none, well) h =
+    let from_old : Steps answers old ts new own b = subst (λ x. Steps answers x ts new own b) same h in
+    let joined : Steps answers old ts new (text ++ own) b = subst (λ t. Steps answers old ts new (t ++ own) b) (sym none) from_old in
+    subst (λ e. Steps answers old ts new (text ++ own) (both_ended e b)) (sym well) joined
+steps_on answers (x ∷ ss) ts old mid new text own a b (next, first, rest, c, d, this, others, joined, both) h =
+    (next, first, rest ++ own, c, both_ended d b, this, steps_on answers ss ts next mid new rest own d b others h, ap (λ t. t ++ own) joined ∙ append_assoc first rest own, ap (λ x. both_ended x b) both ∙ ended_assoc c d b)
+
+one_step : {L : Type 0} (answers : Answering L) (s : Statement) (old new : State L) (text : List ℕ) (a : ends.Ended) → Step answers old s new text a → Steps answers old (s ∷ []) new text a
+one_step answers s old new text a this = (new, text, [], a, ends.Well, this, (refl, refl, refl), sym (append-nil text), sym (ended_first a))
 
 -- ---- sinks
 
@@ -64,13 +73,7 @@ pub took_all : (a b : Option (List ℕ)) (text : List ℕ) → Took a text b →
 took_all None b text h = tt
 took_all (Some before) b text h = (0, omega arith, h ∙ ap (λ x. Some x) (sym (append-nil (before ++ text))))
 
--- ---- statements of a script
-
-abbrev pub RanTo : {L : Type 0} → Answering L → State L → List tree.Statement → ℕ → State L → Option (List ℕ) → Option (List ℕ) → Ended → Type 0
-RanTo answers old xs i new taken taken' ended = RunsAll answers old (statements_of (take i xs)) new taken taken' ended
-
-pub nothing_ran : {L : Type 0} (answers : Answering L) (old : State L) (xs : List tree.Statement) (taken : Option (List ℕ)) → RanTo answers old xs 0 old taken taken e.Well
-nothing_ran answers old xs taken = ([], ends.Well, (refl, refl, refl), refl, took_nothing taken)
+-- ---- the statements of a list
 
 pub front : (xs : List tree.Statement) (i : ℕ) (x : tree.Statement) → i < length xs → x ≡ get_or xs i x → statements_of (take (suc i) xs) ≡ statements_of (take i xs) ++ statement_of x ∷ []
 front [] i x l h = absurd (omega (arith, l))
@@ -82,35 +85,71 @@ split [] i x l h = absurd (omega (arith, l))
 split (y ∷ xs) zero x l h = ap (λ z. statement_of z ∷ statements_of xs) (sym h)
 split (y ∷ xs) (suc i) x l h = ap (λ zs. statement_of y ∷ zs) (split xs i x (omega (arith, l)) h)
 
-pub one_more : {L : Type 0} (answers : Answering L) (old mid new : State L) (xs : List tree.Statement) (i : ℕ) (x : tree.Statement) (taken taken' taken'' : Option (List ℕ)) (ended both : Ended) (p : Printed)
-    → i < length xs → x ≡ get_or xs i x → RanTo answers old xs i mid taken taken' ended → Takes answers mid (statement_of x) new p → Took taken' p.text.items taken'' → IsBoth ended p.ended both
-    → RanTo answers old xs (suc i) new taken taken'' both
-one_more answers old mid new xs i x taken taken' taken'' ended both p l h (text, how, ran, is, took) (own, this, own_is) put b =
-    (text ++ p.text.items, both_ended how own, subst (λ ss. Steps answers old ss new (text ++ p.text.items) (both_ended how own)) (sym (front xs i x l h)) (steps_more answers _ old mid new (statement_of x) text p.text.items how own ran this), b how own is own_is, took_more taken taken' taken'' text p.text.items took put)
+-- ---- statements, one behind the other
+
+pub nothing_ran : {L : Type 0} (answers : Answering L) (old : State L) (taken : Option (List ℕ)) → RunsAll answers old [] old taken taken e.Well
+nothing_ran answers old taken = ([], ends.Well, (refl, refl, refl), refl, took_nothing taken)
+
+pub ran_on : {L : Type 0} (answers : Answering L) (old mid new : State L) (ss ts : List Statement) (taken taken' taken'' : Option (List ℕ)) (ended own both : Ended)
+    → RunsAll answers old ss mid taken taken' ended → RunsAll answers mid ts new taken' taken'' own → IsBoth ended own both → RunsAll answers old (ss ++ ts) new taken taken'' both
+ran_on answers old mid new ss ts taken taken' taken'' ended own both (text, how, ran, is, took) (text', how', ran', is', took') b =
+    (text ++ text', both_ended how how', steps_on answers ss ts old mid new text text' how how' ran ran', b how how' is is', took_more taken taken' taken'' text text' took took')
+
+-- some are done, and those behind them break off
+steps_broke : {L : Type 0} (answers : Answering L) (fails : Failing L) (old mid new : State L) (ss ts : List Statement) (break : step.Break) (text printed begun : List ℕ) (a : ends.Ended)
+    → Steps answers old ss mid text a → step.StepsBreak answers fails mid ts break new printed begun → step.StepsBreak answers fails old (ss ++ ts) break new (text ++ printed) begun
+steps_broke answers fails old mid new ss ts break text printed begun a ran (step.undone front rest s from ended is before broke none) =
+    step.undone (ss ++ front) rest s from (both_ended a ended) (ap (λ xs. ss ++ xs) is ∙ sym (append_assoc ss front (s ∷ rest))) (steps_on answers ss front old mid from text printed a ended ran before) broke none
+steps_broke answers fails old mid new ss ts break text printed begun a ran (step.done front rest s from ended own is before sink this) =
+    step.done (ss ++ front) rest s from (both_ended a ended) own (ap (λ xs. ss ++ xs) is ∙ sym (append_assoc ss front (s ∷ rest))) (steps_on answers ss front old mid from text printed a ended ran before) sink this
+
+up_to_more : (a b c : Option (List ℕ)) (text printed begun : List ℕ) → Took a text b → TookUpTo b printed begun c → TookUpTo a (text ++ printed) begun c
+up_to_more None b c text printed begun h k = tt
+up_to_more (Some before) b c text printed begun h k =
+    let up : TookUpTo (Some (before ++ text)) printed begun c = subst (λ x. TookUpTo x printed begun c) h k in
+    subst (λ x. TookBeginning (Some x) begun c) (append_assoc before text printed) up
+
+pub broke_on : {L : Type 0} (answers : Answering L) (fails : Failing L) (old mid new : State L) (ss ts : List Statement) (taken taken' taken'' : Option (List ℕ)) (ended : Ended) (fault : RunFault)
+    → RunsAll answers old ss mid taken taken' ended → BreaksIn answers fails mid ts new taken' taken'' fault → BreaksIn answers fails old (ss ++ ts) new taken taken'' fault
+broke_on answers fails old mid new ss ts taken taken' taken'' ended fault (text, how, ran, is, took) (printed, begun, broke, up) =
+    (text ++ printed, begun, steps_broke answers fails old mid new ss ts (break_of fault) text printed begun how ran broke, up_to_more taken taken' taken'' text printed begun took up)
+
+-- where a list breaks off, a longer one does
+longer_broke : {L : Type 0} (answers : Answering L) (fails : Failing L) (old new : State L) (ss ts : List Statement) (break : step.Break) (printed begun : List ℕ) → step.StepsBreak answers fails old ss break new printed begun → step.StepsBreak answers fails old (ss ++ ts) break new printed begun
+longer_broke answers fails old new ss ts break printed begun (step.undone front rest s mid ended is before broke none) =
+    step.undone front (rest ++ ts) s mid ended (ap (λ xs. xs ++ ts) is ∙ append_assoc front (s ∷ rest) ts) before broke none
+longer_broke answers fails old new ss ts break printed begun (step.done front rest s mid ended own is before sink this) =
+    step.done front (rest ++ ts) s mid ended own (ap (λ xs. xs ++ ts) is ∙ append_assoc front (s ∷ rest) ts) before sink this
+
+pub broke_before : {L : Type 0} (answers : Answering L) (fails : Failing L) (old new : State L) (ss ts : List Statement) (taken taken' : Option (List ℕ)) (fault : RunFault) → BreaksIn answers fails old ss new taken taken' fault → BreaksIn answers fails old (ss ++ ts) new taken taken' fault
+broke_before answers fails old new ss ts taken taken' fault (printed, begun, broke, up) = (printed, begun, longer_broke answers fails old new ss ts (break_of fault) printed begun broke, up)
+
+-- ---- one statement
+
+pub one_ran : {L : Type 0} (answers : Answering L) (old new : State L) (s : Statement) (taken taken' : Option (List ℕ)) (p : Printed) → Takes answers old s new p → Took taken p.text.items taken' → RunsAll answers old (s ∷ []) new taken taken' p.ended
+one_ran answers old new s taken taken' p (how, this, is) took = (p.text.items, how, one_step answers s old new p.text.items how this, is, took)
 
 -- a statement breaks off, and is not done
-pub broke_undone : {L : Type 0} (answers : Answering L) (fails : Failing L) (old mid new : State L) (xs : List tree.Statement) (i : ℕ) (x : tree.Statement) (taken taken' : Option (List ℕ)) (ended : Ended) (fault : RunFault)
-    → i < length xs → x ≡ get_or xs i x → RanTo answers old xs i mid taken taken' ended → StepBreaks answers fails mid (statement_of x) (break_of fault) new → BreaksIn answers fails old (statements_of xs) new taken taken' fault
-broke_undone answers fails old mid new xs i x taken taken' ended fault l h (text, how, ran, is, took) broke =
-    (text, [], step.undone (statements_of (take i xs)) (statements_of (drop (suc i) xs)) (statement_of x) mid how (split xs i x l h) ran broke refl, took_all taken taken' text took)
+pub broke_undone : {L : Type 0} (answers : Answering L) (fails : Failing L) (old new : State L) (s : Statement) (taken : Option (List ℕ)) (fault : RunFault) → StepBreaks answers fails old s (break_of fault) new → BreaksIn answers fails old (s ∷ []) new taken taken fault
+broke_undone answers fails old new s taken fault broke = ([], [], step.undone [] [] s old ends.Well refl (refl, refl, refl) broke refl, took_all taken taken [] (took_nothing taken))
 
--- the sink refuses a statement's text
-pub broke_done : {L : Type 0} (answers : Answering L) (fails : Failing L) (old mid new : State L) (xs : List tree.Statement) (i : ℕ) (x : tree.Statement) (taken taken' taken'' : Option (List ℕ)) (ended : Ended) (p : Printed)
-    → i < length xs → x ≡ get_or xs i x → RanTo answers old xs i mid taken taken' ended → Takes answers mid (statement_of x) new p → TookBeginning taken' p.text.items taken'' → BreaksIn answers fails old (statements_of xs) new taken taken'' r.Sink
-broke_done answers fails old mid new xs i x taken taken' taken'' ended p l h (text, how, ran, is, took) (own, this, own_is) begun =
-    (text, p.text.items, step.done (statements_of (take i xs)) (statements_of (drop (suc i) xs)) (statement_of x) mid how own (split xs i x l h) ran refl this, took_up_to taken taken' taken'' text p.text.items took begun)
+-- the sink refuses its text
+pub broke_done : {L : Type 0} (answers : Answering L) (fails : Failing L) (old new : State L) (s : Statement) (taken taken' : Option (List ℕ)) (p : Printed) → Takes answers old s new p → TookBeginning taken p.text.items taken' → BreaksIn answers fails old (s ∷ []) new taken taken' r.Sink
+broke_done answers fails old new s taken taken' p (own, this, is) begun = ([], p.text.items, step.done [] [] s old ends.Well own refl (refl, refl, refl) refl this, took_up_to taken taken taken' [] p.text.items (took_nothing taken) begun)
 
 -- ---- scripts
 
-pub script_ran : {L : Type 0} (answers : Answering L) (old new : State L) (script : List ℕ) (ss : List Statement) (taken taken' : Option (List ℕ)) (result : Result Ended RunFault)
-    → AreStatements script ss → IfOk result (RunsAll answers old ss new taken taken') → IfOk result (Runs answers old script new taken taken')
-script_ran answers old new script ss taken taken' (Ok ended) a (text, how, ran, is, took) = (text, how, step.run ss a ran, is, took)
-script_ran answers old new script ss taken taken' (Err f) a h = tt
+pub script_ran : {L : Type 0} (answers : Answering L) (old new : State L) (script : List ℕ) (tokens : List Token) (taken taken' : Option (List ℕ)) (result : Result Ended RunFault)
+    → AreScript script tokens → ((ss : List Statement) → Derives (kinds_of tokens) ss → IfOk result (RunsAll answers old ss new taken taken')) → IfOk result (Runs answers old script new taken taken')
+script_ran answers old new script tokens taken taken' (Ok ended) a runs =
+    let it = runs a.1.0 a.1.1 in (it.0, it.1, step.run a.1.0 (tokens_of tokens, a.0, a.1.1) it.2, it.3, it.4)
+script_ran answers old new script tokens taken taken' (Err f) a runs = tt
 
-pub script_broke : {L : Type 0} (answers : Answering L) (fails : Failing L) (old new : State L) (script : List ℕ) (ss : List Statement) (taken taken' : Option (List ℕ)) (result : Result Ended RunFault)
-    → AreStatements script ss → IfErr result (BreaksIn answers fails old ss new taken taken') → IfErr result (BreaksOff answers fails old script new taken taken')
-script_broke answers fails old new script ss taken taken' (Ok ended) a h = tt
-script_broke answers fails old new script ss taken taken' (Err f) a (printed, begun, broke, took) = (printed, begun, step.steps ss a broke, took)
+pub script_broke : {L : Type 0} (answers : Answering L) (fails : Failing L) (old new : State L) (script : List ℕ) (tokens : List Token) (taken taken' : Option (List ℕ)) (result : Result Ended RunFault)
+    → AreScript script tokens → ((ss : List Statement) → Derives (kinds_of tokens) ss → IfErr result (BreaksIn answers fails old ss new taken taken')) → IfErr result (BreaksOff answers fails old script new taken taken')
+script_broke answers fails old new script tokens taken taken' (Ok ended) a breaks = tt
+script_broke answers fails old new script tokens taken taken' (Err f) a breaks =
+    let it = breaks a.1.0 a.1.1 in (it.0, it.1, step.steps a.1.0 (tokens_of tokens, a.0, a.1.1) it.2, it.3)
 
 pub line_printed : {L : Type 0} (answers : Answering L) (old : State L) (script line : List ℕ) (taken taken' : Option (List ℕ)) (result : Result Ended RunFault)
     → FaultLine script line → IfOk result (Prints line taken taken') → IfOk result (Runs answers old script old taken taken')

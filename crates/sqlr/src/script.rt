@@ -1,16 +1,16 @@
-//! From a script's text to its statements.
+//! From a script's text to its tokens and its statements.
 
 ghost use Rattle.std.specs.Prelude.{◌≡◌, IfOk, IfErr, option_map};
 ghost use Rattle.parse_tree.specs.Trees.{statements_of};
 ghost use Rattle.lexer.specs.Meaning.{fault_of};
 ghost use Rattle.definitions_execution.specs.Step.{AreStatements};
-ghost use Rattle.sqlr.specs.Scripts.{IsFault, line_of, lexical_line};
+ghost use Rattle.sqlr.specs.Scripts.{AreScript, IsFault, line_of, lexical_line, syntax_line};
 
 use diagnostics::{Cause, Refused};
-use lexer::{LexFault, lex};
+use lexer::{LexFault, Token, lex};
 use sqlvalue::Refusal;
 use std::alloc::Global;
-use syntax::{Statement, SyntaxFault, parse};
+use syntax::{Statement, SyntaxFault, check_script, parse};
 
 /// Why a script is not run.
 pub enum ScriptFault {
@@ -36,21 +36,23 @@ pub fn parse_script(alloc: Global, script: &str) -> Result<Vec<Statement>, Scrip
     };
     match parse(alloc, &tokens, script.len()) {
         Ok(statements) => Ok(statements),
-        Err(SyntaxFault::Unexpected(unexpected)) => Err(ScriptFault::Refused {
-            refused: Refused {
-                refusal: Refusal::Unexpected,
-                cause: Cause::Unexpected(unexpected),
-            },
-            offset: unexpected.offset,
-        }),
-        Err(SyntaxFault::TooDeep { offset }) => Err(ScriptFault::Refused {
-            refused: Refused {
-                refusal: Refusal::TooDeep,
-                cause: Cause::TooDeep { offset },
-            },
-            offset,
-        }),
-        Err(SyntaxFault::Memory { offset }) => Err(ScriptFault::Memory { offset }),
+        Err(fault) => Err(syntactic(fault)),
+    }
+}
+
+/// The tokens of a script, which are statements; they are read to its end, and their trees dropped: a tree takes many
+/// times the room of its tokens.
+pub fn read_script(alloc: Global, script: &str) -> Result<Vec<Token<'_>>, ScriptFault>
+    ensures script { IfOk result (λ tokens. AreScript script.now tokens.items) }
+    ensures fault { IfErr result (IsFault script.now) }
+{
+    let tokens = match lex(alloc, script) {
+        Ok(tokens) => tokens,
+        Err(fault) => return Err(lexical(fault)),
+    };
+    match check_script(alloc, &tokens, script.len()) {
+        Ok(()) => Ok(tokens),
+        Err(fault) => Err(syntactic(fault)),
     }
 }
 
@@ -70,5 +72,27 @@ fn lexical(fault: LexFault) -> ScriptFault
             cause: Cause::Lexical(fault),
         },
         offset,
+    }
+}
+
+fn syntactic(fault: SyntaxFault) -> ScriptFault
+    ensures { line_of result ≡ syntax_line fault }
+{
+    match fault {
+        SyntaxFault::Unexpected(unexpected) => ScriptFault::Refused {
+            refused: Refused {
+                refusal: Refusal::Unexpected,
+                cause: Cause::Unexpected(unexpected),
+            },
+            offset: unexpected.offset,
+        },
+        SyntaxFault::TooDeep { offset } => ScriptFault::Refused {
+            refused: Refused {
+                refusal: Refusal::TooDeep,
+                cause: Cause::TooDeep { offset },
+            },
+            offset,
+        },
+        SyntaxFault::Memory { offset } => ScriptFault::Memory { offset },
     }
 }

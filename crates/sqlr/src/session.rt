@@ -1,13 +1,16 @@
 //! A session: a database, the library that LOAD asks, and how its scripts are run.
 
-ghost use Rattle.std.specs.Prelude.{◌≡◌, ◌≢◌, ℕ, List, [], None, IfOk, IfErr, OnErr};
+ghost use Rattle.std.specs.Prelude.{◌≡◌, ◌≢◌, ℕ, List, [], ◌∷◌, None, IfOk, IfErr, OnErr};
+ghost use Rattle.definitions.specs.Grammar.{Derives};
 ghost use Rattle.definitions.specs.Printing.{fault_text};
 ghost use Rattle.definitions.specs.Statement as tree;
 ghost use Rattle.definitions.specs.Table.{table_named};
 ghost use Rattle.sqlvalue.specs.RefusalMeaning.{refusal_of};
-ghost use Rattle.parse_tree.specs.Trees.{name_of, select_of, statement_of, statements_of, text_of};
+ghost use Rattle.lexer.specs.Meaning.{kinds_of};
+ghost use Rattle.parse_tree.specs.Trees.{name_of, select_of, statement_of, text_of};
 ghost use Rattle.sqlr.specs.declared.outcome.StepFault.TheVariants as fault;
 ghost use Rattle.sqlr.specs.Devices.{Took};
+ghost use Rattle.sqlr.specs.Scripts.{DeriveSome};
 ghost use Rattle.sqlr.specs.Sessions.{BreaksAt, BreaksIn, BreaksLine, BreaksOff, IsBoth, IsLibraryBlamed, IsSinkBlamed, IsStepBlamed, Prints, Runs, RunsAll, Takes, TakesBytes};
 
 use crate::changes::{create_index, create_table, set_index_statistics, set_table_statistics};
@@ -16,15 +19,16 @@ use crate::explaining::explain;
 use crate::library::{FetchFault, Fetched, Library};
 use crate::outcome::{Printed, StepFault, Told, loaded, refusal_line, refused_record};
 use crate::progress::WatchedLoad;
-use crate::script::{ScriptFault, parse_script};
+use crate::script::{ScriptFault, read_script};
 use crate::select::select;
 use crate::sink::Sink;
 use catalog::{Database, LoadFault};
 use diagnostics::{Cause, FileLoad};
+use lexer::Token;
 use sqlvalue::{LOADED_ROOM, Refusal, write_fault, write_loaded};
 use std::alloc::Global;
 use std::marker::Model;
-use syntax::{Name, Select, Statement, StringLiteral};
+use syntax::{Name, NoMemory, Select, Statement, StringLiteral, statement_at};
 
 /// A database, the library that LOAD finds its files in, and how many rows the last SELECT that printed rows has opened.
 #[derive(Drop)]
@@ -87,8 +91,8 @@ impl<L: Library> Session<L> {
         ensures library { IsLibraryBlamed (L.failures self.old.library) (L.failures self.new.library) result }
         ensures sink { IsSinkBlamed (S.failures sink.old) (S.failures sink.new) result }
     {
-        match parse_script(self.alloc, script) {
-            Ok(statements) => self.run_statements(&statements, sink),
+        match read_script(self.alloc, script) {
+            Ok(tokens) => self.run_statements(&tokens, sink),
             Err(ScriptFault::Refused { refused, offset }) => {
                 sink.report(&refused, &self.database);
                 self.put_fault(refused.refusal, offset, sink)
@@ -120,34 +124,57 @@ impl<L: Library> Session<L> {
         }
     }
 
-    fn run_statements<S: Sink>(
-        &mut self,
-        statements: &[Statement],
-        sink: &mut S,
-    ) -> Result<Ended, RunFault>
-        ensures runs { IfOk result (RunsAll L.answers self.old (statements_of statements.now) self.new
-            (S.taken sink.old) (S.taken sink.new)) }
-        ensures breaks { IfErr result (BreaksIn L.answers L.fails self.old (statements_of statements.now) self.new
-            (S.taken sink.old) (S.taken sink.new)) }
+    /// Runs the statements that some tokens are: each is parsed when its turn comes, and its tree is dropped behind it.
+    fn run_statements<S: Sink>(&mut self, tokens: &[Token], sink: &mut S) -> Result<Ended, RunFault>
+        requires { DeriveSome tokens.now }
+        ensures runs { (statements : List tree.Statement) → Derives (kinds_of tokens.now) statements →
+            IfOk result (RunsAll L.answers self.old statements self.new (S.taken sink.old) (S.taken sink.new)) }
+        ensures breaks { (statements : List tree.Statement) → Derives (kinds_of tokens.now) statements →
+            IfErr result (BreaksIn L.answers L.fails self.old statements self.new (S.taken sink.old)
+            (S.taken sink.new)) }
         ensures library { IsLibraryBlamed (L.failures self.old.library) (L.failures self.new.library) result }
         ensures sink { IsSinkBlamed (S.failures sink.old) (S.failures sink.new) result }
     {
         let mut ended = Ended::Well;
-        'statements: for statement in statements {
-            let offset = place_of(statement);
-            let printed = match self.step(statement, sink) {
-                Ok(printed) => printed,
-                Err(StepFault::Memory) => return Err(RunFault::Memory { offset }),
-                Err(StepFault::Library) => return Err(RunFault::Library { offset }),
+        let mut at = 0;
+        'statements: while at < tokens.len() {
+            let read = match statement_at(self.alloc, tokens, at) {
+                Ok(read) => read,
+                Err(NoMemory { offset }) => return Err(RunFault::Memory { offset }),
             };
-            tell_cause(sink, &printed.told, &self.database);
-            match sink.put(&printed.text) {
-                Ok(()) => {}
-                Err(_) => return Err(RunFault::Sink),
-            }
-            ended = both(ended, printed.ended);
+            let ran = self.run_statement(&read.statement, sink);
+            at = read.next;
+            drop(read);
+            let own = ran?;
+            ended = both(ended, own);
         }
         Ok(ended)
+    }
+
+    /// Runs a statement, and puts what it prints into a sink.
+    fn run_statement<S: Sink>(
+        &mut self,
+        statement: &Statement,
+        sink: &mut S,
+    ) -> Result<Ended, RunFault>
+        ensures runs { IfOk result (RunsAll L.answers self.old (statement_of statement.now ∷ []) self.new
+            (S.taken sink.old) (S.taken sink.new)) }
+        ensures breaks { IfErr result (BreaksIn L.answers L.fails self.old (statement_of statement.now ∷ []) self.new
+            (S.taken sink.old) (S.taken sink.new)) }
+        ensures library { IsLibraryBlamed (L.failures self.old.library) (L.failures self.new.library) result }
+        ensures sink { IsSinkBlamed (S.failures sink.old) (S.failures sink.new) result }
+    {
+        let offset = place_of(statement);
+        let printed = match self.step(statement, sink) {
+            Ok(printed) => printed,
+            Err(StepFault::Memory) => return Err(RunFault::Memory { offset }),
+            Err(StepFault::Library) => return Err(RunFault::Library { offset }),
+        };
+        tell_cause(sink, &printed.told, &self.database);
+        match sink.put(&printed.text) {
+            Ok(()) => Ok(printed.ended),
+            Err(_) => Err(RunFault::Sink),
+        }
     }
 
     /// Runs a statement, and tells a sink how far it is. One that breaks off has changed nothing in the database; a LOAD may have asked

@@ -8,7 +8,7 @@ use Rattle.definitions.specs.Statement.{Statement}
 use Rattle.definitions.specs.Rule.{At, NotAt}
 use Rattle.definitions.specs.Grammar as g
 use Rattle.definitions.specs.Grammar.{within}
-use Rattle.definitions.proofs.Grammar.{statement_alike, within_alike, no_token_there}
+use Rattle.definitions.proofs.Grammar.{statement_alike, within_alike, no_token_there, agree_self}
 use Rattle.lexer.specs.declared.token.Token.{Token}
 use Rattle.lexer.specs.Meaning.{token_of, tokens_of}
 use Rattle.syntax_cursor.specs.declared.stop.ParseStop.{ParseStop}
@@ -17,7 +17,7 @@ use Rattle.syntax.specs.declared.fault.SyntaxFault.{SyntaxFault}
 use Rattle.syntax.specs.declared.fault.SyntaxFault.TheVariants as f
 use Rattle.lexer.specs.Meaning.{kinds_of}
 use Rattle.syntax_cursor.specs.Reading.{Place, IsNext, Agree, Nowhere, Stops, Outcome, viewed, opened}
-use Rattle.syntax.specs.Reading.{ScriptIn, ParsesScript, IsSyntaxFault, TellsStop, start_or}
+use Rattle.syntax.specs.Reading.{ScriptIn, ParsesScript, ParsesStatement, IsStatement, SkimsScript, IsSyntaxFault, TellsStop, start_or}
 use Rattle.syntax_cursor.specs.Reading as r
 use Rattle.syntax_cursor.proofs.Stopping.{stops_as}
 
@@ -137,35 +137,45 @@ semicolon_fails p q t x stop l (r.read y e d) h =
     let gone : NotAt p.tokens q.at (Mark Semicolon) = subst (λ ts. NotAt ts q.at (Mark Semicolon)) e h.0 in
     subst (λ z. ParsesScript p (Err z)) (sym h.1) (r.at_token q.at rises (λ us ag m. nowhere_semicolon p.tokens us q.at p.at q.at most_levels m k.0 x ag rises (omega arith) k.1 d gone))
 
--- a statement with its semicolon, and the script behind it
-next_script : (p q t : Place) (x : Statement) → p.at < length p.tokens → Outcome (λ m. g.StatementOf (within m)) most_levels most_levels p q (Ok x) → At q.tokens q.at (Mark Semicolon) × IsNext q t → (o : Result (List Statement) ParseStop) → ParsesScript t o → ParsesScript p (viewed (λ ys. x ∷ ys) o)
-next_script p q t x l (r.read y e d) at (Ok ys) rest =
-    let d₁ : g.ScriptAt most_levels p.tokens (q.at + 1) ys = subst (λ i. g.ScriptAt most_levels p.tokens i ys) at.1.at (subst (λ ts. g.ScriptAt most_levels ts t.at ys) (at.1.tokens ∙ e) rest) in
-    g.next p.at q.at x ys d (subst (λ ts. At ts q.at (Mark Semicolon)) e at.0) d₁
-next_script p q t x l (r.read y e d) at (Err stop) rest =
+-- a statement with its semicolon
+pub statement_ended : (p q t : Place) (x : Statement) → Outcome (λ m. g.StatementOf (within m)) most_levels most_levels p q (Ok x) → At q.tokens q.at (Mark Semicolon) × IsNext q t → IsStatement p t x
+statement_ended p q t x (r.read y e d) at = record {
+  tokens = at.1.tokens ∙ e;
+  mid = q.at;
+  reads = d;
+  semicolon = subst (λ ts. At ts q.at (Mark Semicolon)) e at.0;
+  next = at.1.at;
+}
+
+-- and the script behind it
+next_script : (p t : Place) (x : Statement) → p.at < length p.tokens → IsStatement p t x → (o : Result (List Statement) ParseStop) → ParsesScript t o → ParsesScript p (viewed (λ ys. x ∷ ys) o)
+next_script p t x l s (Ok ys) rest =
+    let d₁ : g.ScriptAt most_levels p.tokens (s.mid + 1) ys = subst (λ i. g.ScriptAt most_levels p.tokens i ys) s.next (subst (λ ts. g.ScriptAt most_levels ts t.at ys) s.tokens rest) in
+    g.next p.at s.mid x ys s.reads s.semicolon d₁
+next_script p t x l s (Err stop) rest =
     let k = kind_there p.tokens p.at l in
-    let rises : p.at ≤ q.at = (statement_alike (within_alike most_levels most_levels)).rises p.tokens p.at q.at x d in
-    stops_as ScriptIn ScriptIn p.tokens most_levels most_levels p.at t.at stop (omega (arith, rises, at.1.at))
-    (λ m us n h ag nw. nowhere_script p.tokens us n p.at q.at t.at most_levels m k.0 x ag (omega (arith, h, rises, at.1.at)) (omega (arith, h, at.1.at)) at.1.at k.1 d nw)
-    (subst (λ ts. Stops ScriptIn ts most_levels most_levels t.at stop) (at.1.tokens ∙ e) rest)
+    let rises : p.at ≤ s.mid = (statement_alike (within_alike most_levels most_levels)).rises p.tokens p.at s.mid x s.reads in
+    stops_as ScriptIn ScriptIn p.tokens most_levels most_levels p.at t.at stop (omega (arith, rises, s.next))
+    (λ m us n h ag nw. nowhere_script p.tokens us n p.at s.mid t.at most_levels m k.0 x ag (omega (arith, h, rises, s.next)) (omega (arith, h, s.next)) s.next k.1 s.reads nw)
+    (subst (λ ts. Stops ScriptIn ts most_levels most_levels t.at stop) s.tokens rest)
 
 assoc : (xs : List Statement) (x : Statement) (o : Result (List Statement) ParseStop) → viewed (λ ys. xs ++ ys) (viewed (λ ys. x ∷ ys) o) ≡ viewed (λ ys. (xs ++ x ∷ []) ++ ys) o
 assoc xs x (Ok ys) = ap Ok (sym (append_assoc xs (x ∷ []) ys))
 assoc xs x (Err stop) = refl
 
-pub script_goes_on : (p q q' t : Place) (xs : List Statement) (x : Statement) → Scripts p q xs → q.at < length q.tokens → Outcome (λ m. g.StatementOf (within m)) most_levels most_levels q q' (Ok x) → At q'.tokens q'.at (Mark Semicolon) × IsNext q' t → Scripts p t (xs ++ x ∷ [])
-script_goes_on p q q' t xs x inv l (r.read y e d) at =
-    (at.1.tokens ∙ e ∙ inv.0, λ o rest. subst (λ z. ParsesScript p z) (assoc xs x o) (inv.1 (viewed (λ ys. x ∷ ys) o) (next_script q q' t x l (r.read x e d) at o rest)))
+pub script_goes_on : (p q t : Place) (xs : List Statement) (x : Statement) → Scripts p q xs → q.at < length q.tokens → IsStatement q t x → Scripts p t (xs ++ x ∷ [])
+script_goes_on p q t xs x inv l s =
+    (s.tokens ∙ inv.0, λ o rest. subst (λ z. ParsesScript p z) (assoc xs x o) (inv.1 (viewed (λ ys. x ∷ ys) o) (next_script q t x l s o rest)))
 
 pub script_ends : (p q : Place) (xs : List Statement) → Scripts p q xs → q.at ≡ length q.tokens → ParsesScript p (Ok xs)
 script_ends p q xs inv e = subst (λ zs. ParsesScript p (Ok zs)) (append-nil xs) (inv.1 (Ok []) (g.end q.at e))
 
 -- fewer tokens are left behind a statement
-pub fewer : (q q' t : Place) (x : Statement) → q.at < length q.tokens → Outcome (λ m. g.StatementOf (within m)) most_levels most_levels q q' (Ok x) → At q'.tokens q'.at (Mark Semicolon) × IsNext q' t → length t.tokens - t.at < length q.tokens - q.at
-fewer q q' t x l (r.read y e d) at =
-    let rises : q.at ≤ q'.at = (statement_alike (within_alike most_levels most_levels)).rises q.tokens q.at q'.at x d in
-    let n : length t.tokens ≡ length q.tokens = ap length (at.1.tokens ∙ e) in
-    omega (arith, rises, n, at.1.at, l)
+pub fewer : (q t : Place) (x : Statement) → q.at < length q.tokens → IsStatement q t x → length t.tokens - t.at < length q.tokens - q.at
+fewer q t x l s =
+    let rises : q.at ≤ s.mid = (statement_alike (within_alike most_levels most_levels)).rises q.tokens q.at s.mid x s.reads in
+    let n : length t.tokens ≡ length q.tokens = ap length s.tokens in
+    omega (arith, rises, n, s.next, l)
 
 -- where a statement of the rest fails, the script does
 pub script_fails_at : (p q : Place) (xs : List Statement) (stop : ParseStop) → Scripts p q xs → ParsesScript q (Err stop) → ParsesScript p (Err stop)
@@ -174,5 +184,41 @@ script_fails_at p q xs stop inv h = inv.1 (Err stop) h
 pub answered : {A : Type 0} (p : Place) (f : A → List Statement) (result : Result A ParseStop) (stop : ParseStop) → result ≡ Err stop → ParsesScript p (Err stop) → ParsesScript p (viewed f result)
 answered p f result stop e h = subst (λ x. ParsesScript p (viewed f x)) (sym e) h
 
+pub statement_answered : {A : Type 0} (p q : Place) (f : A → Statement) (result : Result A ParseStop) (stop : ParseStop) → result ≡ Err stop → ParsesScript p (Err stop) → ParsesStatement p q (viewed f result)
+statement_answered p q f result stop e h = subst (λ x. ParsesStatement p q (viewed f x)) (sym e) h
+
+pub skim_answered : (p : Place) (result : Result Unit ParseStop) (stop : ParseStop) → result ≡ Err stop → ParsesScript p (Err stop) → SkimsScript p result
+skim_answered p result stop e h = subst (SkimsScript p) (sym e) h
+
 pub for_memory : (p : Place) (stop : ParseStop) → stop ≡ s.Memory → ParsesScript p (Err stop)
 for_memory p stop e = subst (λ x. ParsesScript p (Err x)) (sym e) r.for_memory
+
+-- the same where no statement is kept
+abbrev pub Skimmed : (p q : Place) → Type 0
+Skimmed p q = (xs : List Statement) × Scripts p q xs
+
+-- ---- one statement of a script
+
+pub kind_count : (tokens : List Token) → length (kinds_of tokens) ≡ length tokens
+kind_count [] = refl
+kind_count (t ∷ ts) = ap suc (kind_count ts)
+
+-- where a script goes on, only memory is wanting
+pub only_memory : (ts : List TokenKind) (at : ℕ) (stop : ParseStop) (ss : List Statement) → g.ScriptAt most_levels ts at ss → Stops ScriptIn ts most_levels most_levels at stop → stop ≡ s.Memory
+only_memory ts at (s.Token n) ss d (r.at_token n' l nw) = absurd (nw ts (agree_self ts n) most_levels (length ts) ss (refl, d))
+only_memory ts at (s.Deep n) ss d (r.too_deep n' k l y c nw) = absurd (nw ts (agree_self ts n) (length ts) ss (refl, d))
+only_memory ts at s.Memory ss d r.for_memory = refl
+
+pub ends_behind : (p q : Place) (x : Statement) → IsStatement p q x → p.at < q.at
+ends_behind p q x s =
+    let rises : p.at ≤ s.mid = (statement_alike (within_alike most_levels most_levels)).rises p.tokens p.at s.mid x s.reads in
+    omega (arith, rises, s.next)
+
+-- a statement that stands at a place is the first of those that do
+pub first_statement : (p q : Place) (ts : List TokenKind) (at : ℕ) (x : Statement) → p.tokens ≡ ts → p.at ≡ at → at < length ts → IsStatement p q x → (ss : List Statement) → g.ScriptAt most_levels ts at ss
+    → (rest : List Statement) × (ss ≡ x ∷ rest) × g.ScriptAt most_levels ts q.at rest
+first_statement p q ts at x e f l s ss (g.end at' h) = absurd (omega (arith, l, h))
+first_statement p q ts at x e f l s ss (g.next at' mid y rest d c behind) =
+    let own : g.StatementOf (within most_levels) ts at s.mid x = subst (λ i. g.StatementOf (within most_levels) ts i s.mid x) f (subst (λ us. g.StatementOf (within most_levels) us p.at s.mid x) e s.reads) in
+    let q' = (statement_alike (within_alike most_levels most_levels)).same ts ts s.mid (agree_self ts s.mid) at s.mid mid x y (omega arith) own d in
+    (rest, ap (λ z. z ∷ rest) (sym q'.1), next_in most_levels ts q.at (mid + 1) (length ts) rest (s.next ∙ ap (λ z. z + 1) q'.0) behind)

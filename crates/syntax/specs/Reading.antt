@@ -1,9 +1,9 @@
 -- What it means that lines and scripts are read.
-use Rattle.std.specs.Prelude.{ℕ, ◌≡◌, ⊤, List, Option, Some, None, Result, Ok, Err, slice_get, length}
+use Rattle.std.specs.Prelude.{ℕ, ◌≡◌, ◌+◌, ⊤, List, Option, Some, None, Result, Ok, Err, slice_get, length}
 use Rattle.definitions.specs.Limits.{most_levels}
 use Rattle.definitions.specs.Refusal as refusal
 use Rattle.definitions.specs.Token as token
-use Rattle.definitions.specs.Rule.{Rule}
+use Rattle.definitions.specs.Rule.{Rule, At}
 use Rattle.definitions.specs.Grammar as grammar
 use Rattle.definitions.specs.Grammar.{within, LineKind, ScriptAt, SyntaxFails}
 use Rattle.definitions.specs.Statement.{Expr, Statement}
@@ -37,6 +37,24 @@ ScriptIn m ts at to xs = (to ≡ length ts) × ScriptAt m ts at xs
 abbrev pub ParsesScript : Place → Result (List Statement) ParseStop → Type 0
 ParsesScript p (Ok xs) = ScriptAt most_levels p.tokens p.at xs
 ParsesScript p (Err stop) = Stops ScriptIn p.tokens most_levels most_levels p.at stop
+
+-- the same where no statement is kept
+abbrev pub SkimsScript : Place → Result Unit ParseStop → Type 0
+SkimsScript p (Ok done) = (xs : List Statement) × ScriptAt most_levels p.tokens p.at xs
+SkimsScript p (Err stop) = Stops ScriptIn p.tokens most_levels most_levels p.at stop
+
+-- a statement and its semicolon stand from a place to another
+pub record IsStatement (p q : Place) (x : Statement) : Type 0 where
+  pub tokens : q.tokens ≡ p.tokens
+  pub mid : ℕ
+  pub reads : grammar.StatementOf (within most_levels) p.tokens p.at mid x
+  pub semicolon : At p.tokens mid (token.Mark token.Semicolon)
+  pub next : q.at ≡ mid + 1
+
+-- a statement is read with its semicolon, or the script is stopped
+abbrev pub ParsesStatement : (p q : Place) → Result Statement ParseStop → Type 0
+ParsesStatement p q (Ok x) = IsStatement p q x
+ParsesStatement p q (Err stop) = Stops ScriptIn p.tokens most_levels most_levels p.at stop
 
 -- the offset at which a token begins, or else the end of the text
 abbrev pub start_or : (end : ℕ) → Option Token → ℕ

@@ -22,6 +22,13 @@ pub enum SyntaxFault {
     Memory { offset: usize },
 }
 
+/// Memory was wanting where a byte of the script was read.
+#[derive(Clone, Copy, Debug, PartialEq, Eq, Error)]
+#[error("out of memory at byte {offset}")]
+pub struct NoMemory {
+    pub offset: usize,
+}
+
 /// What stands where no script goes on, and what could have stood there. Offsets are in bytes of
 /// the script.
 #[derive(Clone, Copy, PartialEq, Eq)]

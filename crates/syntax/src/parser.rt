@@ -1,15 +1,17 @@
-//! Reads a whole script.
+//! Reads a whole script, or one statement of it.
 
-ghost use Rattle.std.specs.Prelude.{[], IfOk, IfErr};
-ghost use Rattle.definitions.specs.Grammar.{Derives};
+ghost use Rattle.std.specs.Prelude.{◌≡◌, ◌<◌, [], ◌∷◌, List, length, drop, map, IfOk, IfErr, OnOk};
+ghost use Rattle.definitions.specs.Limits.{most_levels};
+ghost use Rattle.definitions.specs.Statement as tree;
+ghost use Rattle.definitions.specs.Grammar.{Derives, ScriptAt};
 ghost use Rattle.lexer.specs.Meaning.{kinds_of, tokens_of};
-ghost use Rattle.parse_tree.specs.Trees.{statements_of};
-ghost use Rattle.syntax_cursor.specs.Places.{Stand, StandIn, left_at};
+ghost use Rattle.parse_tree.specs.Trees.{statement_of, statements_of};
+ghost use Rattle.syntax_cursor.specs.Places.{Placed, Stand, StandIn, Stands, left_at, placed_of};
 ghost use Rattle.syntax_cursor.specs.Reading.{viewed};
 ghost use Rattle.syntax.specs.Places.{all, statement_leaves};
-ghost use Rattle.syntax.specs.Reading.{IsSyntaxFault, ParsesScript};
+ghost use Rattle.syntax.specs.Reading.{IsSyntaxFault, ParsesScript, ParsesStatement, SkimsScript, TellsStop};
 
-use crate::fault::{SyntaxFault, fault_of};
+use crate::fault::{NoMemory, SyntaxFault, fault_of};
 use crate::statement::statement;
 use lexer::{Symbol, Token, TokenKind};
 use parse_tree::Statement;
@@ -18,6 +20,14 @@ use syntax_cursor::{Cursor, ParseStop, Wanted};
 
 /// The levels that parentheses, signs and NOTs may open (own).
 pub const MAX_LEVELS: u8 = 64;
+
+/// A statement of a script.
+#[derive(Drop)]
+pub struct StatementRead {
+    pub statement: Statement,
+    /// The place of the token behind its semicolon.
+    pub next: usize,
+}
 
 /// The statements that the tokens of a script are, `{ statement ";" }`, with each name, literal and
 /// operator where its token stands; `end` is the script's length in bytes.
@@ -30,11 +40,62 @@ pub fn parse(alloc: Global, tokens: &[Token], end: usize) -> Result<Vec<Statemen
     let mut cursor = Cursor::new(alloc, tokens, None);
     match script(alloc, &mut cursor) {
         Ok(statements) => Ok(statements),
-        Err(stop) => {
-            let wanted = wanted_at(alloc, tokens, stop);
-            Err(fault_of(tokens, end, stop, cursor.start(), wanted))
-        }
+        Err(stop) => Err(fault_at(alloc, tokens, end, stop, cursor.start())),
     }
+}
+
+/// Whether the tokens of a script are statements, `{ statement ";" }` (own): the fault that `parse` tells, if they are
+/// none. No tree outlives its statement.
+pub fn check_script(alloc: Global, tokens: &[Token], end: usize) -> Result<(), SyntaxFault>
+    ensures derived { OnOk result ((statements : List tree.Statement) × Derives (kinds_of tokens.now) statements) }
+    ensures fault { IfErr result (IsSyntaxFault (tokens_of tokens.now) end) }
+{
+    let mut cursor = Cursor::new(alloc, tokens, None);
+    match skim(&mut cursor) {
+        Ok(()) => Ok(()),
+        Err(stop) => Err(fault_at(alloc, tokens, end, stop, cursor.start())),
+    }
+}
+
+/// The statement at a place of the tokens, from which statements go on up to their end, with each name, literal and
+/// operator where its token stands, and the place behind its semicolon (own). Nothing but memory can be wanting.
+pub fn statement_at(alloc: Global, tokens: &[Token], at: usize) -> Result<StatementRead, NoMemory>
+    requires before { at < length tokens.now }
+    requires script { (statements : List tree.Statement) × ScriptAt most_levels (kinds_of tokens.now) at statements }
+    ensures first { IfOk result (λ read. (statements : List tree.Statement) →
+        ScriptAt most_levels (kinds_of tokens.now) at statements → (rest : List tree.Statement)
+        × (statements ≡ statement_of read.statement ∷ rest)
+        × ScriptAt most_levels (kinds_of tokens.now) read.next rest) }
+    ensures further { IfOk result (λ read. at < read.next) }
+    ensures placed { IfOk result (λ read. (left : List Placed)
+        × Stand (drop at (map placed_of (tokens_of tokens.now))) (statement_leaves read.statement) left) }
+{
+    let mut cursor = Cursor::at_place(alloc, tokens, at);
+    match ended_statement(&mut cursor) {
+        Ok(statement) => Ok(StatementRead {
+            statement,
+            next: cursor.place(),
+        }),
+        Err(ParseStop::Memory) => Err(NoMemory {
+            offset: cursor.start(),
+        }),
+        Err(ParseStop::Token(_)) => unreachable!(),
+        Err(ParseStop::Deep(_)) => unreachable!(),
+    }
+}
+
+/// The fault that a stop is; `here` is the byte where the rules stopped.
+fn fault_at(
+    alloc: Global,
+    tokens: &[Token],
+    end: usize,
+    stop: ParseStop,
+    here: usize,
+) -> SyntaxFault
+    ensures { TellsStop tokens.now end stop result }
+{
+    let wanted = wanted_at(alloc, tokens, stop);
+    fault_of(tokens, end, stop, here, wanted)
 }
 
 /// What the rules look for where nothing goes on with a token: its statement is read once more, up to it.
@@ -47,7 +108,7 @@ fn wanted_at(alloc: Global, tokens: &[Token], stop: ParseStop) -> Wanted {
         .map_or(0, |before| behind_semicolon(before));
     let statement = tokens.get(at.saturating_sub(begun)..).unwrap_or(&[]);
     let mut cursor = Cursor::new(alloc, statement, Some(begun));
-    let _ = script(alloc, &mut cursor);
+    let _ = skim(&mut cursor);
     cursor.wanted_here()
 }
 
@@ -67,9 +128,30 @@ fn script(alloc: Global, cursor: &mut Cursor) -> Result<Vec<Statement>, ParseSto
 {
     let mut statements = Vec::new(alloc);
     'statements: while !cursor.is_at_end() {
-        let statement = statement(cursor, MAX_LEVELS)?;
+        let statement = ended_statement(cursor)?;
         statements.push(statement)?;
-        cursor.expect_symbol(Symbol::Semicolon)?;
     }
     Ok(statements)
+}
+
+/// The same, with each tree dropped.
+fn skim(cursor: &mut Cursor) -> Result<(), ParseStop>
+    ensures { SkimsScript cursor.old result }
+{
+    'statements: while !cursor.is_at_end() {
+        let statement = ended_statement(cursor)?;
+        drop(statement);
+    }
+    Ok(())
+}
+
+/// `statement ";"`.
+fn ended_statement(cursor: &mut Cursor) -> Result<Statement, ParseStop>
+    requires { cursor.old.at < length cursor.old.tokens }
+    ensures reads { ParsesStatement cursor.old cursor.new (viewed statement_of result) }
+    ensures placed { IfOk result (λ statement. Stands cursor.old cursor.new (statement_leaves statement)) }
+{
+    let statement = statement(cursor, MAX_LEVELS)?;
+    cursor.expect_symbol(Symbol::Semicolon)?;
+    Ok(statement)
 }

@@ -59,6 +59,27 @@ impl<'t, 's> Cursor<'t, 's> {
         }
     }
 
+    /// A place in some tokens; what the rules look for is noted nowhere.
+    pub fn at_place(alloc: Global, tokens: &'t [Token<'s>], at: usize) -> Cursor<'t, 's>
+        requires { at ≤ length tokens.now }
+        ensures { result ≡ record { tokens = kinds_of tokens.now; starts = starts_of tokens.now; at = at } }
+    {
+        Cursor {
+            alloc,
+            tokens,
+            at,
+            watched: None,
+            wanted: Wanted::nothing(),
+        }
+    }
+
+    /// How many tokens are passed.
+    pub fn place(&self) -> usize
+        ensures { result ≡ self.now.at }
+    {
+        self.at
+    }
+
     /// Whether all tokens are passed.
     pub fn is_at_end(&self) -> bool
         ensures end { OnTrue result (self.now.at ≡ length self.now.tokens) }

@@ -5,6 +5,7 @@ use Rattle.std.proofs.lemmas.Bool.{cond-true}
 use Rattle.std.proofs.lemmas.Result.{err_from_is_err_and}
 use Rattle.definitions.specs.Lexing.{ReadsAs, LexFails}
 use Rattle.lexer.specs.Meaning.{fault_of, tokens_of}
+use Rattle.lexer.specs.declared.token.Token.{Token}
 use Rattle.lexer.proofs.Onward.{turn_same, turn_some, turn_within, turn_gap, turn_fault, turn_ascii, cut_before, cut_behind, reads_to_end, reads_more, slices_more}
 use Rattle.lexer.proofs.scan.lex.Goals as goal
 
@@ -66,7 +67,8 @@ loop-start-preserved c = record {
 pub returns-clause-tokens : goal.returns-clause-tokens
 returns-clause-tokens c =
     let P : List ℕ → Type 0 = λ xs. ReadsAs xs (Ok (tokens_of c.loop-start.tokens.items)) in
-    subst P c.as_bytes-bytes.ensures.value (reads_to_end c.as_bytes-bytes.result.now c.loop-start.start _ c.loop-start.invariant.reads c.loop-start-test.false)
+    let Q : List Token → Type 0 = λ ts. ReadsAs c.args.script.now (Ok (tokens_of ts)) in
+    subst Q (sym c.shrink_to_fit.ensures.items) (subst P c.as_bytes-bytes.ensures.value (reads_to_end c.as_bytes-bytes.result.now c.loop-start.start _ c.loop-start.invariant.reads c.loop-start-test.false))
 
 pub invariant_of-push : goal.invariant_of-push
 invariant_of-push c =

@@ -1,15 +1,8 @@
-use Rattle.std.proofs.Common.{refl}
-use Rattle.definitions_execution.specs.Step as s
-use Rattle.sqlr.proofs.Scripts.{lexical_told}
+use Rattle.sqlr.proofs.Scripts.{lexical_told, syntax_told}
 use Rattle.sqlr.proofs.script.parse_script.Goals as goal
 
 pub returns-in-Err-clause-fault : goal.returns-in-Err-clause-fault
 returns-in-Err-clause-fault c = lexical_told _ _ _ c.lexical.ensures c.in-Err.ensures.fault
 
-pub returns-in-Err-Unexpected-clause-fault : goal.returns-in-Err-Unexpected-clause-fault
-returns-in-Err-Unexpected-clause-fault c =
-    s.syntax _ _ c.in-Err-Unexpected.unexpected.offset c.in-Ok.ensures.tokens (rw (c.in-Err-Unexpected.field-0-is, c.deref.ensures.value) at c.in-Err-Unexpected.ensures.fault) refl
-
-pub returns-in-Err-TooDeep-clause-fault : goal.returns-in-Err-TooDeep-clause-fault
-returns-in-Err-TooDeep-clause-fault c =
-    s.syntax _ _ c.in-Err-TooDeep.offset c.in-Ok.ensures.tokens (rw (c.in-Err-TooDeep.field-0-is, c.deref.ensures.value) at c.in-Err-TooDeep.ensures.fault) refl
+pub returns-clause-fault : goal.returns-clause-fault
+returns-clause-fault c = syntax_told _ c.in-Ok.tokens.items c.in-Err-parse.fault _ c.syntactic.ensures c.in-Ok.ensures.tokens (rw c.deref.ensures.value at c.in-Err-parse.ensures.fault)

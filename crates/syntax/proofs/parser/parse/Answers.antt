@@ -9,7 +9,7 @@ pub returns-in-Ok-clause-derived : goal.returns-in-Ok-clause-derived
 returns-in-Ok-clause-derived c = rw c.new-cursor.ensures at c.in-Ok.ensures.reads
 
 pub returns-in-Err-clause-fault : goal.returns-in-Err-clause-fault
-returns-in-Err-clause-fault c = script_fails c.args.tokens.now c.args.end c.in-Err.stop c.fault_of.result (rw c.new-cursor.ensures at c.in-Err.ensures.reads) c.fault_of.ensures
+returns-in-Err-clause-fault c = script_fails c.args.tokens.now c.args.end c.in-Err.stop c.fault_at.result (rw c.new-cursor.ensures at c.in-Err.ensures.reads) c.fault_at.ensures
 
 pub returns-in-Ok-clause-placed : goal.returns-in-Ok-clause-placed
 returns-in-Ok-clause-placed c = subst (λ z. Stand z (all statement_leaves c.in-Ok.statements.items) []) (ap left_at c.new-cursor.ensures ∙ left_at_first c.args.tokens.now) c.in-Ok.ensures.placed

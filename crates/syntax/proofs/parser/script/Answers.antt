@@ -2,8 +2,8 @@ use Rattle.std.proofs.Common.{sym, ap, refl, rules, subst, ◌∙◌}
 use Rattle.std.proofs.Common.{map}
 use Rattle.parse_tree.specs.Trees.{statement_of}
 use Rattle.syntax_cursor.proofs.Lists.{map_push}
-use Rattle.syntax.proofs.Scripts.{Scripts, script_begins, script_goes_on, script_ends, script_fails_at, statement_fails, semicolon_fails, fewer, answered, for_memory}
-use Rattle.syntax_cursor.proofs.Places.{here, on, seen_as, past}
+use Rattle.syntax.proofs.Scripts.{Scripts, script_begins, script_goes_on, script_ends, script_fails_at, fewer, answered, for_memory}
+use Rattle.syntax_cursor.proofs.Places.{here, on, seen_as}
 use Rattle.syntax.proofs.Places as leaves
 use Rattle.syntax.specs.Places.{all, statement_leaves}
 use Rattle.syntax.proofs.parser.script.Goals as goal
@@ -22,18 +22,15 @@ returns-clause-placed c = leaves.ended _ _ _ c.statements.invariant.placed c.sta
 
 pub statements-preserved : goal.statements-preserved
 statements-preserved c = record {
-  reads = subst (λ xs. Scripts c.args.cursor.now c.expect_symbol.new.self xs) (sym (ap (λ xs. map statement_of xs) c.in_ok-push.ensures.items ∙ map_push _ _ _)) (script_goes_on c.args.cursor.now c.statements.cursor c.statement.new.cursor c.expect_symbol.new.self (map statement_of c.statements.statements.items) (statement_of c.in_ok-statement.statement) c.statements.invariant.reads c.statements-test.ensures.before c.in_ok-statement.ensures.reads c.in_ok-expect_symbol.ensures);
-  placed = seen_as (ap (all statement_leaves) c.in_ok-push.ensures.items ∙ leaves.all_push statement_leaves _ _) (past refl (on c.statements.invariant.placed c.in_ok-statement.ensures.placed) c.in_ok-expect_symbol.ensures);
+  reads = subst (λ xs. Scripts c.args.cursor.now c.ended_statement.new.cursor xs) (sym (ap (λ xs. map statement_of xs) c.in_ok-push.ensures.items ∙ map_push _ _ _)) (script_goes_on c.args.cursor.now c.statements.cursor c.ended_statement.new.cursor (map statement_of c.statements.statements.items) (statement_of c.in_ok-statement.statement) c.statements.invariant.reads c.statements-test.ensures.before c.in_ok-statement.ensures.reads);
+  placed = seen_as (ap (all statement_leaves) c.in_ok-push.ensures.items ∙ leaves.all_push statement_leaves _ _) (on c.statements.invariant.placed c.in_ok-statement.ensures.placed);
 }
 
 pub statements-smaller : goal.statements-smaller
-statements-smaller c = fewer c.statements.cursor c.statement.new.cursor c.expect_symbol.new.self (statement_of c.in_ok-statement.statement) c.statements-test.ensures.before c.in_ok-statement.ensures.reads c.in_ok-expect_symbol.ensures
+statements-smaller c = fewer c.statements.cursor c.ended_statement.new.cursor (statement_of c.in_ok-statement.statement) c.statements-test.ensures.before c.in_ok-statement.ensures.reads
 
 pub returns-in_err-statement-clause-reads : goal.returns-in_err-statement-clause-reads
-returns-in_err-statement-clause-reads c = answered c.args.cursor.now _ _ _ (search rules) (script_fails_at c.args.cursor.now c.statements.cursor _ _ c.statements.invariant.reads (statement_fails c.statements.cursor c.statement.new.cursor _ c.statements-test.ensures.before c.in_err-statement.ensures.reads))
+returns-in_err-statement-clause-reads c = answered c.args.cursor.now _ _ _ (search rules) (script_fails_at c.args.cursor.now c.statements.cursor _ _ c.statements.invariant.reads c.in_err-statement.ensures.reads)
 
 pub returns-in_err-push-clause-reads : goal.returns-in_err-push-clause-reads
 returns-in_err-push-clause-reads c = answered c.args.cursor.now _ _ _ (search rules) (for_memory c.args.cursor.now _ refl)
-
-pub returns-in_err-expect_symbol-clause-reads : goal.returns-in_err-expect_symbol-clause-reads
-returns-in_err-expect_symbol-clause-reads c = answered c.args.cursor.now _ _ _ (search rules) (script_fails_at c.args.cursor.now c.statements.cursor _ _ c.statements.invariant.reads (semicolon_fails c.statements.cursor c.statement.new.cursor c.expect_symbol.new.self (statement_of c.in_ok-statement.statement) _ c.statements-test.ensures.before c.in_ok-statement.ensures.reads c.in_err-expect_symbol.ensures))

@@ -3,10 +3,10 @@ use Rattle.sqlr.proofs.Running.{line_unasked}
 use Rattle.sqlr.proofs.session.Session.run.Goals as goal
 
 pub returns-in-Ok-clause-headline : goal.returns-in-Ok-clause-headline
-returns-in-Ok-clause-headline g c = script_ran _ _ _ _ _ _ _ _ c.in-Ok.ensures.statements (rw c.deref.ensures.value at c.run_statements.ensures.runs)
+returns-in-Ok-clause-headline g c = script_ran _ _ _ _ c.in-Ok.tokens.items _ _ _ c.in-Ok.ensures.script (rw c.deref.ensures.value at c.run_statements.ensures.runs)
 
 pub returns-in-Ok-clause-breaks : goal.returns-in-Ok-clause-breaks
-returns-in-Ok-clause-breaks g c = script_broke _ _ _ _ _ _ _ _ _ c.in-Ok.ensures.statements (rw c.deref.ensures.value at c.run_statements.ensures.breaks)
+returns-in-Ok-clause-breaks g c = script_broke _ _ _ _ _ c.in-Ok.tokens.items _ _ _ c.in-Ok.ensures.script (rw c.deref.ensures.value at c.run_statements.ensures.breaks)
 
 pub returns-in-Err-Refused-clause-headline : goal.returns-in-Err-Refused-clause-headline
 returns-in-Err-Refused-clause-headline g c = line_printed _ _ _ _ _ _ _ (rw c.in-Err-Refused.field-0-is at c.in-Err-Refused.ensures.fault) (rw c.report.ensures.taken at c.put_fault.ensures.prints)

@@ -1,37 +1,23 @@
-use Rattle.std.proofs.Common.{◌∙◌, ◌<◌, arith}
-use Rattle.sqlr.specs.declared.ended.RunFault.TheVariants as r
-use Rattle.sqlr.proofs.Running.{next, one_more, broke_undone, broke_done}
+use Rattle.std.proofs.Common.{◌∙◌}
+use Rattle.std.proofs.lemmas.Result.{err_from_is_err_and}
+use Rattle.parse_tree.specs.Trees.{statement_of}
+use Rattle.sqlr.proofs.Turns.{one_more, all_ran, broke_reading, broke_at}
 use Rattle.sqlr.proofs.session.Session.run_statements.Goals as goal
-
-pub returns-in-Err-Memory-clause-breaks : goal.returns-in-Err-Memory-clause-breaks
-returns-in-Err-Memory-clause-breaks g c =
-    broke_undone _ _ _ _ _ c.args.statements.now _ _ _ _ _ (r.Memory c.place_of-offset.result) c.statements-test.true c.statement-item.is c.statements.invariant.ran (rw c.in-Err-Memory.field-0-is at c.in-Err-Memory.ensures.breaks)
-
-pub returns-in-Err-Library-clause-breaks : goal.returns-in-Err-Library-clause-breaks
-returns-in-Err-Library-clause-breaks g c =
-    broke_undone _ _ _ _ _ c.args.statements.now _ _ _ _ _ (r.Library c.place_of-offset.result) c.statements-test.true c.statement-item.is c.statements.invariant.ran (rw c.in-Err-Library.field-0-is at c.in-Err-Library.ensures.breaks)
-
-pub returns-in-Err-clause-breaks : goal.returns-in-Err-clause-breaks
-returns-in-Err-clause-breaks g c =
-    broke_done _ _ _ _ _ c.args.statements.now _ _ _ _ _ _ c.in-Ok.printed c.statements-test.true c.statement-item.is c.statements.invariant.ran c.in-Ok.ensures.takes (rw (c.deref.ensures.value, c.tell_cause.ensures.taken) at c.in-Err.ensures.fault)
 
 pub statements-preserved : goal.statements-preserved
 statements-preserved g c = record {
-  ran = rw (next c.statements.statement-index) (one_more _ _ _ _ c.args.statements.now _ _ _ _ _ _ _ c.in-Ok.printed c.statements-test.true c.statement-item.is c.statements.invariant.ran c.in-Ok.ensures.takes (rw (c.deref.ensures.value, c.tell_cause.ensures.taken) at c.in-Ok-put.ensures.ok) c.both-ended.ensures);
-  fetches = c.in-Ok.ensures.blamed ∙ c.statements.invariant.fetches;
-  puts = c.in-Ok-put.ensures.unfailed ∙ c.tell_cause.ensures.counted ∙ c.statements.invariant.puts;
+  ran = one_more _ _ _ _ _ _ _ (statement_of c.in-Ok.read.statement) _ _ _ _ c.in_ok-own.own _ c.statements.invariant.ran c.in-Ok.ensures.first c.in_ok-own.ensures.runs c.both-ended.ensures;
+  fetches = c.in_ok-own.ensures.library ∙ c.statements.invariant.fetches;
+  puts = c.in_ok-own.ensures.sink ∙ c.statements.invariant.puts;
 }
 
-pub returns-in-Err-Memory-clause-library : goal.returns-in-Err-Memory-clause-library
-returns-in-Err-Memory-clause-library g c = (rw c.in-Err-Memory.field-0-is at c.in-Err-Memory.ensures.blamed) ∙ c.statements.invariant.fetches
+pub returns-clause-runs : goal.returns-clause-runs
+returns-clause-runs g c = all_ran _ _ _ _ _ _ _ _ c.statements-test.false c.statements.invariant.ran
 
-pub returns-in-Err-Library-clause-library : goal.returns-in-Err-Library-clause-library
-returns-in-Err-Library-clause-library g c =
-    let rose : g.L.Library.failures c.statements.self.library < g.L.Library.failures c.step.new.self.library = rw c.in-Err-Library.field-0-is at c.in-Err-Library.ensures.blamed in
-    omega (arith, rose, c.statements.invariant.fetches)
+pub returns-in-Err-clause-breaks : goal.returns-in-Err-clause-breaks
+returns-in-Err-clause-breaks g c = broke_reading _ _ _ _ _ _ _ _ _ c.in-Err.offset c.statements-test.true c.statements.invariant.ran
 
-pub returns-in-Err-clause-library : goal.returns-in-Err-clause-library
-returns-in-Err-clause-library g c = c.in-Ok.ensures.blamed ∙ c.statements.invariant.fetches
-
-pub returns-in-Err-clause-sink : goal.returns-in-Err-clause-sink
-returns-in-Err-clause-sink g c = omega (arith, c.in-Err.ensures.failed, c.tell_cause.ensures.counted, c.statements.invariant.puts)
+pub returns-in_err-own-clause-breaks : goal.returns-in_err-own-clause-breaks
+returns-in_err-own-clause-breaks g c =
+    let fault = err_from_is_err_and c.from_residual.result c.from_residual.ensures.1 in
+    λ statements derived. rw (fault.1, fault.2) (broke_at _ _ _ _ _ _ _ _ (statement_of c.in-Ok.read.statement) _ _ _ _ c.in_err-own.field-0.0 c.statements.invariant.ran c.in-Ok.ensures.first c.in_err-own.ensures.breaks statements derived)
