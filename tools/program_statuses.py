@@ -6,11 +6,12 @@ usage: program_statuses.py [PROGRAM]
 The program is ./sqlr, which builds it where it has to, or the one that is named.
 A line for each case; the status is 1 where one differs. What is expected is worked out by hand from the
 scripts, the words of a wrong command line are those of clap, and those of devices the system's. Of standard
-error the beginning is compared; where nothing is expected there, it is empty.
+error the beginning is compared, or the whole where a pattern is expected; where nothing is expected there, it is empty.
 """
 import collections
 import os
 import pathlib
+import re
 import shutil
 import subprocess
 import sys
@@ -88,6 +89,87 @@ CUSTOMER|CUSTOMER|NAME
 1 rows
 """
 
+# The answers of examples/parts.sql in the other forms, whose other statements print OK and how many rows are loaded.
+PARTS_CSV = b"""NAME,PRICE
+Bolt M8,0.12
+Driver's mate,14.90
+NUMBER,NAME,STOCK
+1,Bolt M8,500
+4,"Bracket, angled",3
+NAME,MATERIAL,PRICE
+"Washer 3/8""\",Brass,0.05
+"Bracket, angled",Steel,-1.50
+NAME,STOCK
+Bolt M8,500
+"Washer 3/8""\",\\N
+Driver's mate,12
+"Bracket, angled",3
+O-ring,40
+NAME,WORTH
+Bolt M8,60.00
+"Washer 3/8""\",\\N
+"""
+
+PARTS_JSON = b"""[
+{"NAME":"Bolt M8","PRICE":0.12},
+{"NAME":"Driver's mate","PRICE":14.90}
+]
+[
+{"NUMBER":1,"NAME":"Bolt M8","STOCK":500},
+{"NUMBER":4,"NAME":"Bracket, angled","STOCK":3}
+]
+[
+{"NAME":"Washer 3/8\\"","MATERIAL":"Brass","PRICE":0.05},
+{"NAME":"Bracket, angled","MATERIAL":"Steel","PRICE":-1.50}
+]
+[
+{"NAME":"Bolt M8","STOCK":500},
+{"NAME":"Washer 3/8\\"","STOCK":null},
+{"NAME":"Driver's mate","STOCK":12},
+{"NAME":"Bracket, angled","STOCK":3},
+{"NAME":"O-ring","STOCK":40}
+]
+[
+{"NAME":"Bolt M8","WORTH":60.00},
+{"NAME":"Washer 3/8\\"","WORTH":null}
+]
+"""
+
+PARTS_TABLE = b"""OK
+5 rows loaded
+NAME           PRICE
+-------------  -----
+Bolt M8         0.12
+Driver's mate  14.90
+(2 rows)
+NUMBER  NAME             STOCK
+------  ---------------  -----
+     1  Bolt M8            500
+     4  Bracket, angled      3
+(2 rows)
+NAME             MATERIAL  PRICE
+---------------  --------  -----
+Washer 3/8"      Brass      0.05
+Bracket, angled  Steel     -1.50
+(2 rows)
+NAME             STOCK
+---------------  -----
+Bolt M8            500
+Washer 3/8"
+Driver's mate       12
+Bracket, angled      3
+O-ring              40
+(5 rows)
+NAME         WORTH
+-----------  -----
+Bolt M8      60.00
+Washer 3/8"
+(2 rows)
+"""
+
+# What --timing tells behind a statement.
+TIME = rb"sqlr: \d+\.\d{3} s\n"
+
 FAULTS = b"""OK
 OK
 OK
@@ -160,6 +242,54 @@ def full_pipe():
         return reader, writer
 
 
+def option_cases(folder, full):
+    """The options of a run, and wrong uses of them."""
+    parts, orders = "examples/parts.sql", "examples/orders.sql"
+    others = re.compile(rb"OK\n5 rows loaded\n")
+    yield Case("answers as csv", ["run", "--as", "csv", parts], 0, PARTS_CSV, others)
+    yield Case("answers as json", ["run", parts, "--as=json"], 0, PARTS_JSON, others)
+    yield Case("answers as a table", ["run", "--as", "table", parts], 0, PARTS_TABLE)
+    table = "CREATE TABLE T (A INTEGER, B CHAR(3));"
+    for form, none in {"csv": b"A,B\n", "json": b"[]\n"}.items():
+        words = ["run", "--as", form, "-c", f"{table} SELECT * FROM T;"]
+        yield Case(f"no rows as {form}", words, 0, none, re.compile(rb"OK\n"))
+    yield Case("no rows as a table", ["run", "--as", "table", "-c", f"{table} SELECT * FROM T;"], 0, b"OK\nA  B\n-  -\n(0 rows)\n")
+    refused = b"<command>:1:47: error E14 42000: table T has no column C\n"
+    words = ["run", "--as", "csv", "-c", f"{table} SELECT C FROM T;"]
+    yield Case("refusal beside csv", words, 1, b"", re.compile(rb"OK\n" + re.escape(refused) + rb"(.*\n)*error E14 42000\n"))
+    signs = folder / "signs.csv"
+    signs.write_text("1,\"a|b\"\n2,''\n3,\\N\n4,\n")
+    load = f"{table} LOAD T FROM '{signs}';"
+    words = ["run", "--as", "csv", "-c", f"{load} SELECT * FROM T;"]
+    # The texts are a|b, two quotes, NULL, and blanks.
+    yield Case("bars and quotes in texts", words, 0, b"A,B\n1,a|b\n2,''\n3,\\N\n4,\n", re.compile(rb"OK\n4 rows loaded\n"))
+    twice = "CREATE TABLE T (A INTEGER); CREATE TABLE T (B INTEGER); SELECT A FROM T;"
+    there = b"<command>:1:42: error E07 42000: there is a table T already\n"
+    yield Case("on behind a refusal", ["run", "-c", twice], 1, b"OK\nerror E07 42000\nA\n0 rows\n", there)
+    yield Case("stop at a refusal", ["run", "--stop", "-c", twice], 1, b"OK\nerror E07 42000\n", there)
+    divided = f"{load} SELECT 1 / (A - 1) FROM T; SELECT A FROM T;"
+    yield Case("stop at an exception", ["run", "--stop", "-c", divided], 1, b"OK\n4 rows loaded\nexception 22012\n", b"<command>:1:")
+    yield Case("nothing to stop at", ["run", "--stop", orders], 0, ORDERS)
+    no_room = b"sqlr: standard output: No space left on device\n"
+    yield Case("full output before a stop", ["run", "--stop", parts], 2, complaint=no_room, output=full)
+    times = re.compile(TIME * 2)
+    yield Case("timing", ["run", "--timing", "-c", f"{table} SELECT * FROM T;"], 0, b"OK\nA|B\n0 rows\n", times)
+    yield Case("timing behind refusals", ["run", "--timing", "--stop", "-c", twice], 1, b"OK\nerror E07 42000\n", re.compile(TIME + re.escape(there) + rb"(.*\n)*" + TIME))
+    wrong = b"<command>:1:47: error E14 42000: table T has no column C\n"
+    yield Case("text of a script", ["run", "-c", f"{table} SELECT C FROM T;"], 1, b"OK\nerror E14 42000\n", wrong)
+    yield Case("text that begins as an option", ["run", "-c", "--", f"-- none\n{table}"], 0, b"OK\n")
+    both = b"error: a run takes one script\n\n  tip: behind -c its text stands in place of a file\n"
+    yield Case("script and text", ["run", "-c", table, parts], 2, complaint=both)
+    yield Case("no text", ["run", "-c"], 2, complaint=b"error: the script's text is missing behind -c\n")
+    no_form = b"error: invalid value 'xml' for '--as <FORM>'\n  [possible values: csv, table, json]\n"
+    yield Case("no such form", ["run", "--as", "xml", parts], 2, complaint=no_form)
+    yield Case("no form", ["run", parts, "--as"], 2, complaint=b"error: a value is required for '--as <FORM>' but none was supplied\n")
+    again = b"error: the argument '--stop' cannot be used multiple times\n"
+    yield Case("an option twice", ["run", "--stop", "--stop", parts], 2, complaint=again)
+    yield Case("no such option behind another", ["run", "--stop", "--quick", parts], 2, complaint=b"error: there is no option '--quick'\n")
+    yield Case("option of a run for a check", ["check", "--stop", "a.sql", "a"], 2, complaint=b"error: there is no option '--stop'\n")
+
+
 def cases(folder, full, closed, waiting):
     not_text = folder / "not_text.sql"
     not_text.write_bytes(b"-- \xc3\xbc\nSELECT A FROM \xff;\n")
@@ -207,9 +337,14 @@ def cases(folder, full, closed, waiting):
     yield Case("version as a subcommand", ["version"], 2, complaint=tip)
     tip = b"error: unrecognized subcommand 'RUN'\n\n  tip: subcommands are written in small letters\n"
     yield Case("subcommand in capital letters", ["RUN", parts], 2, complaint=tip)
-    yield Case("no such option", ["run", "--timing", parts], 2, complaint=b"error: there is no option '--timing'\n")
-    yield Case("no script", ["run"], 2, complaint=b"error: the following required arguments were not provided:\n  <SCRIPT>\n")
-    yield Case("two scripts", ["run", parts, parts], 2, complaint=b"error: unexpected argument 'examples/parts.sql' found\n")
+    yield Case("no such option", ["run", "--times", parts], 2, complaint=b"error: there is no option '--times'\n")
+    tip = b"error: a script is missing\n\n  tip: 'sqlr run -' reads it from standard input\n"
+    yield Case("no script", ["run"], 2, complaint=tip)
+    yield Case("no script behind options", ["run", "--stop", "--as", "csv"], 2, complaint=tip)
+    tip = b"error: a run takes one script\n\n  tip: 'cat examples/parts.sql examples/parts.sql | sqlr run -' runs one behind the other\n"
+    yield Case("two scripts", ["run", parts, parts], 2, complaint=tip)
+    yield Case("two scripts among options", ["run", "--as", "csv", parts, "--stop", parts], 2, complaint=tip)
+    yield from option_cases(folder, full)
     yield Case("missing script", ["run", missing], 2, complaint=b"sqlr: examples/missing.sql: No such file or directory\n")
     yield Case("script that is a folder", ["run", "examples"], 2, complaint=b"sqlr: examples: Is a directory\n")
     no_text = f"sqlr: {not_text}:2:15: byte FF is not UTF-8: save the script in UTF-8\n".encode()
@@ -248,7 +383,10 @@ def differences(program, case):
         yield f"status {run.returncode}, not {case.status}"
     if printed != case.printed:
         yield f"printed {printed}"
-    as_expected = complained.startswith(case.complaint) if case.complaint else not complained
+    if isinstance(case.complaint, re.Pattern):
+        as_expected = case.complaint.fullmatch(complained)
+    else:
+        as_expected = complained.startswith(case.complaint) if case.complaint else not complained
     if not as_expected:
         yield f"complained {complained}"
 

@@ -13,27 +13,42 @@ use Rattle.clap.specs.Walk as w
 use Rattle.clap.specs.Takes as t
 use Rattle.clap.specs.Simple as s
 use Rattle.clap.specs.Simple.{Shape, built}
-use Rattle.std.specs.Prelude.{IsSome, codes}
-use Rattle.command_line.specs.CommandLine.{line, asked_in, asked_of, run_of, check_of}
+use Rattle.std.specs.Prelude.{codes, min, ◌+◌}
+use Rattle.clap.specs.declared.parser.matches.ValueSource.TheVariants.{CommandLine}
+use Rattle.clap.specs.Simple.{subcommand_of}
+use Rattle.clap.specs.declared.error.kind.ErrorKind.TheVariants.{InvalidValue}
+use Rattle.command_line.specs.CommandLine.{Form, Source, line, asked_in, run_of, run_in_form, script_of, is_on, check_of, form_asked, form_fault}
 use Rattle.clap.specs.Walk.{Row, Rule, Text, Held, Walk, Outcome, Waiting, Names}
 
 -- ---- rows with a value
 
+-- the option that may be met without one
+abbrev pub option_id : Text
+option_id = codes "as"
+
+-- what is found for an argument has a value, unless it is that option's
+abbrev pub IsGood : Text → List Text → Type 0
+IsGood id values = (bytes_eq id option_id ≡ true) ⊎ (0 < length values)
+
 abbrev pub AreFull : List Row → Type 0
-AreFull = AllByRecursion (λ (r : Row). 0 < length r.values)
+AreFull = AllByRecursion (λ (r : Row). IsGood r.id r.values)
 
 abbrev pub IsPendingFull : Option (Text × List Text) → Type 0
 IsPendingFull None = Unit {0}
-IsPendingFull (Some p) = 0 < length p.1
+IsPendingFull (Some p) = IsGood p.0 p.1
 
 abbrev pub IsFull : Held → Type 0
 IsFull h = AreFull h.rows × IsPendingFull h.pending
+
+more_good : (id : Text) (values more : List Text) → IsGood id values → IsGood id (values ++ more)
+more_good id values more (inl e) = inl e
+more_good id values more (inr l) = inr (omega (arith, l, length-append values more))
 
 append_full : (xs ys : List Row) → AreFull xs → AreFull ys → AreFull (xs ++ ys)
 append_full [] ys h k = k
 append_full (x ∷ xs) ys h k = (h.0, append_full xs ys h.1 k)
 
-at_row_full : (id : Text) (change : Row → List Row) (missing rows : List Row) → ((r : Row) → 0 < length r.values → AreFull (change r)) → AreFull missing → AreFull rows → AreFull (w.at_row id change missing rows)
+at_row_full : (id : Text) (change : Row → List Row) (missing rows : List Row) → ((r : Row) → IsGood r.id r.values → AreFull (change r)) → AreFull missing → AreFull rows → AreFull (w.at_row id change missing rows)
 at_row_full id change missing [] f m h = m
 at_row_full id change missing (r ∷ rs) f m h =
     elim (cases_Bool (bytes_eq r.id id)) [
@@ -44,74 +59,114 @@ at_row_full id change missing (r ∷ rs) f m h =
 without_full : (id : Text) (rows : List Row) → AreFull rows → AreFull (w.without id rows)
 without_full id rows h = at_row_full id (λ _. []) [] rows (λ r k. tt) tt h
 
-with_values_full : (id : Text) (how : _) (source : _) (values : List Text) (rows : List Row) → 0 < length values → AreFull rows → AreFull (w.with_values id how source values rows)
-with_values_full id how source values rows l h =
-    at_row_full id (w.more_values source values) _ rows (λ r k. (omega (arith, k, length-append r.values values), tt)) (l, tt) h
+with_values_full : (id : Text) (how : _) (source : _) (values : List Text) (rows : List Row) → IsGood id values → AreFull rows → AreFull (w.with_values id how source values rows)
+with_values_full id how source values rows g h =
+    at_row_full id (w.more_values source values) _ rows (λ r k. (more_good r.id r.values values k, tt)) (g, tt) h
 
-used_as_full : (action : ArgAction) (id : Text) (how : _) (v : Text) (vs : List Text) (rows : List Row) → AreFull rows → AreFull (w.used_as action id how (v ∷ vs) rows)
-used_as_full act.Set id how v vs rows h = with_values_full id how _ (v ∷ vs) _ (omega arith) (without_full id rows h)
-used_as_full act.Append id how v vs rows h = with_values_full id how _ (v ∷ vs) rows (omega arith) h
-used_as_full act.SetTrue id how v vs rows h = with_values_full id how _ (v ∷ vs) _ (omega arith) (without_full id rows h)
-used_as_full act.SetFalse id how v vs rows h = with_values_full id how _ (v ∷ vs) _ (omega arith) (without_full id rows h)
-used_as_full act.Count id how v vs rows h = with_values_full id how _ (v ∷ vs) _ (omega arith) (without_full id rows h)
-used_as_full _ id how v vs rows h = h
+with_count_full : (id : Text) (how : _) (source : _) (n : ℕ) (rows : List Row) → AreFull rows → AreFull (w.with_count id how source n rows)
+with_count_full id how source n rows h =
+    at_row_full id (w.new_count source n) _ rows (λ r k. (more_good r.id r.values _ k, tt)) (inr (omega arith), tt) h
 
-used_full : (a : Rule) (vs : List Text) (rows : List Row) → 0 < length vs → AreFull rows → AreFull (w.used a vs rows)
-used_full a [] rows l h = absurd (omega (arith, l))
-used_full a (v ∷ vs) rows l h = used_as_full (w.action_of a) a.id (w.reading_by a) v vs rows h
+counted_full : (id : Text) (how : _) (values : List Text) (rows : List Row) → IsGood id values → AreFull rows → AreFull (w.counted id how values rows)
+counted_full id how [] rows g h = with_count_full id how CommandLine (min (w.count_of id rows + 1) 255) (w.without id rows) (without_full id rows h)
+counted_full id how (v ∷ vs) rows g h = with_values_full id how _ (v ∷ vs) _ g (without_full id rows h)
 
-by_id_full : (o : Option Rule) (vs : List Text) (rows : List Row) → 0 < length vs → AreFull rows → AreFull (w.used_by_id o vs rows)
-by_id_full None vs rows l h = h
-by_id_full (Some a) vs rows l h = used_full a vs rows l h
+used_as_full : (action : ArgAction) (id : Text) (how : _) (values : List Text) (rows : List Row) → IsGood id values → AreFull rows → AreFull (w.used_as action id how values rows)
+used_as_full act.Set id how values rows g h = with_values_full id how _ values _ g (without_full id rows h)
+used_as_full act.Append id how values rows g h = with_values_full id how _ values rows g h
+used_as_full act.SetTrue id how values rows g h = with_values_full id how _ values _ g (without_full id rows h)
+used_as_full act.SetFalse id how values rows g h = with_values_full id how _ values _ g (without_full id rows h)
+used_as_full act.Count id how values rows g h = counted_full id how values rows g h
+used_as_full _ id how values rows g h = h
+
+good_or_missing : (a : Rule) (vs : List Text) → IsGood a.id vs → IsGood a.id (w.values_or_missing a vs)
+good_or_missing a [] (inl e) = inl e
+good_or_missing a [] (inr l) = absurd (omega (arith, l))
+good_or_missing a (v ∷ vs) g = g
+
+used_full : (a : Rule) (vs : List Text) (rows : List Row) → IsGood a.id vs → AreFull rows → AreFull (w.used a vs rows)
+used_full a vs rows g h = used_as_full (w.action_of a) a.id (w.reading_by a) (w.values_or_missing a vs) rows (good_or_missing a vs g) h
+
+abbrev pub IsOfId : Text → Option Rule → Type 0
+IsOfId id None = Unit {0}
+IsOfId id (Some a) = bytes_eq a.id id ≡ true
+
+found_id : (c : List Rule) (id : Text) → IsOfId id (w.arg_by_id c id)
+found_id [] id = tt
+found_id (a ∷ c) id =
+    elim (cases_Bool (bytes_eq a.id id)) [
+      | inl e ↦ rw e e
+      | inr e ↦ rw e (found_id c id)
+    ]
+
+by_id_full : (o : Option Rule) (id : Text) (vs : List Text) (rows : List Row) → IsOfId id o → IsGood id vs → AreFull rows → AreFull (w.used_by_id o vs rows)
+by_id_full None id vs rows k g h = h
+by_id_full (Some a) id vs rows k g h = used_full a vs rows (subst (λ x. IsGood x vs) (sym ((bytes_eq-Decides a.id id).0 k)) g) h
 
 settled_rows_full : (c : List Rule) (p : Option (Text × List Text)) (rows : List Row) → IsPendingFull p → AreFull rows → AreFull (w.settled_rows c p rows)
 settled_rows_full c None rows l h = h
-settled_rows_full c (Some p) rows l h = by_id_full (w.arg_by_id c p.0) p.1 rows l h
+settled_rows_full c (Some p) rows l h = by_id_full (w.arg_by_id c p.0) p.0 p.1 rows (found_id c p.0) l h
 
 settled_full : (c : List Rule) (h : Held) → IsFull h → IsFull (w.settled c h)
 settled_full c h k = (settled_rows_full c h.pending h.rows k.1 k.0, tt)
 
 pushed_full : (id word : Text) (h : Held) → IsFull h → IsFull (w.pushed id word h)
-pushed_full id word h k = (k.0, omega (arith, length-append (w.started id h.pending).1 (word ∷ [])))
+pushed_full id word h k = (k.0, inr (omega (arith, length-append (w.started id h.pending).1 (word ∷ []))))
 
 -- ---- words
 
--- an argument that takes no value, and leaves no row
+-- an argument that takes no value, and has one to stand for it, or leaves no row
 abbrev pub IsQuiet : Rule → Type 0
-IsQuiet a = (w.takes_values a ≡ false) × ((rows : List Row) → w.used a [] rows ≡ rows)
+IsQuiet a = (w.takes_values a ≡ false) × ((0 < length a.missing) ⊎ ((rows : List Row) → w.used a [] rows ≡ rows))
+
+quiet_used : (a : Rule) (rows : List Row) → (0 < length a.missing) ⊎ ((rows : List Row) → w.used a [] rows ≡ rows) → AreFull rows → AreFull (w.used a [] rows)
+quiet_used a rows (inl l) h = used_as_full (w.action_of a) a.id (w.reading_by a) a.missing rows (inr l) h
+quiet_used a rows (inr same) h = subst AreFull (sym (same rows)) h
+
+-- the option that takes one
+abbrev pub IsOption : Rule → Type 0
+IsOption a = (w.takes_values a ≡ true) × (bytes_eq a.id option_id ≡ true)
+
+abbrev pub IsMild : Rule → Type 0
+IsMild a = IsQuiet a ⊎ IsOption a
 
 -- all arguments without a place are so
-abbrev pub AreQuiet : List Rule → Type 0
-AreQuiet = AllByRecursion (λ (a : Rule). (is_some a.index ≡ true) ⊎ IsQuiet a)
+abbrev pub AreMild : List Rule → Type 0
+AreMild = AllByRecursion (λ (a : Rule). (is_some a.index ≡ true) ⊎ IsMild a)
 
-abbrev pub IfQuiet : Option Rule → Type 0
-IfQuiet None = Unit {0}
-IfQuiet (Some a) = IsQuiet a
+abbrev pub IfMild : Option Rule → Type 0
+IfMild None = Unit {0}
+IfMild (Some a) = IsMild a
 
-quiet_or_placed : (a : Rule) (b : Bool) → (is_some a.index ≡ true) ⊎ IsQuiet a → (not (is_some a.index) && b) ≡ true → IsQuiet a
-quiet_or_placed a b (inl placed) e =
+mild_or_placed : (a : Rule) (b : Bool) → (is_some a.index ≡ true) ⊎ IsMild a → (not (is_some a.index) && b) ≡ true → IsMild a
+mild_or_placed a b (inl placed) e =
     let f : (not true && b) ≡ true = rw placed at e in
     absurd cc
-quiet_or_placed a b (inr quiet) e = quiet
+mild_or_placed a b (inr mild) e = mild
 
-found_quiet : (test : Rule → Bool) (c : List Rule) → AreQuiet c → IfQuiet (find (λ a. not (is_some a.index) && test a) c)
-found_quiet test [] q = tt
-found_quiet test (a ∷ c) q =
+found_mild : (test : Rule → Bool) (c : List Rule) → AreMild c → IfMild (find (λ a. not (is_some a.index) && test a) c)
+found_mild test [] q = tt
+found_mild test (a ∷ c) q =
     elim (cases_Bool (not (is_some a.index) && test a)) [
-      | inl e ↦ rw e (quiet_or_placed a (test a) q.0 e)
-      | inr e ↦ rw e (found_quiet test c q.1)
+      | inl e ↦ rw e (mild_or_placed a (test a) q.0 e)
+      | inr e ↦ rw e (found_mild test c q.1)
     ]
 
 reacted_full : (c : List Rule) (a : Rule) (h : Held) → IsQuiet a → IsFull h → IsFull (w.reacted c a [] h)
-reacted_full c a h q k = (subst AreFull (sym (q.1 (w.settled c h).rows)) (settled_full c h k).0, tt)
+reacted_full c a h q k = (quiet_used a (w.settled c h).rows q.1 (settled_full c h k).0, tt)
 
 flag_met_full : (c : List Rule) (a : Rule) (v : Option Text) (h : Held) → IsQuiet a → IsFull h → IsFull (w.flag_met c a v h).0
 flag_met_full c a (Some v) h q k = k
 flag_met_full c a None h q k = reacted_full c a h q k
 
-long_met_full : (c : List Rule) (o : Option Rule) (v : Option Text) (h : Held) → IfQuiet o → IsFull h → IsFull (w.long_met c o v h).0
+option_met_full : (c : List Rule) (a : Rule) (v : Option Text) (h : Held) → IsOption a → IsFull h → IsFull (w.option_met c a v h).0
+option_met_full c a (Some v) h q k = (used_full a (v ∷ []) (w.settled c h).rows (inl q.1) (settled_full c h k).0, tt)
+option_met_full c a None h q k = ((settled_full c h k).0, inl q.1)
+
+long_met_full : (c : List Rule) (o : Option Rule) (v : Option Text) (h : Held) → IfMild o → IsFull h → IsFull (w.long_met c o v h).0
 long_met_full c None v h q k = k
-long_met_full c (Some a) v h q k = rw (q.0) (flag_met_full c a v h q k)
+long_met_full c (Some a) v h (inl q) k = rw (q.0) (flag_met_full c a v h q k)
+long_met_full c (Some a) v h (inr q) k = rw (q.0) (option_met_full c a v h q k)
 
 option_word_full : (o : Option Rule) (id word : Text) (h : Held) → IsFull h → IsFull (w.option_word o id word h).0
 option_word_full None id word h k = k
@@ -134,33 +189,34 @@ Next = Text → ℕ → Outcome → Held → Held × Outcome
 abbrev KeepsFull : Next → Type 0
 KeepsFull next = (flags : Text) (skip : ℕ) (so_far : Outcome) (h : Held) → IsFull h → IsFull (next flags skip so_far h).0
 
-short_met_full : (c : List Rule) (o : Option Rule) (rest : Text) (h : Held) (next : Held → Held × Outcome) → IfQuiet o → ((g : Held) → IsFull g → IsFull (next g).0) → IsFull h → IsFull (w.short_met c o rest h next).0
+short_met_full : (c : List Rule) (o : Option Rule) (rest : Text) (h : Held) (next : Held → Held × Outcome) → IfMild o → ((g : Held) → IsFull g → IsFull (next g).0) → IsFull h → IsFull (w.short_met c o rest h next).0
 short_met_full c None rest h next q n k = k
-short_met_full c (Some a) rest h next q n k = rw (q.0) (n (w.reacted c a [] h) (reacted_full c a h q k))
+short_met_full c (Some a) rest h next (inl q) n k = rw (q.0) (n (w.reacted c a [] h) (reacted_full c a h q k))
+short_met_full c (Some a) rest h next (inr q) n k = rw (q.0) (option_met_full c a (w.attached_value rest) h q k)
 
-bundle_step_full : (c : List Rule) (o : Option ℕ) (flags : Text) (skip : ℕ) (so_far : Outcome) (h : Held) (next : Next) → AreQuiet c → KeepsFull next → IsFull h → IsFull (w.bundle_step c o flags skip so_far h next).0
+bundle_step_full : (c : List Rule) (o : Option ℕ) (flags : Text) (skip : ℕ) (so_far : Outcome) (h : Held) (next : Next) → AreMild c → KeepsFull next → IsFull h → IsFull (w.bundle_step c o flags skip so_far h next).0
 bundle_step_full c None flags skip so_far h next q n k = k
-bundle_step_full c (Some x) flags zero so_far h next q n k = short_met_full c (w.arg_by_short c x) _ h _ (found_quiet (λ a. w.has_short a x) c q) (λ g. n _ 0 w.done g) k
+bundle_step_full c (Some x) flags zero so_far h next q n k = short_met_full c (w.arg_by_short c x) _ h _ (found_mild (λ a. w.has_short a x) c q) (λ g. n _ 0 w.done g) k
 bundle_step_full c (Some x) flags (suc skip) so_far h next q n k = n _ skip so_far h k
 
-bundle_met_full : (c : List Rule) (n : ℕ) → AreQuiet c → KeepsFull (w.bundle_met c n)
+bundle_met_full : (c : List Rule) (n : ℕ) → AreMild c → KeepsFull (w.bundle_met c n)
 unfolding w.bundle_met
 bundle_met_full c zero q flags skip so_far h k = k
 bundle_met_full c (suc n) q flags skip so_far h k = bundle_step_full c _ flags skip so_far h (w.bundle_met c n) q (bundle_met_full c n q) k
 
-short_word_full : (c : List Rule) (waiting : Waiting) (word flags : Text) (h : Held) → AreQuiet c → IsFull h → IsFull (w.short_word c waiting word flags h).0
+short_word_full : (c : List Rule) (waiting : Waiting) (word flags : Text) (h : Held) → AreMild c → IsFull h → IsFull (w.short_word c waiting word flags h).0
 short_word_full c waiting word flags h q k = after_flag_full c waiting word _ _ (bundle_met_full c (length flags) q flags h.skip w.plain (record h { skip = 0 }) k)
 
-short_or_plain_full : (c : List Rule) (waiting : Waiting) (word : Text) (o : Option Text) (h : Held) → AreQuiet c → IsFull h → IsFull (w.short_or_plain c waiting word o h).0
+short_or_plain_full : (c : List Rule) (waiting : Waiting) (word : Text) (o : Option Text) (h : Held) → AreMild c → IsFull h → IsFull (w.short_or_plain c waiting word o h).0
 short_or_plain_full c waiting word None h q k = plain_word_full c waiting word h k
 short_or_plain_full c waiting word (Some flags) h q k = short_word_full c waiting word flags h q k
 
-long_or_other_full : (c : List Rule) (waiting : Waiting) (word : Text) (o : Option (Text × Option Text)) (h : Held) → AreQuiet c → IsFull h → IsFull (w.long_or_other c waiting word o h).0
+long_or_other_full : (c : List Rule) (waiting : Waiting) (word : Text) (o : Option (Text × Option Text)) (h : Held) → AreMild c → IsFull h → IsFull (w.long_or_other c waiting word o h).0
 long_or_other_full c waiting word None h q k = short_or_plain_full c waiting word _ h q k
 long_or_other_full c waiting word (Some p) h q k =
-    after_flag_full c waiting word _ _ (long_met_full c (w.arg_by_long c p.0) p.1 h (found_quiet (λ a. w.has_long a p.0) c q) k)
+    after_flag_full c waiting word _ _ (long_met_full c (w.arg_by_long c p.0) p.1 h (found_mild (λ a. w.has_long a p.0) c q) k)
 
-subcommand_or_other_full : (c : List Rule) (o : Option Text) (waiting : Waiting) (position : ℕ) (word : Text) (h : Held) → AreQuiet c → IsFull h → IsFull (w.subcommand_or_other c o waiting position word h).0
+subcommand_or_other_full : (c : List Rule) (o : Option Text) (waiting : Waiting) (position : ℕ) (word : Text) (h : Held) → AreMild c → IsFull h → IsFull (w.subcommand_or_other c o waiting position word h).0
 subcommand_or_other_full c (Some name) waiting position word h q k = k
 subcommand_or_other_full c None waiting position word h q k =
     elim (cases_Bool (bytes_eq word (45 ∷ 45 ∷ []))) [
@@ -168,7 +224,7 @@ subcommand_or_other_full c None waiting position word h q k =
       | inr e ↦ rw e (long_or_other_full c waiting word _ h q k)
     ]
 
-word_met_full : (c : List Rule) (names : Names) (is_trailing : Bool) (waiting : Waiting) (position : ℕ) (word : Text) (h : Held) → AreQuiet c → IsFull h → IsFull (w.word_met c names is_trailing waiting position word h).0
+word_met_full : (c : List Rule) (names : Names) (is_trailing : Bool) (waiting : Waiting) (position : ℕ) (word : Text) (h : Held) → AreMild c → IsFull h → IsFull (w.word_met c names is_trailing waiting position word h).0
 word_met_full c names true waiting position word h q k = k
 word_met_full c names false waiting position word h q k = subcommand_or_other_full c _ waiting position word h q k
 
@@ -188,19 +244,19 @@ after_step_full c word walk h (w.trailing position) k = k
 after_step_full c word walk h (w.subcommand name) k = k
 after_step_full c word walk h w.value k = to_positional_full c _ word walk h k
 
-walked_from_full : (c : List Rule) (names : Names) (stop : Option (Text × List Text)) (walk : Walk) (word : Text) → AreQuiet c → IsFull walk.held → IsFull (w.walked_from c names stop walk word).held
+walked_from_full : (c : List Rule) (names : Names) (stop : Option (Text × List Text)) (walk : Walk) (word : Text) → AreMild c → IsFull walk.held → IsFull (w.walked_from c names stop walk word).held
 walked_from_full c names (Some p) walk word q k = k
 walked_from_full c names None walk word q k =
     after_step_full c word walk _ _ (word_met_full c names walk.is_trailing walk.waiting walk.position word walk.held q k)
 
-walk_full : (c : List Rule) (names : Names) (walk : Walk) (words : List Text) → AreQuiet c → IsFull walk.held → IsFull (fold (w.walked c names) walk words).held
+walk_full : (c : List Rule) (names : Names) (walk : Walk) (words : List Text) → AreMild c → IsFull walk.held → IsFull (fold (w.walked c names) walk words).held
 unfolding w.walked
 walk_full c names walk [] q k = k
 walk_full c names walk (word ∷ words) q k = walk_full c names (w.walked c names walk word) words q (walked_from_full c names walk.stopped walk word q k)
 
 default_rows_full : (id : Text) (how : _) (values : List Text) (rows : List Row) → AreFull rows → AreFull (w.default_rows id how values rows)
 default_rows_full id how [] rows h = h
-default_rows_full id how (v ∷ vs) rows h = with_values_full id how _ (v ∷ vs) rows (omega arith) h
+default_rows_full id how (v ∷ vs) rows h = with_values_full id how _ (v ∷ vs) rows (inr (omega arith)) h
 
 with_default_full : (rows : List Row) (a : Rule) → AreFull rows → AreFull (w.with_default rows a)
 with_default_full rows a h =
@@ -213,7 +269,7 @@ defaults_full : (c : List Rule) (rows : List Row) → AreFull rows → AreFull (
 defaults_full [] rows h = h
 defaults_full (a ∷ c) rows h = defaults_full c (w.with_default rows a) (with_default_full rows a h)
 
-rows_full : (c : List Rule) (names : Names) (words : List Text) → AreQuiet c → AreFull (w.rows_after c names words)
+rows_full : (c : List Rule) (names : Names) (words : List Text) → AreMild c → AreFull (w.rows_after c names words)
 rows_full c names words q =
     let h : IsFull (w.walk c names w.nothing_held words).held = walk_full c names (w.walk_from w.nothing_held) words q (tt, tt) in
     defaults_full c _ (settled_full c (w.walk c names w.nothing_held words).held h).0
@@ -302,12 +358,18 @@ first_there : (values : List Text) → 0 < length values → is_some (slice_get 
 first_there [] l = absurd (omega (arith, l))
 first_there (v ∷ vs) l = refl
 
-given_first : (id : Text) (rows : List Row) → AreFull rows → t.is_given id rows ≡ true → is_some (w.first_of id rows) ≡ true
-given_first id [] h e = absurd cc
-given_first id (r ∷ rs) h e =
+good_values : (id : Text) (values : List Text) → bytes_eq id option_id ≡ false → IsGood id values → 0 < length values
+good_values id values other (inl e) = absurd (true_is_not_false (sym e ∙ other))
+good_values id values other (inr l) = l
+
+given_first : (id : Text) (rows : List Row) → bytes_eq id option_id ≡ false → AreFull rows → t.is_given id rows ≡ true → is_some (w.first_of id rows) ≡ true
+given_first id [] other h e = absurd cc
+given_first id (r ∷ rs) other h e =
     elim (cases_Bool (bytes_eq r.id id)) [
-      | inl k ↦ rw k (first_there r.values h.0)
-      | inr k ↦ rw k (given_first id rs h.1 (rw k at e))
+      | inl k ↦
+          let good : IsGood id r.values = subst (λ x. IsGood x r.values) ((bytes_eq-Decides r.id id).0 k) h.0 in
+          rw k (first_there r.values (good_values id r.values other good))
+      | inr k ↦ rw k (given_first id rs other h.1 (rw k at e))
     ]
 
 abbrev run_shape : Shape
@@ -318,6 +380,27 @@ check_shape = get_or (built line).subs 1 line.top
 
 abbrev help_shape : Shape
 help_shape = get_or (built line).subs 2 line.top
+
+is_one : 0 < 1
+is_one = omega arith
+
+run_mild : AreMild run_shape.rules
+run_mild = (
+  inl refl,
+  (
+    inr (inl (refl, inl is_one)),
+    (
+      inr (inl (refl, inl is_one)),
+      (
+        inr (inl (refl, inl is_one)),
+        (
+          inr (inr (refl, refl)),
+          (inr (inl (refl, inr (λ rows. refl))), tt),
+        ),
+      ),
+    ),
+  ),
+)
 
 -- what a level that passes has passed
 level_walks : (sh : Shape) (names : Names) (h : Held) (words : List Text) (has : Bool) → t.level_passes sh names h words has ≡ true → t.walk_passes sh names (w.walk_from h) words ≡ true
@@ -340,31 +423,43 @@ valid_required sh rows has e =
     let b = (both (not sh.subcommand_required || has) _ a).1 in
     (both (list_all (λ (a : Rule). a.is_free) sh.rules) _ b).1
 
-run_some : (script : Option Text) → is_some script ≡ true → is_some (run_of script) ≡ true
-run_some None e = e
-run_some (Some script) e = refl
+-- words ask for something, or for a form that there isn't
+abbrev pub AskOrFail : Option (Text × List Row) → Type 0
+AskOrFail sub = (is_some (asked_in sub) ≡ true) ⊎ (form_fault sub ≡ InvalidValue ∷ [])
+
+formed_some : (script : Source) (stops is_timed : Bool) (form : Option (Option Form)) → is_some form ≡ true → is_some (run_in_form script stops is_timed form) ≡ true
+formed_some script stops is_timed None e = e
+formed_some script stops is_timed (Some form) e = refl
+
+run_some : (script text stop timing form : Option Text) → is_some script ≡ true → is_some (form_asked form) ≡ true → is_some (run_of script text stop timing form) ≡ true
+run_some None text stop timing form e k = e
+run_some (Some script) text stop timing form e k = formed_some (script_of (is_on text) script) (is_on stop) (is_on timing) (form_asked form) k
 
 check_some : (script certificates : Option Text) → is_some script ≡ true → is_some certificates ≡ true → is_some (check_of script certificates) ≡ true
 check_some None certificates e k = e
 check_some (Some script) None e k = k
 check_some (Some script) (Some certificates) e k = refl
 
-run_asks : (words : List Text) → t.level_passes run_shape [] w.nothing_held words false ≡ true → is_some (run_of (w.first_of (codes "SCRIPT") (w.rows_after run_shape.rules [] words))) ≡ true
+run_asks : (words : List Text) → t.level_passes run_shape [] w.nothing_held words false ≡ true → AskOrFail (Some (s.rows_at run_shape words))
 run_asks words e =
     let rows = w.rows_after run_shape.rules [] words in
     let required = valid_required run_shape rows false (level_valid run_shape [] w.nothing_held words false e) in
-    let full = rows_full run_shape.rules [] words (inl refl, (inr (refl, λ r. refl), tt)) in
-    run_some _ (given_first (codes "SCRIPT") rows full (both (t.is_given (codes "SCRIPT") rows) _ required).0)
+    let full = rows_full run_shape.rules [] words run_mild in
+    let script = given_first (codes "SCRIPT") rows refl full (both (t.is_given (codes "SCRIPT") rows) _ required).0 in
+    elim (cases_Bool (is_some (form_asked (w.first_of (codes "as") rows)))) [
+      | inl k ↦ inl (run_some _ (w.first_of (codes "text") rows) (w.first_of (codes "stop") rows) (w.first_of (codes "timing") rows) _ script k)
+      | inr k ↦ inr (rw k refl)
+    ]
 
 check_asks : (words : List Text) → t.level_passes check_shape [] w.nothing_held words false ≡ true
     → is_some (check_of (w.first_of (codes "SCRIPT") (w.rows_after check_shape.rules [] words)) (w.first_of (codes "CERTIFICATES") (w.rows_after check_shape.rules [] words))) ≡ true
 check_asks words e =
     let rows = w.rows_after check_shape.rules [] words in
     let required = valid_required check_shape rows false (level_valid check_shape [] w.nothing_held words false e) in
-    let full = rows_full check_shape.rules [] words (inl refl, (inl refl, (inr (refl, λ r. refl), tt))) in
+    let full = rows_full check_shape.rules [] words (inl refl, (inl refl, (inr (inl (refl, inr (λ rows. refl))), tt))) in
     let script = both (t.is_given (codes "SCRIPT") rows) _ required in
     let certificates = both (t.is_given (codes "CERTIFICATES") rows) _ script.1 in
-    check_some _ _ (given_first (codes "SCRIPT") rows full script.0) (given_first (codes "CERTIFICATES") rows full certificates.0)
+    check_some _ _ (given_first (codes "SCRIPT") rows refl full script.0) (given_first (codes "CERTIFICATES") rows refl full certificates.0)
 
 no_help_name : (name : Text) → bytes_eq name (codes "help") ≡ false → w.answers_to name (s.label_of help_shape) ≡ true → ⊥
 no_help_name name n e =
@@ -378,14 +473,14 @@ no_help_name name n e =
           true_is_not_false (sym no')
     ]
 
-entered_asks : (stop : Option (Text × List Text)) → IsNoHelp stop → t.entered_passes (built line) stop ≡ true → is_some (s.entered (built line) stop) ≡ true → is_some (asked_in (s.entered (built line) stop)) ≡ true
+entered_asks : (stop : Option (Text × List Text)) → IsNoHelp stop → t.entered_passes (built line) stop ≡ true → is_some (s.entered (built line) stop) ≡ true → AskOrFail (s.entered (built line) stop)
 entered_asks None n e k = absurd (true_is_not_false (sym k))
 entered_asks (Some p) n e k =
     elim (cases_Bool (w.answers_to p.0 (s.label_of run_shape))) [
       | inl r ↦ rw r (run_asks p.1 (rw r at e))
       | inr r ↦
           elim (cases_Bool (w.answers_to p.0 (s.label_of check_shape))) [
-            | inl c ↦ rw (r, c) (check_asks p.1 (rw (r, c) at e))
+            | inl c ↦ rw (r, c) (inl (check_asks p.1 (rw (r, c) at e)))
             | inr c ↦
                 elim (cases_Bool (w.answers_to p.0 (s.label_of help_shape))) [
                   | inl h ↦ absurd (no_help_name p.0 n h)
@@ -396,8 +491,8 @@ entered_asks (Some p) n e k =
           ]
     ]
 
--- words that are taken ask for something
-pub taken_asks : (words : List Text) → t.takes line words ≡ true → IsSome (asked_of words)
+-- words that are taken ask for something, or for a form that there isn't
+pub taken_asks : (words : List Text) → t.takes line words ≡ true → AskOrFail (subcommand_of line words)
 taken_asks words e =
     let top = (built line).top in
     let names = s.names_of (built line) in

@@ -15,4 +15,4 @@ pub use blocks_around::block_of_number;
 pub use query_places::offset_of_fault;
 pub use suggestions::{write_near_column, write_near_table};
 pub use tables_in_sight::name_in_sight;
-pub use words::QueryWords;
+pub use words::{QueryWords, missing_table};

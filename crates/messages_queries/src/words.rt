@@ -12,7 +12,7 @@ use binder::QueryFault;
 use catalog::Database;
 use std::alloc::Global;
 use std::fmt::{self, Display, Formatter};
-use syntax::{ColumnReference, Expr, Key, KeyName, Select};
+use syntax::{ColumnReference, Expr, Key, KeyName, Name, Select};
 
 /// A query over a database.
 #[derive(Clone, Copy)]
@@ -26,6 +26,14 @@ impl<'q> QueryWords<'q> {
     /// The tables in sight of a column; none where memory is wanting.
     fn sight(&self, column: &ColumnReference) -> Option<TablesInSight<'q>> {
         TablesInSight::of(self.alloc, self.database, self.query, column).ok()
+    }
+}
+
+/// The name of the table that a fault finds missing, if that is what it says.
+pub fn missing_table<'q>(fault: QueryFault<'q>) -> Option<&'q Name> {
+    match fault {
+        QueryFault::NoTable(name) => Some(name),
+        _ => None,
     }
 }
 

@@ -7,13 +7,17 @@ mod create;
 mod exceptions;
 mod index;
 mod list;
+mod load_notes;
 mod places;
 mod plan_notes;
 mod refused_loads;
+mod refused_tables;
 mod report;
+mod silent;
 mod statistics;
 
 pub use exceptions::ExceptionReport;
+pub use load_notes::LoadReport;
 pub use messages_certificates::FileReport;
 pub use messages_excerpts::{LineColumn, Lines};
 pub use plan_notes::PlanReport;

@@ -3,6 +3,9 @@
 ghost use Rattle.std.specs.Prelude.{◌<◌, length};
 
 use crate::refused_loads::RefusedLoads;
+use crate::silent::{
+    conjuncts, gives_outer_column, has_never_met, never_met, outer_column, write_never_met,
+};
 use catalog::{Database, Table};
 use diagnostics::{PlanNote, PlanNoteKind, Planned, TableSet};
 use messages_excerpts::{LineColumn, Lines};
@@ -11,7 +14,7 @@ use messages_queries::{block_of_number, name_in_sight};
 use query_tree::Block;
 use std::alloc::Global;
 use std::fmt::{self, Display, Formatter};
-use syntax::Block as WrittenBlock;
+use syntax::{Block as WrittenBlock, ColumnReference};
 
 /// The notes on the plans of a query, a line each: `script.sql:3:20: note: block 1: ..`.
 #[derive(Drop)]
@@ -27,7 +30,28 @@ pub struct PlanReport<'r> {
 impl PlanReport<'_> {
     /// Whether there is nothing to tell.
     pub fn is_empty(&self) -> bool {
-        self.planned.notes.is_empty() && !self.has_refused_load()
+        self.planned.notes.is_empty() && !self.has_refused_load() && !self.has_silent_block()
+    }
+
+    /// Whether a block has a condition that no row meets, or gives a column of a block around.
+    fn has_silent_block(&self) -> bool {
+        for (number, block) in self.planned.blocks.iter().enumerate() {
+            if has_never_met(block) || self.outer_column(number, block).is_some() {
+                return true;
+            }
+        }
+        false
+    }
+
+    /// The result column of a block that is a column of a block around, where it is written without the name of a table.
+    fn outer_column(&self, number: usize, block: &Block) -> Option<&ColumnReference> {
+        if !gives_outer_column(block) {
+            return None;
+        }
+        match block_of_number(self.alloc, self.planned.query, number) {
+            Ok(Some(written)) => outer_column(block, written),
+            _ => None,
+        }
     }
 
     /// Whether the last LOAD of a table was refused.
@@ -56,6 +80,8 @@ impl PlanReport<'_> {
         };
         let place = self.lines.locate(start);
         self.write_refused_loads(f, place, number, block)?;
+        self.write_never_met(f, place, number, block)?;
+        self.write_outer_column(f, number, block, written)?;
         let noted = NotedBlock {
             database: self.database,
             block,
@@ -70,6 +96,46 @@ impl PlanReport<'_> {
             }
         }
         Ok(())
+    }
+
+    /// `script.sql:3:20: note: block 1: no row meets ..`, a line for each conjunct that none meets.
+    fn write_never_met<W: fmt::Write>(
+        &self,
+        f: &mut Formatter<W>,
+        place: LineColumn,
+        number: usize,
+        block: &Block,
+    ) -> fmt::Result {
+        for condition in conjuncts(block) {
+            if let Some(never) = never_met(condition) {
+                self.write_place(f, place)?;
+                write!(f, "block {}: ", number.saturating_add(1))?;
+                write_never_met(f, self.database, block, never)?;
+            }
+        }
+        Ok(())
+    }
+
+    /// `script.sql:3:40: note: NUMBER is a column of the query around: no table of this FROM has it`.
+    fn write_outer_column<W: fmt::Write>(
+        &self,
+        f: &mut Formatter<W>,
+        number: usize,
+        block: &Block,
+        written: &WrittenBlock,
+    ) -> fmt::Result {
+        match outer_column(block, written) {
+            Some(reference) if number > 0 => {
+                let name = &reference.name;
+                self.write_place(f, self.lines.locate(name.start))?;
+                writeln!(
+                    f,
+                    "{} is a column of a query around: no table of this FROM has it",
+                    name.text
+                )
+            }
+            _ => Ok(()),
+        }
     }
 
     /// `script.sql:3:20: note: `.

@@ -55,7 +55,7 @@ impl RefusedLoads {
 }
 
 /// The place of a table in the database.
-fn place_of(database: &Database, name: &str) -> Option<usize> {
+pub(crate) fn place_of(database: &Database, name: &str) -> Option<usize> {
     for (place, table) in database.tables().iter().enumerate() {
         if table.name() == name {
             return Some(place);

@@ -9,9 +9,11 @@ use crate::create::write_create;
 use crate::exceptions::ExceptionReport;
 use crate::index::write_index;
 use crate::list::write_list_hint;
+use crate::load_notes::{LoadReport, LoadedRows};
 use crate::places::offset_of;
 use crate::plan_notes::PlanReport;
-use crate::refused_loads::RefusedLoads;
+use crate::refused_loads::{RefusedLoads, place_of};
+use crate::refused_tables::RefusedTables;
 use crate::statistics::{write_statistics, write_table_statistics};
 use catalog::{
     Database, IndexFault, ListFault, MAX_ROWS, RefusedRecord, RepeatedRecord, StatisticsFault,
@@ -37,6 +39,8 @@ pub struct Reporter<'a> {
     script_name: &'a str,
     lines: Lines<'a>,
     refused_loads: RefusedLoads,
+    refused_tables: RefusedTables,
+    loaded_rows: LoadedRows,
 }
 
 impl<'a> Reporter<'a> {
@@ -47,6 +51,8 @@ impl<'a> Reporter<'a> {
             script_name,
             lines: Lines::new(script),
             refused_loads: RefusedLoads::new(alloc),
+            refused_tables: RefusedTables::new(alloc),
+            loaded_rows: LoadedRows::new(alloc),
         }
     }
 
@@ -63,6 +69,8 @@ impl<'a> Reporter<'a> {
         let offset = offset_of(&refused.cause);
         let place = self.lines.locate(offset);
         self.refused_loads.keep(database, &refused.cause, place);
+        self.refused_tables
+            .keep(self.alloc, &refused.cause, &self.lines);
         Report {
             alloc: self.alloc,
             script_name: self.script_name,
@@ -71,12 +79,28 @@ impl<'a> Reporter<'a> {
             place,
             refused,
             database,
+            refused_table: self.refused_tables.place_of_missing(&refused.cause),
         }
     }
 
-    /// Notes that a LOAD has gone well: nothing is said of those before any more.
-    pub fn note_load(&mut self, table: &Name, database: &Database) {
+    /// Notes that a LOAD has gone well: nothing is said of those before any more. Gives what there is to say of the rows.
+    pub fn report_load<'r>(&mut self, table: &Name, database: &'r Database) -> LoadReport<'r>
+    where
+        'a: 'r,
+    {
         self.refused_loads.forget(database, table);
+        let name = table.text.as_str();
+        let loaded = database.table(name);
+        let before = match (loaded, place_of(database, name)) {
+            (Some(own), Some(place)) => self.loaded_rows.replace(place, own.len()),
+            _ => 0,
+        };
+        LoadReport {
+            script_name: self.script_name,
+            place: self.lines.locate(table.start),
+            table: loaded,
+            before,
+        }
     }
 
     /// The message on an exception.
@@ -141,6 +165,8 @@ pub struct Report<'r> {
     place: LineColumn,
     refused: &'r Refused<'r>,
     database: &'r Database,
+    /// Where the table that is missing was to be made, if it was.
+    refused_table: Option<LineColumn>,
 }
 
 impl Display for Report<'_> {
@@ -160,7 +186,15 @@ impl Display for Report<'_> {
     }
 }
 
-impl Report<'_> {
+impl<'r> Report<'r> {
+    /// The name of the file that isn't there, if that is what is said.
+    pub fn missing_file(&self) -> Option<&'r str> {
+        match &self.refused.cause {
+            Cause::NoFile { file, .. } => Some(file.text.as_str()),
+            _ => None,
+        }
+    }
+
     /// `script.sql:3:15: `.
     fn write_place<W: fmt::Write>(&self, f: &mut Formatter<W>) -> fmt::Result {
         let LineColumn { line, column } = self.place;
@@ -195,6 +229,9 @@ impl Report<'_> {
     }
 
     fn write_hint<W: fmt::Write>(&self, f: &mut Formatter<W>, cause: &Cause) -> fmt::Result {
+        if let Some(LineColumn { line, column }) = self.refused_table {
+            return writeln!(f, "hint: its CREATE TABLE at {line}:{column} was refused");
+        }
         match cause {
             Cause::Lexical(fault) => write_lexical_hint(f, self.script, *fault),
             Cause::Unexpected(unexpected) => {

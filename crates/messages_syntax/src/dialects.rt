@@ -51,13 +51,13 @@ fn sign_hint(seen: &Seen) -> Option<&'static str> {
 pub(crate) const REMARK: &str = "a remark begins with -- and ends with its line";
 
 /// Whether a list of names or values could go on, and what stands there goes on with the statement: FROM behind a list of values, the word of a
-/// clause behind one of names, and a parenthesis where one is open.
+/// clause or the statement's end behind one of names, and a parenthesis where one is open.
 fn ends_list(seen: &Seen) -> bool {
     let is_of_names = seen.wants(TokenClass::Name);
     let is_list = is_of_names || seen.wants(TokenClass::Value);
     is_list
         && match seen.unexpected.found {
-            Some(TokenKind::Reserved(Word::From)) => begins_clause(seen),
+            Some(TokenKind::Reserved(Word::From)) => !is_of_names && begins_clause(seen),
             Some(TokenKind::Reserved(Word::Group | Word::Order)) => {
                 is_of_names && seen.goes_on("BY")
             }
@@ -65,7 +65,7 @@ fn ends_list(seen: &Seen) -> bool {
                 is_of_names && begins_clause(seen)
             }
             Some(TokenKind::Mark(Symbol::CloseParen)) => seen.is_in_parentheses(),
-            Some(TokenKind::Mark(Symbol::Semicolon)) => true,
+            Some(TokenKind::Mark(Symbol::Semicolon)) => is_of_names,
             _ => false,
         }
 }

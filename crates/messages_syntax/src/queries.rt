@@ -94,6 +94,9 @@ fn column_hint(seen: &Seen) -> Option<&'static str> {
     if seen.is_name() && seen.follows("LIKE") && seen.wants_only(TokenClass::String) {
         return Some("LIKE takes a pattern in quotes, and no column");
     }
+    if seen.found == "," && seen.wants(TokenClass::Operator) && is_row(seen.rest) {
+        return Some("rows aren't compared as a whole: compare value by value, with AND between");
+    }
     let wants_from = seen.wants(TokenClass::Word(Word::From));
     if wants_from && seen.found == ";" {
         return Some("a SELECT has FROM and a table behind its columns");
@@ -102,6 +105,15 @@ fn column_hint(seen: &Seen) -> Option<&'static str> {
         return Some("there is no INTO: what a SELECT finds is printed");
     }
     None
+}
+
+/// Whether a text goes on with the rest of a row of values: up to its parenthesis no other opens, and a comparison or IN stands behind it.
+fn is_row(text: &str) -> bool {
+    let Some((values, behind)) = text.split_once(')') else {
+        return false;
+    };
+    let is_compared = matches!(behind.trim_start().as_bytes(), [b'=' | b'<' | b'>', ..]);
+    !values.contains('(') && (is_compared || is_one_of(first_word(behind), &["IN", "NOT"]))
 }
 
 /// Where a query could have ended.

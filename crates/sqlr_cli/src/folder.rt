@@ -73,6 +73,14 @@ impl<L: Ledger, R: Runtime + AllocGlobal> Folder<'_, L, R> {
     }
 }
 
+/// Whether a folder has a file of a name that can be opened.
+pub(crate) fn has_file<R: Runtime + AllocGlobal>(rt: &R, folder: &str, name: &str) -> bool {
+    match format!(in rt.alloc(); "{folder}/{name}") {
+        Ok(path) => File::open(rt, path.as_str()).is_ok(),
+        Err(_) => false,
+    }
+}
+
 impl FileFault {
     /// What was wrong with a file, or nothing where there is no memory for its name.
     fn new(alloc: Global, name: &str, reason: io::Error) -> Option<FileFault> {

@@ -2,7 +2,7 @@
 
 use crate::standard_error::StandardError;
 use crate::{BROKEN_OFF, broken_off};
-use command_line::requests::{Request, Source};
+use command_line::requests::{Request, RunOptions, Source};
 use messages_statements::{LineColumn, Lines};
 use std::fs;
 use std::io::{self, Read};
@@ -13,6 +13,7 @@ use std::rt::Runtime;
 pub(crate) struct Given<'r> {
     pub script_name: &'r str,
     pub script: String,
+    pub options: RunOptions,
     pub certificates_name: &'r str,
     pub certificates: Option<Vec<u8>>,
 }
@@ -26,22 +27,46 @@ impl<'r> Given<'r> {
         is_typed: bool,
         request: &'r Request,
     ) -> Result<Given<'r>, u8> {
-        let (Request::Run(script) | Request::Check { script, .. }) = request;
+        let (Request::Run { script, .. } | Request::Check { script, .. }) = request;
         let script_name = name_of(script);
         let script_bytes = read(rt, standard_error, is_typed, script)?;
         let script = text_of(standard_error, script_name, script_bytes)?;
+        if has_endless_remark(&script) {
+            standard_error.tell(format_args!(
+                "{script_name}: its lines end in CR alone, so that a remark goes on to the end of the script"
+            ));
+        }
         let certificates = read_certificates(rt, standard_error, is_typed, request)?;
         let certificates_name = match request {
-            Request::Run(_) => "",
+            Request::Run { .. } => "",
             Request::Check { certificates, .. } => name_of(certificates),
         };
         Ok(Given {
             script_name,
             script,
+            options: options_of(request),
             certificates_name,
             certificates,
         })
     }
+}
+
+/// How the script is run: as ever where certificates are to be checked.
+fn options_of(request: &Request) -> RunOptions {
+    match request {
+        Request::Run { options, .. } => *options,
+        Request::Check { .. } => RunOptions {
+            stops: false,
+            is_timed: false,
+            form: None,
+        },
+    }
+}
+
+/// Whether a script has a remark, and lines that end in CR alone, which ends no remark (ISO/IEC 9075:1992, 5.2).
+fn has_endless_remark(script: &str) -> bool {
+    let bytes = script.as_bytes();
+    bytes.contains(&b'\r') && !bytes.contains(&b'\n') && script.contains("--")
 }
 
 /// The bytes of the certificates, if they are to be checked, or the status to end with where they can't be read.
@@ -52,7 +77,7 @@ fn read_certificates<R: Runtime + AllocGlobal>(
     request: &Request,
 ) -> Result<Option<Vec<u8>>, u8> {
     match request {
-        Request::Run(_) => Ok(None),
+        Request::Run { .. } => Ok(None),
         Request::Check {
             script: Source::StandardInput,
             certificates: Source::StandardInput,
@@ -71,6 +96,7 @@ fn name_of(source: &Source) -> &str {
     match source {
         Source::File(name) => name.as_str(),
         Source::StandardInput => "<stdin>",
+        Source::Text(_) => "<command>",
     }
 }
 
@@ -84,11 +110,34 @@ fn read<R: Runtime + AllocGlobal>(
     let bytes = match source {
         Source::File(name) => fs::read(rt, name),
         Source::StandardInput => read_standard_input(rt, standard_error, is_typed),
+        Source::Text(text) => copied(text),
     };
     match bytes {
         Ok(bytes) => Ok(bytes),
-        Err(reason) => Err(broken_off(standard_error, name_of(source), reason)),
+        Err(reason) => {
+            let name = name_of(source);
+            let is_statement = is_statement(name);
+            let status = broken_off(standard_error, name, reason);
+            if is_statement {
+                standard_error.tell(
+                    "statements are read from a file, by `sqlr run -` from standard input, or behind `-c`",
+                );
+            }
+            Err(status)
+        }
     }
+}
+
+/// Whether a name of a file is a statement, by its blanks and its first word or its last sign.
+fn is_statement(name: &str) -> bool {
+    let Some((word, _)) = name.split_once(' ') else {
+        return false;
+    };
+    name.trim_end().ends_with(";") || word.eq_ignore_ascii_case("SELECT")
+}
+
+fn copied(text: &String) -> io::Result<Vec<u8>> {
+    Ok(text.clone()?.into_bytes())
 }
 
 /// The bytes of standard input; where someone types them, a line says what is waited for.

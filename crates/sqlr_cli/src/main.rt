@@ -29,6 +29,9 @@ use std::sync::ledger::{Blank, Ledger};
 /// The exit status of a run that breaks off before its script is read.
 const BROKEN_OFF: u8 = 2;
 
+/// The exit status of a run that ends at a refused statement.
+const REFUSED: u8 = 1;
+
 fn main(rt: HostRuntime) -> io::Result<ExitCode> {
     let standard_error = StandardError::new(&rt, rt.stderr().is_terminal());
     if !stack::is_enough(&rt, &standard_error) {
@@ -118,6 +121,7 @@ fn do_request<'a, F: Ledger, P: Ledger, R: Runtime + AllocGlobal>(
     let Given {
         script_name,
         script,
+        options,
         certificates_name,
         certificates,
     } = given;
@@ -128,20 +132,28 @@ fn do_request<'a, F: Ledger, P: Ledger, R: Runtime + AllocGlobal>(
         fault: None,
     };
     let mut output = Output {
+        rt,
         writer: io::writer(rt),
         standard_error,
+        options,
         reporter: Reporter::new(rt.alloc(), script_name, &script),
+        script_name,
         certificates_name,
         messages: Cell::new(0),
         failures: put_failures,
         fault: None,
+        has_stopped: false,
     };
     let mut session = Session::new(rt.alloc(), folder);
+    standard_error.begin_statement();
     let run = match &certificates {
         Some(bytes) => session.check(&script, bytes, &mut output),
         None => session.run(&script, &mut output),
     };
     tell_left_out(standard_error, script_name, output.left_out());
+    if output.has_stopped {
+        return REFUSED;
+    }
     if let Err(fault) = &run {
         let file = &session.library().fault;
         tell_broken_off(

@@ -1,12 +1,16 @@
 //! Standard output as a sink.
 
+use crate::folder::has_file;
 use crate::standard_error::StandardError;
+use answer_forms::{Answer, csv_text, json_text, table_text};
 use catalog::Database;
+use command_line::requests::{AnswerForm, RunOptions};
 use messages_statements::Reporter;
 use sqlr::{
     CheckedFile, Failures, LoadProgress, Name, Planned, Progress, Refused, Sink, SinkFault,
 };
 use sqlvalue::Raise;
+use std::alloc::Global;
 use std::cell::Cell;
 use std::io::{self, Write};
 use std::rt::Runtime;
@@ -19,9 +23,12 @@ const MAX_MESSAGES: u64 = 1000;
 /// standard error what is wrong with a refused statement.
 #[derive(Drop)]
 pub struct Output<'a, 's, L: Ledger, R: Runtime + AllocGlobal, W: Write + Drop> {
+    pub rt: &'a R,
     pub writer: W,
     pub standard_error: &'a StandardError<'a, R>,
+    pub options: RunOptions,
     pub reporter: Reporter<'s>,
+    pub script_name: &'s str,
     /// What messages call the file of certificates, if there is one.
     pub certificates_name: &'s str,
     /// How many messages on statements there were.
@@ -29,6 +36,8 @@ pub struct Output<'a, 's, L: Ledger, R: Runtime + AllocGlobal, W: Write + Drop> 
     pub failures: Failures<L>,
     /// Why the writer failed last.
     pub fault: Option<io::Error>,
+    /// Whether it takes no more because a statement was refused, and the run is to end there.
+    pub has_stopped: bool,
 }
 
 impl<L: Ledger, R: Runtime + AllocGlobal, W: Write + Drop> Sink for Output<'_, '_, L, R, W> {
@@ -40,9 +49,19 @@ impl<L: Ledger, R: Runtime + AllocGlobal, W: Write + Drop> Sink for Output<'_, '
 
     fn put(&mut self, bytes: &[u8]) -> Result<(), SinkFault> {
         self.standard_error.clear_notice();
-        let written = write_and_flush(&mut self.writer, bytes);
+        let (rt, form) = (self.rt, self.options.form);
+        let written = write_text(&mut self.writer, rt, self.standard_error, form, bytes);
+        if self.options.is_timed {
+            self.standard_error.tell_time();
+        }
         self.standard_error.begin_statement();
         match written {
+            Ok(()) if self.options.stops && is_refusal(bytes) => {
+                // No other answer ends a run, and a statement that is refused has changed nothing.
+                self.failures.rise();
+                self.has_stopped = true;
+                Err(SinkFault)
+            }
             Ok(()) => Ok(()),
             Err(reason) => {
                 self.failures.rise();
@@ -55,7 +74,11 @@ impl<L: Ledger, R: Runtime + AllocGlobal, W: Write + Drop> Sink for Output<'_, '
     fn report(&mut self, refused: &Refused, database: &Database) {
         if self.may_tell() {
             let report = self.reporter.report(refused, database);
+            let missing = report.missing_file();
             self.standard_error.print(report);
+            if let Some(file) = missing {
+                self.tell_beside(file);
+            }
         }
     }
 
@@ -67,7 +90,10 @@ impl<L: Ledger, R: Runtime + AllocGlobal, W: Write + Drop> Sink for Output<'_, '
     }
 
     fn report_load(&mut self, table: &Name, database: &Database) {
-        self.reporter.note_load(table, database);
+        let report = self.reporter.report_load(table, database);
+        if !report.is_empty() && self.may_tell() {
+            self.standard_error.print(report);
+        }
     }
 
     fn report_plans(&self, planned: Planned<'_>, database: &Database) {
@@ -115,13 +141,65 @@ impl<L: Ledger, R: Runtime + AllocGlobal, W: Write + Drop> Output<'_, '_, L, R, 
         self.messages.get() <= MAX_MESSAGES
     }
 
+    /// Says where a file that isn't there is, if it lies beside the script.
+    fn tell_beside(&self, file: &str) {
+        let Some((folder, _)) = self.script_name.rsplit_once('/') else {
+            return;
+        };
+        if has_file(self.rt, folder, file) {
+            self.standard_error.print(format_args!(
+                "hint: {folder}/{file} is there: files are looked for from where one stands, so run the script in {folder}\n"
+            ));
+        }
+    }
+
     /// How many messages were left out.
     pub fn left_out(&self) -> u64 {
         self.messages.get().saturating_sub(MAX_MESSAGES)
     }
 }
 
+/// Writes a statement's text as it is, or in the form that is asked for.
+fn write_text<R: Runtime + AllocGlobal, W: Write>(
+    writer: &mut W,
+    rt: &R,
+    standard_error: &StandardError<R>,
+    form: Option<AnswerForm>,
+    bytes: &[u8],
+) -> io::Result<()> {
+    let (Some(form), Ok(text)) = (form, str::from_utf8(bytes)) else {
+        return write_and_flush(writer, bytes);
+    };
+    match (Answer::read(text), form) {
+        (Some(answer), form) => write_answer(writer, rt.alloc(), &answer, form),
+        (None, AnswerForm::Table) => write_and_flush(writer, bytes),
+        // Other programs read these forms, and are to find nothing but answers.
+        (None, AnswerForm::Csv | AnswerForm::Json) => {
+            standard_error.print(text);
+            Ok(())
+        }
+    }
+}
+
+fn write_answer<W: Write>(
+    writer: &mut W,
+    alloc: Global,
+    answer: &Answer<'_>,
+    form: AnswerForm,
+) -> io::Result<()> {
+    match form {
+        AnswerForm::Csv => write_and_flush(writer, &csv_text(alloc, answer)?),
+        AnswerForm::Json => write_and_flush(writer, &json_text(alloc, answer)?),
+        AnswerForm::Table => write_and_flush(writer, table_text(alloc, answer)?.as_bytes()),
+    }
+}
+
 fn write_and_flush<W: Write>(writer: &mut W, bytes: &[u8]) -> io::Result<()> {
     writer.write_all(bytes)?;
     writer.flush()
+}
+
+/// Whether a statement's text says that it is refused, or raises.
+fn is_refusal(text: &[u8]) -> bool {
+    text.starts_with(b"error ") || text.starts_with(b"exception ")
 }

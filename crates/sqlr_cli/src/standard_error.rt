@@ -4,7 +4,7 @@ use std::cell::Cell;
 use std::fmt::Display;
 use std::io;
 use std::rt::Runtime;
-use std::time::Instant;
+use std::time::{Duration, Instant};
 
 /// Goes to the beginning of a terminal's line, and clears it.
 const CLEAR_LINE: &str = "\r\x1b[K";
@@ -35,9 +35,17 @@ impl<'a, R: Runtime + AllocGlobal> StandardError<'a, R> {
 
     /// Notes that the next statement begins.
     pub fn begin_statement(&self) {
-        if self.is_terminal {
-            self.began.set(Instant::now(self.rt).ok());
-            self.shown.set(0);
+        self.began.set(Instant::now(self.rt).ok());
+        self.shown.set(0);
+    }
+
+    /// Tells how long the statement took, where a clock tells it.
+    pub fn tell_time(&self) {
+        let elapsed = self.elapsed();
+        if let Some(elapsed) = elapsed {
+            let seconds = elapsed.as_secs();
+            let thousandths = elapsed.subsec_millis();
+            self.tell(format_args!("{seconds}.{thousandths:03} s"));
         }
     }
 
@@ -55,13 +63,15 @@ impl<'a, R: Runtime + AllocGlobal> StandardError<'a, R> {
 
     /// How many whole seconds the statement has run; none where no clock tells it.
     fn seconds(&self) -> u64 {
-        let Some(began) = self.began.get() else {
-            return 0;
-        };
-        match began.elapsed(self.rt) {
-            Ok(elapsed) => elapsed.as_secs(),
-            Err(_) => 0,
+        match self.elapsed() {
+            Some(elapsed) => elapsed.as_secs(),
+            None => 0,
         }
+    }
+
+    /// How long the statement has run, where a clock tells it.
+    fn elapsed(&self) -> Option<Duration> {
+        self.began.get()?.elapsed(self.rt).ok()
     }
 
     /// Shows a notice, where this is a terminal.

@@ -1,14 +1,22 @@
-use Rattle.std.proofs.Common.{◌≡◌, map, None}
+use Rattle.std.proofs.Common.{◌≡◌, sym, subst, map, Some, None}
+use Rattle.clap.specs.Kinds.{FailsBy}
 use Rattle.clap.specs.Simple.{subcommand_rows_of}
 use Rattle.command_line.specs.CommandLine.{asked_in}
-use Rattle.command_line.proofs.CommandLines.{asks_something, fails_alike}
+use Rattle.command_line.specs.Request.{asked}
+use Rattle.command_line.proofs.CommandLines.{asks_no_form, fails_alike, faultless_request}
 use Rattle.command_line.proofs.words.request.Goals as goal
 
 pub returns-in-Err-try_get_matches_from_mut-clause-kinds : goal.returns-in-Err-try_get_matches_from_mut-clause-kinds
 returns-in-Err-try_get_matches_from_mut-clause-kinds c =
     fails_alike _ (map (λ w. w.now) c.args.words.now) c.in-Err-try_get_matches_from_mut.fault c.with_hint.result c.in-Ok.ensures c.in-Err-try_get_matches_from_mut.ensures.kinds c.with_hint.ensures
 
+pub returns-in-Ok-Some-clause-kinds : goal.returns-in-Ok-Some-clause-kinds
+returns-in-Ok-Some-clause-kinds c =
+    let some : Some (asked c.in-Ok-Some.request) ≡ asked_in (subcommand_rows_of c.in-Ok-try_get_matches_from_mut.matches) = rw c.in-Ok-Some.field-0-is at c.in-Ok-Some.ensures in
+    faultless_request _ _ (map (λ w. w.now) c.args.words.now) _ c.in-Ok.ensures c.in-Ok-try_get_matches_from_mut.ensures.ok.2 c.in-Ok-try_get_matches_from_mut.ensures.kinds some
+
 pub returns-in-Ok-None-clause-kinds : goal.returns-in-Ok-None-clause-kinds
 returns-in-Ok-None-clause-kinds c =
     let none : None ≡ asked_in (subcommand_rows_of c.in-Ok-try_get_matches_from_mut.matches) = rw c.in-Ok-None.field-0-is at c.in-Ok-None.ensures in
-    absurd (asks_something _ _ (map (λ w. w.now) c.args.words.now) c.in-Ok.ensures c.in-Ok-try_get_matches_from_mut.ensures.ok.2 c.in-Ok-try_get_matches_from_mut.ensures.kinds none)
+    let form = asks_no_form _ _ (map (λ w. w.now) c.args.words.now) c.in-Ok.ensures c.in-Ok-try_get_matches_from_mut.ensures.ok.2 c.in-Ok-try_get_matches_from_mut.ensures.kinds none in
+    subst (λ kinds. FailsBy kinds c.no_such_form.result) (sym form) c.no_such_form.ensures

@@ -1,4 +1,4 @@
-use Rattle.std.proofs.Common.{◌≡◌, sym, ap, ap₂, subst, Some, IfOk, option_map, codes}
+use Rattle.std.proofs.Common.{◌≡◌, refl, sym, ap₂, subst, Some, IfOk, option_map, codes}
 use Rattle.clap.specs.Simple.{subcommand_rows_of}
 use Rattle.clap.specs.Walk.{rows_of}
 use Rattle.clap.specs.Matches.{first_value, found_of}
@@ -12,7 +12,8 @@ pub returns-then-eq : goal.returns-then-eq
 returns-then-eq c =
     let found = found_of c.in-Some.given.now in
     let sub : subcommand_rows_of c.args.matches.now ≡ Some (c.in-Some.name.now, rows_of found) = met _ _ _ c.in-Some.ensures.name c.in-Some.ensures.rows in
-    let same : run_of (first_value found (codes "SCRIPT")) ≡ asked_in (subcommand_rows_of c.args.matches.now) = rw (sub, sym c.if-eq.ensures) (ap run_of (first_value-rows found (codes "SCRIPT"))) in
+    let same : run_of (first_value found (codes "SCRIPT")) (first_value found (codes "text")) (first_value found (codes "stop")) (first_value found (codes "timing")) (first_value found (codes "as")) ≡ asked_in (subcommand_rows_of c.args.matches.now) =
+    rw (sub, sym c.if-eq.ensures, first_value-rows found (codes "SCRIPT"), first_value-rows found (codes "text"), first_value-rows found (codes "stop"), first_value-rows found (codes "timing"), first_value-rows found (codes "as")) refl in
     subst (λ x. IfOk c.run_request.result (λ r. option_map asked r ≡ x)) same c.run_request.ensures
 
 pub returns-then-eq-2 : goal.returns-then-eq-2
