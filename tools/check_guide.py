@@ -1,9 +1,9 @@
 #!/usr/bin/env python3
-"""Compares docs/FIRST_STEPS.md and docs/REFUSALS.md with the cases of cases/first_steps, byte for byte.
+"""Compares docs/FIRST_STEPS.md, docs/GUIDE.md and docs/REFUSALS.md with the cases of cases/first_steps, byte for byte.
 
 usage: check_guide.py
 
-The two pages are read as one. On it a csv block is a file, whose name stands in the line before it, as "the file `NAME`:". A sql
+The three pages are read as one. On it a csv block is a file, whose name stands in the line before it, as "the file `NAME`:". A sql
 block is a script, and the text block that comes next is the screen of its run. An sh block with
 "run NAME.sql" names the scripts of the screens behind it. Each script of the page has to be that of a case,
 with the page's files and this screen, which is the case's output with each message directly before its error
@@ -17,7 +17,7 @@ import sys
 from cases import parse
 
 ROOT = pathlib.Path(__file__).resolve().parent.parent
-PAGES = [ROOT / "docs/FIRST_STEPS.md", ROOT / "docs/REFUSALS.md"]
+PAGES = [ROOT / "docs/FIRST_STEPS.md", ROOT / "docs/GUIDE.md", ROOT / "docs/REFUSALS.md"]
 CASES = ROOT / "cases/first_steps"
 
 # Where a message begins, as "script.sql:3:15: error E14 42000: ..", and where a line of output does that
