@@ -4,7 +4,8 @@
 usage: check_start.py
 
 A link to it in another folder starts the release. Sums are made at the first start, and again only where a source, the program or its place has
-changed; where the release isn't of the sources any more, the program is built. The status is 1 where it isn't so.
+changed; where the release isn't of the sources any more, the program is built. The version comes with the sum of the sources. The status is 1
+where it isn't so.
 """
 import os
 import pathlib
@@ -73,9 +74,12 @@ def main():
         small.source.write_text("one\n")
         expect("a start behind a change back", small.start(), (*well, ["sums"]))
         expect("a start behind that", small.start(), (*well, []))
+        told = small.run(str(small.room / "elsewhere/sqlr"), "--version")
+        digits = (small.root / "release/sqlr.sources").read_text()[:12]
+        expect("the version", (told.stdout, told.returncode), (f"ran --version\nof the sources {digits}\n", 0))
         (small.root / "release/sqlr").write_text("#!/bin/sh\necho other\n")
         expect("a start of another release", small.start(), ("other\n", 0, ["sums"]))
-    print(*faults, f"starts: {len(faults)} of 6 not as they should be", sep="\n")
+    print(*faults, f"starts: {len(faults)} of 7 not as they should be", sep="\n")
     sys.exit(1 if faults else 0)
 
 
