@@ -346,6 +346,17 @@ def cases(folder, full, closed, waiting):
     yield Case("two scripts among options", ["run", "--as", "csv", parts, "--stop", parts], 2, complaint=tip)
     yield from option_cases(folder, full)
     yield Case("missing script", ["run", missing], 2, complaint=b"sqlr: examples/missing.sql: No such file or directory\n")
+    statement = b"sqlr: SELECT 1;: No such file or directory\nsqlr: statements are read from a file, by `sqlr run -` from standard input, or behind `-c`\n"
+    yield Case("statement as a script's name", ["run", "SELECT 1;"], 2, complaint=statement)
+    alone = folder / "alone.sql"
+    alone.write_bytes(b"CREATE TABLE T (A INTEGER); -- x\rSELECT A FROM T;\r")
+    no_end = f"sqlr: {alone}: its lines end in CR alone, so that a remark goes on to the end of the script\n".encode()
+    yield Case("lines that end in CR alone", ["run", str(alone)], 0, b"OK\n", no_end)
+    beside = folder / "beside.sql"
+    beside.write_text("CREATE TABLE T (A INTEGER);\nLOAD T FROM 'rows.csv';\n")
+    (folder / "rows.csv").write_text("1\n")
+    there = f"{beside}:2:13: error E22 42000: there is no file 'rows.csv'\nLOAD T FROM 'rows.csv';\n            ^\nhint: {folder}/rows.csv is there: "
+    yield Case("file beside the script", ["run", str(beside)], 1, b"OK\nerror E22 42000\n", there.encode())
     yield Case("script that is a folder", ["run", "examples"], 2, complaint=b"sqlr: examples: Is a directory\n")
     no_text = f"sqlr: {not_text}:2:15: byte FF is not UTF-8: save the script in UTF-8\n".encode()
     yield Case("script that is no text", ["run", str(not_text)], 2, complaint=no_text)
