@@ -1,5 +1,5 @@
 -- Numerals: their digits, their points, and their signs.
-use Rattle.std.proofs.Common.{◌≡◌, ◌∙◌, refl, sym, ap, ℕ, suc, ◌+◌, ◌-◌, ◌*◌, ◌^◌, ◌<◌, ◌≤◌, List, [], ◌∷◌, ◌++◌, Option, Some, None, Bool, true, false, cond, leb, ltb, length, take, drop, get_or, filter, arith}
+use Rattle.std.proofs.Common.{◌≡◌, ◌∙◌, refl, sym, ap, ℕ, zero, suc, ◌+◌, ◌-◌, ◌*◌, ◌^◌, ◌<◌, ◌≤◌, List, [], ◌∷◌, ◌++◌, Option, Some, None, Bool, true, false, cond, leb, ltb, length, take, drop, get_or, filter, arith}
 use Rattle.std.specs.Prelude.{◌||◌, ◌&&◌, ◌==◌, unwrap_or, option_map, IsTrue, pos}
 use Rattle.std.proofs.lemmas.List.{take_all, drop_more}
 use Rattle.std.proofs.lemmas.Nat.{pow-add}
@@ -14,7 +14,7 @@ use Rattle.definitions.proofs.Ranking.{power_is_positive}
 use Rattle.loading.proofs.Scaling.{power_is_within}
 use Rattle.definitions.specs.Value.{Value, Number}
 use Rattle.definitions.specs.Loading.{IsSign, WritesNumber, negated}
-use Rattle.loading.specs.Fields.{WritesShort}
+use Rattle.loading.specs.Fields.{IsShortNumeral, WritesShort}
 use Rattle.loading.specs.declared.written_number.WrittenNumber.{WrittenNumber}
 
 true_if_digits : (n : ℕ) → ltb 0 (suc n) ≡ true
@@ -172,3 +172,81 @@ pub unread : (field numeral : List ℕ) (v : Value) (digits : ℕ) → ((sign ot
 unread field numeral v digits only none w =
     let same : w.numeral ≡ numeral = only w.sign w.numeral w.minus w.is_sign w.is w.is_numeral in
     let clash : false ≡ true = sym none ∙ ap is_numeral (sym same) ∙ w.is_numeral in cc
+
+-- ---- in one pass
+
+abbrev is_point : ℕ → Bool
+is_point c = c == 46
+
+abbrev is_numeral_byte : ℕ → Bool
+is_numeral_byte c = is_digit c || (c == 46)
+
+filter_short : (p : ℕ → Bool) (xs : List ℕ) → length (filter p xs) ≤ length xs
+filter_short p [] = omega arith
+filter_short p (x ∷ xs) =
+    let rest = filter_short p xs in
+    elim (p x) as (λ b. length (cond b (x ∷ filter p xs) (filter p xs)) ≤ suc (length xs)) [ true ↦ omega (arith, rest) | false ↦ omega (arith, rest) ]
+
+nothing_left : (xs : List ℕ) (i : ℕ) → length xs ≤ i → drop i xs ≡ []
+nothing_left [] zero h = refl
+nothing_left [] (suc i) h = refl
+nothing_left (x ∷ xs) zero h = absurd (omega (arith, h))
+nothing_left (x ∷ xs) (suc i) h = nothing_left xs i (omega (arith, h))
+
+digit_no_point : (c : ℕ) → is_digit c ≡ true → (c == 46) ≡ false
+digit_no_point c h = grind (arith, nat_tests)
+
+-- the digits so far, and the points; all bytes so far are of numerals
+pub record Scanned (xs : List ℕ) (i value points : ℕ) : Type 0 where
+  pub valued : Valued xs i value (digits_value 10 (digits_of xs)) (10 ^ 18)
+  pub bytes : list_all is_numeral_byte (drop i xs) ≡ list_all is_numeral_byte xs
+  pub dots : points + length (filter is_point (drop i xs)) ≡ length (filter is_point xs)
+  pub within : points ≤ i
+
+pub scanned_start : (xs : List ℕ) → length xs ≤ 18 → Scanned xs 0 0 0
+scanned_start xs h =
+    let few : length (digits_of xs) ≤ 18 = omega (arith, h, filter_short is_digit xs) in
+    record {
+      valued = record { value_is = refl; room = omega (arith, power_is_within (length (digits_of xs)) 18 few) };
+      bytes = refl;
+      dots = omega arith;
+      within = omega arith;
+    }
+
+pub scanned_digit : (xs : List ℕ) (i value next d points : ℕ) → i < length xs → is_digit (get_or xs i 0) ≡ true → d ≡ get_or xs i 0 - 48 → next ≡ 10 * value + d → Scanned xs i value points
+    → Scanned xs (i + 1) next points
+scanned_digit xs i value next d points h t e n s =
+    let here = drop_more xs i 0 h in
+    let no_point = digit_no_point (get_or xs i 0) t in
+    record {
+      valued = valued_digit xs i value next d _ _ h t e n s.valued;
+      bytes = rw (here, t) at s.bytes;
+      dots = rw (here, no_point) at s.dots;
+      within = omega (arith, s.within);
+    }
+
+pub scanned_point : (xs : List ℕ) (i value points : ℕ) → i < length xs → is_digit (get_or xs i 0) ≡ false → (get_or xs i 0 == 46) ≡ true → Scanned xs i value points → Scanned xs (i + 1) value (points + 1)
+scanned_point xs i value points h t p s =
+    let here = drop_more xs i 0 h in
+    let dots = rw (here, p) at s.dots in
+    record {
+      valued = valued_other xs i value _ _ h t s.valued;
+      bytes = rw (here, t, p) at s.bytes;
+      dots = omega (arith, dots);
+      within = omega (arith, s.within);
+    }
+
+pub scanned_all : (xs : List ℕ) (i value points : ℕ) → length xs ≤ 18 → length xs ≤ i → points ≤ 1 → points < length xs → Scanned xs i value points → IsShortNumeral xs value
+scanned_all xs i value points short h one some s =
+    let none = nothing_left xs i h in
+    let bytes : list_all is_numeral_byte xs ≡ true = sym (rw none at s.bytes) in
+    let dots : points + 0 ≡ length (filter is_point xs) = rw none at s.dots in
+    let digits : 0 < length (digits_of xs) = let both = points_and_digits xs bytes in omega (arith, both, dots, some) in
+    let any : list_any is_digit xs ≡ true = sym (any_from_count xs) ∙ grind (arith, nat_tests) in
+    let few : leb (length (filter is_point xs)) 1 ≡ true = let is : length (filter is_point xs) ≤ 1 = omega (arith, dots, one) in grind (arith, nat_tests) in
+    record {
+      numeral_is = rw (bytes, any, few) refl;
+      few = omega (arith, short, filter_short is_digit xs);
+      value = rw none at s.valued.value_is;
+      below = valued_fits xs i value _ _ s.valued;
+    }

@@ -1,6 +1,8 @@
 -- What fields write, and are stored as.
-use Rattle.std.specs.Prelude.{ℕ, pos, ◌≡◌, ◌<◌, ◌≤◌, ◌^◌, List, Some}
+use Rattle.std.specs.Prelude.{ℕ, pos, ◌≡◌, ◌<◌, ◌≤◌, ◌^◌, true, List, Some, length}
+use Rattle.std.specs.Str.Parse.{digits_value}
 use Rattle.std.specs.declared.cmp.Ordering.TheVariants.{Equal}
+use Rattle.definitions.specs.Lexing.{digits_of, is_numeral}
 use Rattle.definitions.specs.Limits.{most_digits}
 use Rattle.definitions.specs.Refusal.{FieldError, BadText}
 use Rattle.definitions.specs.Value.{Value, Number, SqlType, kind_of, HasType, compare}
@@ -11,6 +13,13 @@ use Rattle.sqlvalue.specs.declared.field.FieldFault.TheVariants as f
 
 abbrev pub number_of : WrittenNumber → Value
 number_of w = Number (negated w.negative (pos w.digits)) w.scale
+
+-- a numeral of few digits, which add up to this
+pub record IsShortNumeral (numeral : List ℕ) (digits : ℕ) : Type 0 where
+  pub numeral_is : is_numeral numeral ≡ true
+  pub few : length (digits_of numeral) ≤ 18
+  pub value : digits ≡ digits_value 10 (digits_of numeral)
+  pub below : digits < 10 ^ 18
 
 -- a field writes this number, of not too many digits
 abbrev pub WritesShort : List ℕ → WrittenNumber → Type 0

@@ -17,7 +17,7 @@ pub(crate) fn size_limit(sql_type: SqlType, negative: bool) -> u128
     match sql_type {
         SqlType::Smallint => (1 << 15) + u128::from(negative),
         SqlType::Integer => (1 << 31) + u128::from(negative),
-        SqlType::Numeric { precision, .. } => 10u128.pow(u32::from(precision)),
+        SqlType::Numeric { precision, .. } => u128::from(10u64.pow(u32::from(precision))),
         SqlType::Char { .. } => 0,
     }
 }

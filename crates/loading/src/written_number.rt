@@ -99,5 +99,8 @@ pub(crate) fn power_of_ten(exponent: usize) -> u128
     ensures value { result ≡ 10 ^ exponent }
     ensures positive { 0 < result }
 {
+    if exponent == 0 {
+        return 1;
+    }
     10u128.pow(exponent as u32)
 }

@@ -47,7 +47,17 @@ fn kind_place(value: &Value) -> u8
     }
 }
 
+/// Numbers of one scale, as most are, compare by their units.
 fn compare_numbers(a: Num, b: Num) -> Ordering
+    ensures { result ≡ spec.number_cmp a.units a.scale b.units b.scale }
+{
+    if a.scale == b.scale {
+        return a.units.cmp(&b.units);
+    }
+    compare_across_scales(a, b)
+}
+
+fn compare_across_scales(a: Num, b: Num) -> Ordering
     ensures { result ≡ spec.number_cmp a.units a.scale b.units b.scale }
 {
     match (a.is_negative(), b.is_negative()) {

@@ -46,6 +46,9 @@ impl Num {
         ensures rest { result.1 ≡ nat_abs self.units % 10 ^ self.scale }
     {
         let size = self.size();
+        if self.scale == 0 {
+            return (size, 0);
+        }
         let one = power_of_ten(self.scale);
         (size / one, size % one)
     }

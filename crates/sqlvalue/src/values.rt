@@ -1,7 +1,8 @@
 //! Values as fields of printed rows.
 
-ghost use Rattle.std.specs.Prelude.{◌≡◌, ◌++◌, OnOk, decimal, replicate};
-ghost use Rattle.definitions.specs.Characters.{zero_digit};
+ghost use Rattle.std.specs.Prelude.{◌≡◌, ◌<◌, ◌++◌, ◌==◌, IfSome, OnOk, decimal, length, replicate};
+ghost use Rattle.std.specs.List.{position_from};
+ghost use Rattle.definitions.specs.Characters.{quote, zero_digit};
 ghost use Rattle.definitions.specs.Printing as spec;
 ghost use Rattle.definitions.specs.Value as model;
 ghost use Rattle.sqlvalue.specs.Meaning.{value_of};
@@ -58,24 +59,40 @@ fn write_zeros(out: &mut Vec<u8>, count: usize) -> Result<(), AllocError>
     Ok(())
 }
 
-/// A whole number without a sign.
+/// A whole number without a sign. Most fit into 64 bits, which are quicker to divide.
 pub fn write_decimal(out: &mut Vec<u8>, number: u128) -> Result<(), AllocError>
     ensures { OnOk result (out.new.items ≡ out.old.items ++ decimal number) }
 {
-    out.extend_from_slice(Buffer::new().format(number).as_bytes())
+    let mut buffer = Buffer::new();
+    let digits = match u64::try_from(number) {
+        Ok(short) => buffer.format(short),
+        Err(_) => buffer.format(number),
+    };
+    out.extend_from_slice(digits.as_bytes())
 }
 
-/// A text between quotes, those inside doubled.
+/// A text between quotes, those inside doubled: what stands between two quotes is copied at once.
 fn write_text(out: &mut Vec<u8>, text: &[u8]) -> Result<(), AllocError>
     ensures { OnOk result (out.new.items ≡ out.old.items ++ spec.value_text (model.Text text.now)) }
 {
     out.push(b'\'')?;
-    'bytes: for byte in text {
-        if *byte == b'\'' {
-            out.push(b'\'')?;
-        }
-        out.push(*byte)?;
+    let mut rest = text;
+    'runs: while let Some(at) = quote_place(rest) {
+        let (run, behind) = rest.split_at(at + 1);
+        out.extend_from_slice(run)?;
+        out.push(b'\'')?;
+        rest = behind;
     }
+    out.extend_from_slice(rest)?;
     out.push(b'\'')?;
     Ok(())
+}
+
+/// Where the first quote of a text stands.
+fn quote_place(text: &[u8]) -> Option<usize>
+    ensures place { result ≡ position_from (λ byte. byte == quote) 0 text.now }
+    ensures within { IfSome result (λ at. at < length text.now) }
+    ensures small { IfSome result (λ at. at < 18446744073709551615) }
+{
+    text.iter().position(|byte| *byte == b'\'')
 }

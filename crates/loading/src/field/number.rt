@@ -12,7 +12,7 @@ ghost use Rattle.definitions.specs.Loading.{FieldLoads, IsSign};
 ghost use Rattle.sqlvalue.specs.Meaning.{type_of};
 ghost use Rattle.sqlvalue.specs.RefusalMeaning.{field_error_of};
 ghost use Rattle.columns.specs.Cells.{number_or_null};
-ghost use Rattle.loading.specs.Fields.{WritesShort, WritesNone, Stores, StoresNone};
+ghost use Rattle.loading.specs.Fields.{IsShortNumeral, WritesShort, WritesNone, Stores, StoresNone};
 
 use super::is_null;
 use crate::written_number::{MAX_DIGITS, WrittenNumber, power_of_ten, units_in};
@@ -72,6 +72,13 @@ fn written_number(field: &[u8]) -> Result<WrittenNumber, FieldFault>
     ensures err { IfErr result (λ f. WritesNone field.now f) }
 {
     let (negative, numeral) = split_sign(field);
+    if let Some(digits) = short_digits(numeral) {
+        return Ok(WrittenNumber {
+            negative,
+            digits: u128::from(digits),
+            scale: behind_point(numeral),
+        });
+    }
     if !is_numeral(numeral) {
         return Err(FieldFault::NoNumber);
     }
@@ -83,6 +90,33 @@ fn written_number(field: &[u8]) -> Result<WrittenNumber, FieldFault>
         digits: digits_value(numeral),
         scale: behind_point(numeral),
     })
+}
+
+/// How many bytes a numeral may have for its digits to be added up in 64 bits (own).
+const MAX_SHORT: usize = 18;
+
+/// The digits of a short numeral as one number, in one pass, as nearly all fields are; none where the text is long or no numeral.
+fn short_digits(numeral: &[u8]) -> Option<u64>
+    ensures { IfSome result (IsShortNumeral numeral.now) }
+{
+    if numeral.len() > MAX_SHORT {
+        return None;
+    }
+    let mut digits: u64 = 0;
+    let mut points: usize = 0;
+    'bytes: for byte in numeral {
+        if byte.is_ascii_digit() {
+            digits = 10 * digits + u64::from(*byte - b'0');
+        } else if *byte == b'.' {
+            points += 1;
+        } else {
+            return None;
+        }
+    }
+    if points > 1 || points == numeral.len() {
+        return None;
+    }
+    Some(digits)
 }
 
 /// Whether a minus stands first, and what stands behind the sign.

@@ -1,7 +1,10 @@
-use Rattle.std.proofs.Common.{◌≡◌, ◌++◌, ◌∷◌, drop}
+use Rattle.std.proofs.Common.{◌≡◌, ◌++◌, ◌∷◌, length}
 use Rattle.definitions.specs.Printing.{doubled}
 use Rattle.sqlvalue.proofs.values.write_text.Given as goal
 
 -- what is written, and what is left, is the whole
-abbrev pub invariant-bytes : goal.invariant-bytes
-invariant-bytes l = l.out.items ++ doubled (drop l.byte-index l.text) ≡ l.fn.out.items ++ 39 ∷ doubled l.text
+abbrev pub invariant-runs : goal.invariant-runs
+invariant-runs l = l.out.items ++ doubled l.rest ≡ l.fn.out.items ++ 39 ∷ doubled l.fn.text
+
+abbrev pub decreases-runs : goal.decreases-runs
+decreases-runs l = length l.rest

@@ -1,4 +1,4 @@
-use Rattle.std.proofs.Common.{◌∙◌, sym, length}
+use Rattle.std.proofs.Common.{◌∙◌, sym, length, ◌^◌, arith}
 use Rattle.definitions.specs.Lexing.{digits_of}
 use Rattle.loading.proofs.Numerals.{read, unread, written}
 use Rattle.loading.proofs.field.number.written_number.Goals as goal
@@ -19,4 +19,10 @@ returns-then-digit_count-gt-MAX_DIGITS-clause-err c =
 pub returns-clause-ok : goal.returns-clause-ok
 returns-clause-ok c =
     read c.args.field.now c.split_sign-negative.result.1.now _ c.split_sign-negative.ensures.split (sym c.is_numeral.ensures ∙ c.if-not-is_numeral.false)
-    c.digits_value.ensures.value c.behind_point.ensures (rw c.digit_count.ensures at c.if-digit_count-gt-MAX_DIGITS.false) c.digits_value.ensures.bound
+    c.digits_value.ensures.value c.behind_point-2.ensures (rw c.digit_count.ensures at c.if-digit_count-gt-MAX_DIGITS.false) c.digits_value.ensures.bound
+
+pub returns-in-Some-clause-ok : goal.returns-in-Some-clause-ok
+returns-in-Some-clause-ok c =
+    let short = c.in-Some.ensures in
+    read c.args.field.now c.split_sign-negative.result.1.now _ c.split_sign-negative.ensures.split short.numeral_is
+    (c.from.ensures ∙ short.value) c.behind_point.ensures (omega (arith, short.few)) (omega (arith, c.from.ensures, short.below))
