@@ -1,37 +1,39 @@
--- Columns that are equal to a member of a list.
-use Rattle.std.proofs.Common.{◌≡◌, ◌∙◌, refl, sym, ap, ap₂, subst, ℕ, zero, suc, ◌+◌, ◌*◌, ◌<◌, ◌≤◌, ◌^◌, inl, inr, List, [], ◌∷◌, Bool, true, false, cond, Option, Some, None, length, map, drop, get_or, set, arith}
-use Rattle.std.specs.Prelude.{◌||◌, IfSome, bit_or}
-use Rattle.std.specs.Int.Bits.{or_zero_r}
+-- Columns that are equal to a member of a list, or to none.
+use Rattle.std.proofs.Common.{◌≡◌, ◌∙◌, refl, sym, ap, ap₂, subst, ℕ, zero, suc, ◌+◌, ◌*◌, ◌-◌, ◌<◌, ◌≤◌, ◌^◌, inl, inr, List, [], ◌∷◌, Bool, true, false, cond, Option, Some, None, length, map, drop, get_or, set, arith}
+use Rattle.std.specs.Prelude.{◌||◌, IfSome, bit_or, option_map}
+use Rattle.std.specs.declared.cmp.Ordering.{Ordering}
+use Rattle.std.specs.declared.cmp.Ordering.TheVariants.{Less, Equal, Greater}
 use Rattle.std.specs.List.{AllByRecursion, range_with_len}
 use Rattle.std.proofs.lemmas.List.{drop_all, drop_more}
+use Rattle.std.proofs.lemmas.List.FromFn.{length-range_with_len}
 use Rattle.std.proofs.lemmas.Nat.{or_block}
 use Rattle.definitions.specs.Arithmetic.{Meaning, Is, Raises}
 use Rattle.definitions.specs.Scanning.{word_of}
 use Rattle.definitions.specs.Statement.{Equals}
-use Rattle.definitions.specs.Truth.{Truth, False, Unknown, True, compared, compared_with_any, is_true, or, unless}
-use Rattle.definitions.specs.Value.{Value, Null, Number, Text}
+use Rattle.definitions.specs.Truth.{Truth, False, Unknown, True, agrees, compared, compared_with_any, is_true, known_or_unknown, or, unless}
+use Rattle.definitions.specs.Value.{Value, Null, Number, Text, compare}
 use Rattle.definitions.specs.Queries.BoundBlock.{Condition, InList, ValueExpr}
 use Rattle.definitions.specs.Queries.Combinations.{is_surely_true}
 use Rattle.definitions.specs.Queries.Conjuncts.{member_values, values_of}
 use Rattle.definitions.specs.Queries.Evaluation.{Combination, Environment, in_order, member, on_one, on_two, value}
 use Rattle.query_tree.specs.Bound.{member_of, value_of as tree_of}
 use Rattle.query_tree.specs.declared.value.ValueExpr as code
-use Rattle.columns.proofs.WordFlags.{word_of-none_mapped}
-use Rattle.conjuncts.proofs.Naming.{or_assoc}
+use Rattle.columns.proofs.WordFlags.{word_of-and, word_of-none_mapped, word_of-ones_mapped}
 use Rattle.sqlvalue.specs.Meaning.{op_of}
 use Rattle.definitions_execution.specs.Lists.{In}
 use Rattle.definitions_execution.specs.Stored.{Composite}
 use Rattle.definitions_execution.specs.TypedCombinations.{HasValue}
-use Rattle.scans.specs.Comparisons.{IsListed, IsSide}
+use Rattle.scans.specs.Comparisons.{member_op, IsListed, IsSide}
 use Rattle.scans.specs.JoinFilters.{met_with, true_with, CanCome, IsEarly}
 use Rattle.scans.specs.Sources.{BlockSource, environment_at}
 use Rattle.scans.specs.Truths.{is_true_on}
-use Rattle.scans.specs.Words.{word_by}
+use Rattle.scans.specs.Words.{together, word_by, words_together}
 use Rattle.scans.specs.declared.comparison.Comparison.{Comparison}
+use Rattle.scans.specs.declared.member_list.MemberList.{MemberList}
 use Rattle.scans.proofs.Coming.{all_there, word_alike}
 use Rattle.scans.proofs.Comparing.{side_met}
 
--- ---- the `|` of two words
+-- ---- two words together
 
 bit_below : (f : Bool) → cond f 1 0 < 2 ^ 1
 bit_below true = omega arith
@@ -53,72 +55,119 @@ word_of-or : {X : Type 0} (p q : X → Bool) (xs : List X) → bit_or (word_of (
 word_of-or p q [] = refl
 word_of-or p q (x ∷ xs) = or_flags (p x) (q x) (word_of (map p xs)) (word_of (map q xs)) ∙ ap (λ n. cond (p x || q x) 1 0 + 2 * n) (word_of-or p q xs)
 
-no_row : (p : ℕ → Bool) (first count : ℕ) → ((row : ℕ) → p row ≡ false) → word_by p first count ≡ 0
-no_row p first count none = word_alike p (λ _. false) first count none ∙ word_of-none_mapped (range_with_len first count)
+words_met : {X : Type 0} (negated : Bool) (p q : X → Bool) (xs : List X) → words_together negated (word_of (map p xs)) (word_of (map q xs)) ≡ word_of (map (λ x. together negated (p x) (q x)) xs)
+words_met true p q xs = word_of-and p q xs
+words_met false p q xs = word_of-or p q xs
 
--- ---- a value that is equal to one of some values
+pub all_rows_met : (first count : ℕ) → 2 ^ count - 1 ≡ word_by (λ row. true) first count
+all_rows_met first count = ap (λ n. 2 ^ n - 1) (sym (length-range_with_len first count)) ∙ sym (word_of-ones_mapped (range_with_len first count))
+
+pub no_row_met : (first count : ℕ) → 0 ≡ word_by (λ row. false) first count
+no_row_met first count = sym (word_of-none_mapped (range_with_len first count))
+
+together_assoc : (negated a b c : Bool) → together negated (together negated a b) c ≡ together negated a (together negated b c)
+together_assoc true true b c = refl
+together_assoc true false b c = refl
+together_assoc false true b c = refl
+together_assoc false false b c = refl
+
+neither_met : (negated : Bool) → false ≡ together negated false false
+neither_met true = refl
+neither_met false = refl
+
+before_all : (negated b : Bool) → together negated negated b ≡ b
+before_all true b = refl
+before_all false b = refl
+
+behind_all : (negated b : Bool) → together negated b negated ≡ b
+behind_all true true = refl
+behind_all true false = refl
+behind_all false true = refl
+behind_all false false = refl
+
+-- ---- a value that is equal to one of some values, or to none
 
 abbrev joined : Meaning Value → Meaning (List Value) → Meaning (List Value)
 joined = on_two ◌∷◌
 
-abbrev is_any : Meaning Value → Meaning (List Value) → Bool
-is_any m ms = is_surely_true (on_one (unless false) (on_two (compared_with_any Equals) m ms))
+abbrev is_met_by : Bool → Meaning Value → Meaning (List Value) → Bool
+is_met_by negated m ms = is_surely_true (on_one (unless negated) (on_two (compared_with_any Equals) m ms))
 
-one_or_others : (t u : Truth) → is_true (or t u) ≡ (is_true (or t False) || is_true u)
-one_or_others True u = refl
-one_or_others Unknown False = refl
-one_or_others Unknown Unknown = refl
-one_or_others Unknown True = refl
-one_or_others False u = refl
+one_and_others : (negated : Bool) (t u : Truth) → is_true (unless negated (or t u)) ≡ together negated (is_true (unless negated (or t False))) (is_true (unless negated u))
+one_and_others true True u = refl
+one_and_others true Unknown False = refl
+one_and_others true Unknown Unknown = refl
+one_and_others true Unknown True = refl
+one_and_others true False u = refl
+one_and_others false True u = refl
+one_and_others false Unknown False = refl
+one_and_others false Unknown Unknown = refl
+one_and_others false Unknown True = refl
+one_and_others false False u = refl
 
-any_next : (m x : Meaning Value) (xs : Meaning (List Value)) (v : Value) (vs : List Value) → x ≡ Is v → xs ≡ Is vs → is_any m (joined x xs) ≡ (is_any m (joined x (Is [])) || is_any m xs)
-any_next m x xs v vs first others =
-    ap₂ (λ (y : Meaning Value) (ys : Meaning (List Value)). is_any m (joined y ys)) first others
+value_next : (negated : Bool) (m x : Meaning Value) (xs : Meaning (List Value)) (v : Value) (vs : List Value) → x ≡ Is v → xs ≡ Is vs → is_met_by negated m (joined x xs) ≡ together negated (is_met_by negated m (joined x (Is []))) (is_met_by negated m xs)
+value_next negated m x xs v vs first others =
+    ap₂ (λ (y : Meaning Value) (ys : Meaning (List Value)). is_met_by negated m (joined y ys)) first others
     ∙ of_own m
-    ∙ ap₂ (λ (y : Meaning Value) (ys : Meaning (List Value)). is_any m (joined y (Is [])) || is_any m ys) (sym first) (sym others)
+    ∙ ap₂ (λ (y : Meaning Value) (ys : Meaning (List Value)). together negated (is_met_by negated m (joined y (Is []))) (is_met_by negated m ys)) (sym first) (sym others)
   where
-    of_own : (m : Meaning Value) → is_any m (Is (v ∷ vs)) ≡ (is_any m (Is (v ∷ [])) || is_any m (Is vs))
-    of_own (Is u) = one_or_others (compared Equals u v) (compared_with_any Equals u vs)
-    of_own (Raises r rs) = refl
+    of_own : (m : Meaning Value) → is_met_by negated m (Is (v ∷ vs)) ≡ together negated (is_met_by negated m (Is (v ∷ []))) (is_met_by negated m (Is vs))
+    of_own (Is u) = one_and_others negated (compared Equals u v) (compared_with_any Equals u vs)
+    of_own (Raises r rs) = neither_met negated
 
 members_there : (env : Environment) (members : List (Option ValueExpr)) → AllByRecursion (HasValue env) (member_values members) → (vs : List Value) × (in_order (map (member env) members) ≡ Is vs)
 members_there env [] h = ([], refl)
 members_there env (None ∷ members) h = let g = members_there env members h in (Null ∷ g.0, ap (joined (Is Null)) g.1)
 members_there env (Some e ∷ members) h = let g = members_there env members h.1 in (h.0.0 ∷ g.0, ap₂ joined h.0.1 g.1)
 
-next_listed : (env : Environment) (own : ValueExpr) (x : Option ValueExpr) (members : List (Option ValueExpr)) → AllByRecursion (HasValue env) (member_values (x ∷ members))
-    → is_true_on env (InList false own (x ∷ members)) ≡ (is_true_on env (InList false own (x ∷ [])) || is_true_on env (InList false own members))
-next_listed env own None members h = let g = members_there env members h in any_next (value env own) (Is Null) (in_order (map (member env) members)) Null g.0 refl g.1
-next_listed env own (Some e) members h = let g = members_there env members h.1 in any_next (value env own) (value env e) (in_order (map (member env) members)) h.0.0 g.0 h.0.1 g.1
+module _ (negated : Bool) (env : Environment) (own : ValueExpr) where
+  abbrev is_true_of : List (Option ValueExpr) → Bool
+  is_true_of members = is_true_on env (InList negated own members)
 
-none_listed : (env : Environment) (own : ValueExpr) → is_true_on env (InList false own []) ≡ false
-none_listed env own = of_own (value env own)
-  where
-    of_own : (m : Meaning Value) → is_any m (Is []) ≡ false
-    of_own (Is v) = refl
-    of_own (Raises r rs) = refl
+  next_listed : (x : Option ValueExpr) (members : List (Option ValueExpr)) → AllByRecursion (HasValue env) (member_values (x ∷ members)) → is_true_of (x ∷ members) ≡ together negated (is_true_of (x ∷ [])) (is_true_of members)
+  next_listed None members h = let g = members_there env members h in value_next negated (value env own) (Is Null) (in_order (map (member env) members)) Null g.0 refl g.1
+  next_listed (Some e) members h = let g = members_there env members h.1 in value_next negated (value env own) (value env e) (in_order (map (member env) members)) h.0.0 g.0 h.0.1 g.1
 
-null_listed : (env : Environment) (own : ValueExpr) → is_true_on env (InList false own (None ∷ [])) ≡ false
-null_listed env own = of_own (value env own)
-  where
-    of_own : (m : Meaning Value) → is_any m (joined (Is Null) (Is [])) ≡ false
-    of_own (Is Null) = refl
-    of_own (Is (Number units scale)) = refl
-    of_own (Is (Text codes)) = refl
-    of_own (Raises r rs) = refl
+  none_listed : HasValue env own → is_true_of [] ≡ negated
+  none_listed h = ap (λ m. is_met_by negated m (Is [])) h.1 ∙ of_none negated
+    where
+      of_none : (negated : Bool) → is_true (unless negated False) ≡ negated
+      of_none true = refl
+      of_none false = refl
 
-one_listed : (env : Environment) (own other : ValueExpr) → is_true_on env (InList false own (Some other ∷ [])) ≡ is_surely_true (on_two (compared Equals) (value env own) (value env other))
-one_listed env own other = of_both (value env own) (value env other)
-  where
-    alone : (t : Truth) → is_true (or t False) ≡ is_true t
-    alone False = refl
-    alone Unknown = refl
-    alone True = refl
+  null_listed : is_true_of (None ∷ []) ≡ false
+  null_listed = of_own (value env own)
+    where
+      null_unknown : (u : Value) → compared Equals u Null ≡ Unknown
+      null_unknown Null = refl
+      null_unknown (Number units scale) = refl
+      null_unknown (Text codes) = refl
 
-    of_both : (m n : Meaning Value) → is_any m (joined n (Is [])) ≡ is_surely_true (on_two (compared Equals) m n)
-    of_both (Is u) (Is v) = alone (compared Equals u v)
-    of_both (Is u) (Raises r rs) = refl
-    of_both (Raises r rs) n = refl
+      unmet : (negated : Bool) → is_true (unless negated Unknown) ≡ false
+      unmet true = refl
+      unmet false = refl
+
+      of_own : (m : Meaning Value) → is_met_by negated m (joined (Is Null) (Is [])) ≡ false
+      of_own (Is u) = ap (λ t. is_true (unless negated (or t False))) (null_unknown u) ∙ unmet negated
+      of_own (Raises r rs) = refl
+
+  one_listed : (other : ValueExpr) → is_true_of (Some other ∷ []) ≡ is_surely_true (on_two (compared (member_op negated)) (value env own) (value env other))
+  one_listed other = of_both (value env own) (value env other)
+    where
+      alone : (negated : Bool) (o : Option Ordering) → is_true (unless negated (or (known_or_unknown (option_map (agrees Equals) o)) False)) ≡ is_true (known_or_unknown (option_map (agrees (member_op negated)) o))
+      alone true None = refl
+      alone true (Some Less) = refl
+      alone true (Some Equal) = refl
+      alone true (Some Greater) = refl
+      alone false None = refl
+      alone false (Some Less) = refl
+      alone false (Some Equal) = refl
+      alone false (Some Greater) = refl
+
+      of_both : (m n : Meaning Value) → is_met_by negated m (joined n (Is [])) ≡ is_surely_true (on_two (compared (member_op negated)) m n)
+      of_both (Is u) (Is v) = alone negated (compare u v)
+      of_both (Is u) (Raises r rs) = refl
+      of_both (Raises r rs) n = refl
 
 -- ---- the values of a list's members
 
@@ -146,49 +195,67 @@ first_value : (P : ValueExpr → Type 0) (x : Option ValueExpr) (members : List 
 first_value P None members h = tt
 first_value P (Some e) members h = h.0
 
-pub member_held : (condition : Condition) (own : ValueExpr) (members : List (Option code.ValueExpr)) (i : ℕ) (x : Option code.ValueExpr) → condition ≡ InList false own (map member_of members) → i < length members → x ≡ get_or members i x
+pub member_held : (condition : Condition) (negated : Bool) (own : ValueExpr) (members : List (Option code.ValueExpr)) (i : ℕ) (x : Option code.ValueExpr) → condition ≡ InList negated own (map member_of members) → i < length members → x ≡ get_or members i x
     → IsListed condition (member_of x)
-member_held condition own members i x same h e =
+member_held condition negated own members i x same h e =
     let P : ValueExpr → Type 0 = λ other. In other (values_of condition) in
     let all : AllByRecursion P (own ∷ member_values (map member_of members)) = subst (λ c. AllByRecursion P (values_of c)) same (each_of P (values_of condition) (λ other j. j)) in
     first_value P (member_of x) (map member_of (drop (i + 1) members)) (next_values P members i x h e all.1)
 
--- ---- the rows on which a value is equal to a member
+-- ---- the rows that pass members
 
-module _ (source : BlockSource) (outer : List Combination) (from : Composite) (table : ℕ) (own : code.ValueExpr) where
+module _ (source : BlockSource) (outer : List Combination) (from : Composite) (table : ℕ) (list : MemberList) where
+  abbrev negated : Bool
+  negated = list.negated
+
+  abbrev own : ValueExpr
+  own = tree_of list.value.now
+
+  abbrev env_with : ℕ → Environment
+  env_with row = environment_at source outer (set from table row)
+
   abbrev listed : List (Option code.ValueExpr) → ℕ → Bool
-  listed members = true_with source outer from table (InList false (tree_of own) (map member_of members))
+  listed members = true_with source outer from table (InList negated own (map member_of members))
 
   pub null_met : (x : Option code.ValueExpr) (first count : ℕ) → x ≡ None → 0 ≡ word_by (listed (x ∷ [])) first count
   null_met x first count is =
-      sym (no_row (listed (x ∷ [])) first count (λ row. ap (λ (y : Option code.ValueExpr). listed (y ∷ []) row) is ∙ null_listed (environment_at source outer (set from table row)) (tree_of own)))
+      no_row_met first count
+      ∙ sym (word_alike (listed (x ∷ [])) (λ row. false) first count (λ row. ap (λ (y : Option code.ValueExpr). listed (y ∷ []) row) is ∙ null_listed negated (env_with row) own))
 
-  pub member_met : (x : Option code.ValueExpr) (other : code.ValueExpr) (c : Comparison) → x ≡ Some other → IsSide table (tree_of own) (tree_of other) c → op_of c.op ≡ Equals → (row : ℕ) → met_with source outer from table c row ≡ listed (x ∷ []) row
+  pub member_met : (x : Option code.ValueExpr) (other : code.ValueExpr) (c : Comparison) → x ≡ Some other → IsSide table own (tree_of other) c → op_of c.op ≡ member_op negated → (row : ℕ) → met_with source outer from table c row ≡ listed (x ∷ []) row
   member_met x other c is side same row =
-      let env = environment_at source outer (set from table row) in
-      sym (ap (λ (y : Option code.ValueExpr). listed (y ∷ []) row) is ∙ one_listed env (tree_of own) (tree_of other) ∙ side_met table (tree_of own) (tree_of other) c Equals env side same)
+      sym (ap (λ (y : Option code.ValueExpr). listed (y ∷ []) row) is ∙ one_listed negated (env_with row) own (tree_of other) ∙ side_met table own (tree_of other) c (member_op negated) (env_with row) side same)
 
-  pub none_left : (members : List (Option code.ValueExpr)) (i first count met whole : ℕ) → length members ≤ i → bit_or met (word_by (listed (drop i members)) first count) ≡ whole → met ≡ whole
-  none_left members i first count met whole past so_far =
-      let none : (row : ℕ) → listed (drop i members) row ≡ false = λ row. ap (λ (ms : List (Option code.ValueExpr)). listed ms row) (drop_all i members past) ∙ none_listed (environment_at source outer (set from table row)) (tree_of own) in
-      sym (or_zero_r met) ∙ ap (bit_or met) (sym (no_row (listed (drop i members)) first count none)) ∙ so_far
+  module _ (can : CanCome source outer table) (condition : Condition) (is : IsEarly source condition) (same : condition ≡ InList negated own (map member_of list.members.now)) where
+    there : (row : ℕ) → AllByRecursion (HasValue (env_with row)) (own ∷ member_values (map member_of list.members.now))
+    there row = subst (λ c. AllByRecursion (HasValue (env_with row)) (values_of c)) same (all_there source outer table can condition is (set from table row))
 
-  module _ (can : CanCome source outer table) (condition : Condition) (is : IsEarly source condition) (members : List (Option code.ValueExpr)) (same : condition ≡ InList false (tree_of own) (map member_of members)) where
-    there : (row : ℕ) → AllByRecursion (HasValue (environment_at source outer (set from table row))) (tree_of own ∷ member_values (map member_of members))
-    there row = subst (λ c. AllByRecursion (HasValue (environment_at source outer (set from table row))) (values_of c)) same (all_there source outer table can condition is (set from table row))
+    -- the rows that pass the members before one, and those that pass it and the ones behind it, together
+    abbrev pub IsMet : (met i first count : ℕ) → Type 0
+    IsMet met i first count =
+        (test : ℕ → Bool) × (met ≡ word_by test first count)
+        × ((row : ℕ) → together negated (test row) (listed (drop i list.members.now) row) ≡ true_with source outer from table condition row)
 
-    next_rows : (i : ℕ) (x : Option code.ValueExpr) → i < length members → x ≡ get_or members i x → (row : ℕ) → listed (drop i members) row ≡ (listed (x ∷ []) row || listed (drop (i + 1) members) row)
+    pub none_met : (met first count : ℕ) → met ≡ word_by (λ row. negated) first count → IsMet met 0 first count
+    none_met met first count word =
+        (λ row. negated, word, λ row. before_all negated (listed list.members.now row) ∙ ap (λ (c : Condition). true_with source outer from table c row) (sym same))
+
+    next_rows : (i : ℕ) (x : Option code.ValueExpr) → i < length list.members.now → x ≡ get_or list.members.now i x → (row : ℕ) → listed (drop i list.members.now) row ≡ together negated (listed (x ∷ []) row) (listed (drop (i + 1) list.members.now) row)
     next_rows i x h e row =
-        let env = environment_at source outer (set from table row) in
-        ap (λ ms. is_true_on env (InList false (tree_of own) ms)) (next_member members i x h e)
-        ∙ next_listed env (tree_of own) (member_of x) (map member_of (drop (i + 1) members)) (next_values (HasValue env) members i x h e (there row).1)
+        ap (λ ms. is_true_on (env_with row) (InList negated own ms)) (next_member list.members.now i x h e)
+        ∙ next_listed negated (env_with row) own (member_of x) (map member_of (drop (i + 1) list.members.now)) (next_values (HasValue (env_with row)) list.members.now i x h e (there row).1)
 
-    pub member_added : (i : ℕ) (x : Option code.ValueExpr) (first count met word whole : ℕ) → i < length members → x ≡ get_or members i x → word ≡ word_by (listed (x ∷ [])) first count
-        → bit_or met (word_by (listed (drop i members)) first count) ≡ whole → bit_or (bit_or met word) (word_by (listed (drop (i + 1) members)) first count) ≡ whole
-    member_added i x first count met word whole h e is so_far =
+    pub one_more_met : (i : ℕ) (x : Option code.ValueExpr) (first count met word more : ℕ) → i < length list.members.now → x ≡ get_or list.members.now i x → word ≡ word_by (listed (x ∷ [])) first count → more ≡ words_together negated met word
+        → IsMet met i first count → IsMet more (i + 1) first count
+    one_more_met i x first count met word more h e is_word is_more (test, so_far, meant) =
         let one = listed (x ∷ []) in
-        let others = listed (drop (i + 1) members) in
-        let both = ap (λ w. bit_or w (word_by others first count)) is ∙ word_of-or one others (range_with_len first count) in
-        or_assoc met word (word_by others first count)
-        ∙ ap (bit_or met) (both ∙ sym (word_alike (listed (drop i members)) (λ row. one row || others row) first count (next_rows i x h e)))
-        ∙ so_far
+        let others = listed (drop (i + 1) list.members.now) in (
+          λ row. together negated (test row) (one row),
+          is_more ∙ ap₂ (words_together negated) so_far is_word ∙ words_met negated test one (range_with_len first count),
+          λ row. together_assoc negated (test row) (one row) (others row) ∙ ap (together negated (test row)) (sym (next_rows i x h e row)) ∙ meant row,
+        )
+
+    pub all_met : (met i first count : ℕ) → length list.members.now ≤ i → IsMet met i first count → met ≡ word_by (true_with source outer from table condition) first count
+    all_met met i first count past (test, so_far, meant) =
+        let behind : (row : ℕ) → listed (drop i list.members.now) row ≡ negated = λ row. ap (λ (ms : List (Option code.ValueExpr)). listed ms row) (drop_all i list.members.now past) ∙ none_listed negated (env_with row) own (there row).0 in
+        so_far ∙ word_alike test (true_with source outer from table condition) first count (λ row. sym (behind_all negated (test row)) ∙ ap (together negated (test row)) (sym (behind row)) ∙ meant row)

@@ -8,6 +8,7 @@ mod composite;
 mod join_filter;
 mod laws;
 mod looking;
+mod member_list;
 mod outer_rows;
 mod row_context;
 mod scan;
