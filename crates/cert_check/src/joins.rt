@@ -1,120 +1,151 @@
 //! The second rule: no join on top of a state leads to another for less than its bound.
 
-ghost use Rattle.std.specs.Prelude.{◌≡◌, ◌+◌, ◌<◌, ◌≤◌, ◌^◌, MatchOption};
-ghost use Rattle.std.specs.Bool.{Decides};
+ghost use Rattle.std.specs.Prelude.{◌<◌, ◌≤◌, ◌^◌, option_map};
 ghost use Rattle.definitions.specs.Limits.{most_from_tables};
-ghost use Rattle.definitions.specs.Plans.Certificate.{bound, IsCertificate};
-ghost use Rattle.definitions.specs.Plans.Cost.{limit, saturated};
-ghost use Rattle.definitions.specs.Plans.Checking.{Joins, RuleHolds, RuleFails};
+ghost use Rattle.definitions.specs.Plans.Certificate.{IsCertificate};
+ghost use Rattle.definitions.specs.Plans.Checking.{Joins};
 ghost use Rattle.plan_tree.specs.Sets.{set_of};
-ghost use Rattle.plan_tree.specs.Certificates.{certificate_of};
-ghost use Rattle.interesting_orders.specs.Merges.{GoesBy};
-ghost use Rattle.cert_check.specs.Checks.{JoinFails, JoinFailsBy, LoopLeadsBelow, MergeLeadsBelow};
+ghost use Rattle.plan_tree.specs.Certificates.{certificate_of, state_of};
+ghost use Rattle.cert_check.specs.Checks.{IsLoopOver, IsMergeWith, IsJoinWith, IsJoinFrom};
+ghost use Rattle.cert_check.specs.Compared.{IsCompared};
+ghost use Rattle.cert_check.specs.Comparisons.{comparison_of};
+ghost use Rattle.cert_check.specs.Handing.{HandsOut};
 ghost use Rattle.plan_space.specs.Planned.{space_in};
 
+use crate::comparison::{Comparison, PlanStep};
+use crate::listener::Listener;
 use crate::verdict::StateKey;
-use plan_space::{CostedMerge, Space};
+use plan_space::Space;
 use plan_tree::{Certificate, State, saturate};
 
-/// The first listed state from which a join leads below the bound of the state that it reaches.
-pub(crate) fn join_failing(space: &Space<'_>, certificate: &Certificate) -> Option<StateKey>
+/// Hands out the comparisons of the joins from listed states, each once, until the listener wants no more, and gives the one at which it
+/// stopped (own). It takes no memory.
+pub fn compare_joins<'a, L: Listener>(
+    space: &'a Space<'_>,
+    certificate: &Certificate,
+    listener: &mut L,
+) -> Option<Comparison<'a>>
     requires { IsCertificate (space_in space.now) (certificate_of certificate.now) }
-    ensures { MatchOption result (RuleHolds (space_in space.now) (certificate_of certificate.now) Joins)
-        (λ p. RuleFails (space_in space.now) (certificate_of certificate.now) Joins (set_of p.tables) p.order) }
+    ensures { HandsOut L.hears (IsCompared (space_in space.now) (certificate_of certificate.now) Joins) listener.old
+        (option_map comparison_of result) listener.new }
 {
     'states: for state in &certificate.states {
-        if join_fails_at(space, certificate, *state) {
-            return Some(StateKey {
-                tables: state.tables,
-                order: state.order,
-            });
+        if let Some(last) = compare_joins_from(space, certificate, *state, listener) {
+            return Some(last);
         }
     }
     None
 }
 
-/// Whether a join from a listed state leads below the bound of the state that it reaches.
-fn join_fails_at(space: &Space<'_>, certificate: &Certificate, state: State) -> bool
+/// Hands out those from a state.
+fn compare_joins_from<'a, L: Listener>(
+    space: &'a Space<'_>,
+    certificate: &Certificate,
+    from: State,
+    listener: &mut L,
+) -> Option<Comparison<'a>>
     requires form { IsCertificate (space_in space.now) (certificate_of certificate.now) }
-    requires set { set_of state.tables < 2 ^ (space_in space.now).table_count }
-    requires bound { state.cost ≡ bound (certificate_of certificate.now) (set_of state.tables) state.order }
-    requires small { state.cost ≤ limit }
-    ensures { Decides result (JoinFails (space_in space.now) (certificate_of certificate.now) (set_of state.tables)
-        state.order) }
+    requires set { set_of from.tables < 2 ^ (space_in space.now).table_count }
+    ensures { HandsOut L.hears (IsJoinFrom (space_in space.now) (certificate_of certificate.now) (state_of from))
+        listener.old (option_map comparison_of result) listener.new }
 {
     'tables: for table in 0..space.table_count() {
-        if join_fails_by(space, certificate, state, table) {
-            return true;
+        if let Some(last) = compare_joins_with(space, certificate, from, table, listener) {
+            return Some(last);
         }
     }
-    false
+    None
 }
 
-/// Whether a join with a table, from a listed state, does.
-fn join_fails_by(space: &Space<'_>, certificate: &Certificate, state: State, table: usize) -> bool
+/// Hands out those from a state with a table.
+fn compare_joins_with<'a, L: Listener>(
+    space: &'a Space<'_>,
+    certificate: &Certificate,
+    from: State,
+    table: usize,
+    listener: &mut L,
+) -> Option<Comparison<'a>>
     requires form { IsCertificate (space_in space.now) (certificate_of certificate.now) }
     requires few { (space_in space.now).table_count ≤ most_from_tables }
     requires table { table < (space_in space.now).table_count }
-    requires set { set_of state.tables < 2 ^ (space_in space.now).table_count }
-    requires bound { state.cost ≡ bound (certificate_of certificate.now) (set_of state.tables) state.order }
-    requires small { state.cost ≤ limit }
-    ensures { Decides result (JoinFailsBy (space_in space.now) (certificate_of certificate.now) (set_of state.tables)
-        state.order table) }
+    requires set { set_of from.tables < 2 ^ (space_in space.now).table_count }
+    ensures { HandsOut L.hears (IsJoinWith (space_in space.now) (certificate_of certificate.now) (state_of from) table)
+        listener.old (option_map comparison_of result) listener.new }
 {
-    if !space.can_join_next(state.tables, table) {
-        return false;
+    if !space.can_join_next(from.tables, table) {
+        return None;
     }
-    let next = state.tables.with(table);
-    let reach = certificate.bound(next, space.fold(next, state.order));
-    if loop_leads_below(space, state, table, reach) {
-        return true;
+    let tables = from.tables.with(table);
+    let order = space.fold(tables, from.order);
+    let to = StateKey { tables, order };
+    let bound = certificate.bound(tables, order);
+    if let Some(last) = compare_loops(space, from, table, to, bound, listener) {
+        return Some(last);
     }
-    merge_leads_below(space, state, table, reach)
+    compare_merges(space, from, table, to, bound, listener)
 }
 
-/// Whether a loop over a table leads from a state below a bound.
-fn loop_leads_below(space: &Space<'_>, state: State, table: usize, reach: u64) -> bool
-    requires table { table < (space_in space.now).table_count }
-    requires set { set_of state.tables < 2 ^ (space_in space.now).table_count }
-    ensures { Decides result (LoopLeadsBelow (space_in space.now) (set_of state.tables) table state.cost reach) }
-{
-    let cardinality = u128::from(space.cardinality(state.tables));
-    'paths: for item in space.paths(state.tables, table) {
-        let added = saturate(cardinality * u128::from(item.cost));
-        if saturate(u128::from(state.cost) + u128::from(added)) < reach {
-            return true;
-        }
-    }
-    false
-}
-
-/// Whether a merge with a table does.
-fn merge_leads_below(space: &Space<'_>, state: State, table: usize, reach: u64) -> bool
-    requires table { table < (space_in space.now).table_count }
-    requires set { set_of state.tables < 2 ^ (space_in space.now).table_count }
-    ensures { Decides result (MergeLeadsBelow (space_in space.now) (set_of state.tables) state.order table state.cost
-        reach) }
-{
-    'merges: for item in space.merges(state.tables, table) {
-        if merge_is_below(space, state, table, item, reach) {
-            return true;
-        }
-    }
-    false
-}
-
-/// Whether one merge does: the state's order goes by it, and it costs less.
-fn merge_is_below(
-    space: &Space<'_>,
-    state: State,
+/// Hands out the loops over a table, which lead from a state to another of a bound.
+fn compare_loops<'a, L: Listener>(
+    space: &'a Space<'_>,
+    from: State,
     table: usize,
-    item: CostedMerge<'_>,
-    reach: u64,
-) -> bool
-    requires set { set_of state.tables < 2 ^ (space_in space.now).table_count }
-    ensures { Decides result (GoesBy (space_in space.now) (set_of state.tables) state.order item.entry.conjunct table
-        × (saturated (state.cost + item.entry.cost) < reach)) }
+    to: StateKey,
+    bound: u64,
+    listener: &mut L,
+) -> Option<Comparison<'a>>
+    requires table { table < (space_in space.now).table_count }
+    requires set { set_of from.tables < 2 ^ (space_in space.now).table_count }
+    ensures { HandsOut L.hears (IsLoopOver (space_in space.now) (state_of from) table (set_of to.tables) to.order bound)
+        listener.old (option_map comparison_of result) listener.new }
 {
-    space.goes_by(state.tables, state.order, item.conjunct, table)
-        && saturate(u128::from(state.cost) + u128::from(item.cost)) < reach
+    'loops: for item in space.loops(from.tables, table) {
+        let comparison = Comparison {
+            step: PlanStep::Loop(item.path),
+            from: Some(from),
+            to,
+            cost: saturate(u128::from(from.cost) + u128::from(item.cost)),
+            bound,
+        };
+        if !listener.hear(&comparison) {
+            return Some(comparison);
+        }
+    }
+    None
+}
+
+/// Hands out the merges with a table that the state's order allows.
+fn compare_merges<'a, L: Listener>(
+    space: &'a Space<'_>,
+    from: State,
+    table: usize,
+    to: StateKey,
+    bound: u64,
+    listener: &mut L,
+) -> Option<Comparison<'a>>
+    requires table { table < (space_in space.now).table_count }
+    requires set { set_of from.tables < 2 ^ (space_in space.now).table_count }
+    ensures { HandsOut L.hears (IsMergeWith (space_in space.now) (state_of from) table (set_of to.tables) to.order bound)
+        listener.old (option_map comparison_of result) listener.new }
+{
+    'merges: for item in space.merges(from.tables, table) {
+        if !space.goes_by(from.tables, from.order, item.conjunct, table) {
+            continue;
+        }
+        let comparison = Comparison {
+            step: PlanStep::Merge {
+                conjunct: item.conjunct,
+                path: item.path,
+                sorted: item.sorted,
+            },
+            from: Some(from),
+            to,
+            cost: saturate(u128::from(from.cost) + u128::from(item.cost)),
+            bound,
+        };
+        if !listener.hear(&comparison) {
+            return Some(comparison);
+        }
+    }
+    None
 }

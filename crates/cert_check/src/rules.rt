@@ -11,9 +11,7 @@ ghost use Rattle.plan_tree.specs.Certificates.{certificate_of};
 ghost use Rattle.cert_check.specs.Verdicts.{verdict_of};
 ghost use Rattle.plan_space.specs.Planned.{space_in};
 
-use crate::accesses::access_failing;
-use crate::joins::join_failing;
-use crate::sorts::sort_failing;
+use crate::failing::first_below;
 use crate::target::{final_order, is_met};
 use crate::verdict::{Rule, StateKey, Verdict};
 use plan_space::Space;
@@ -44,22 +42,10 @@ fn check_rules(space: &Space<'_>, certificate: &Certificate, met: bool) -> Verdi
     ensures { (plan : plan.Plan) → Decides met (IsMet (space_in space.now) (certificate_of certificate.now) plan) →
         IsVerdict (space_in space.now) (certificate_of certificate.now) plan (verdict_of result) }
 {
-    if let Some(place) = access_failing(space, certificate) {
+    if let Some(failing) = first_below(space, certificate) {
         return Verdict::Refused {
-            rule: Rule::Accesses,
-            place,
-        };
-    }
-    if let Some(place) = join_failing(space, certificate) {
-        return Verdict::Refused {
-            rule: Rule::Joins,
-            place,
-        };
-    }
-    if let Some(place) = sort_failing(space, certificate) {
-        return Verdict::Refused {
-            rule: Rule::Sorts,
-            place,
+            rule: failing.rule(),
+            place: failing.place(),
         };
     }
     let tables = TableSet::first(space.table_count());

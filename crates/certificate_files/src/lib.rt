@@ -6,7 +6,7 @@ mod cutting;
 mod lines;
 mod telling;
 
-pub use cert_check::{Rule, StateKey};
+pub use cert_check::{Comparison, PlanStep, Rule, StateKey, first_below};
 pub use certificate::{BadState, Expected, Missing, TextFault, Word};
 pub use checking::{BlockTold, FileEnded, FileTold, check_file};
 pub use interesting_orders::Version;

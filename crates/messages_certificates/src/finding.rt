@@ -9,11 +9,12 @@ ghost use Rattle.plan_space.specs.Planned.{space_in};
 use crate::lacking::{missing_found, state_found};
 use crate::places::{Spot, offset_of};
 use crate::reason::{Ending, Reason};
-use crate::steps::{access_below, join_below, sort_below, state_at};
+use crate::steps::{low_step, state_at};
 use crate::target::target_missed;
 use catalog::Database;
 use certificate::{BlockSpace, Spelled, Version, read_text};
-use certificate_files::{Expected, FileTold, Rule, StateKey, TextFault, Told};
+use certificate_files::{Expected, FileTold, Rule, StateKey, TextFault, Told, first_below};
+use plan_tree::Certificate;
 use query_tree::Block;
 use std::alloc::{AllocError, Global};
 
@@ -171,20 +172,26 @@ fn rule_failing(
 ) -> Option<Found>
     requires { IsCertificate (space_in own.now.space) (certificate_of spelled.now.certificate) }
 {
-    let certificate = &spelled.certificate;
+    match rule {
+        Rule::Target => Some(target_missed(own, spelled, text, place)),
+        Rule::Accesses | Rule::Joins | Rule::Sorts => {
+            step_failing(own, &spelled.certificate, text)
+        }
+    }
+}
+
+/// The step that the check of a certificate fails by.
+fn step_failing(own: &BlockSpace<'_>, certificate: &Certificate, text: &[u8]) -> Option<Found>
+    requires { IsCertificate (space_in own.now.space) (certificate_of certificate.now) }
+{
+    let failing = first_below(&own.space, certificate)?;
     // the bound of a state that isn't listed is the target
-    let (listed, spot) = match state_at(certificate, place) {
-        Some(number) => (certificate.states.get(number), Spot::StateTables(number)),
-        None => (None, Spot::Target),
-    };
-    let step = match rule {
-        Rule::Accesses => access_below(own, certificate, place)?,
-        Rule::Joins => join_below(own, certificate, *listed?)?,
-        Rule::Sorts => sort_below(own, certificate, *listed?)?,
-        Rule::Target => return Some(target_missed(own, spelled, text, place)),
+    let spot = match state_at(certificate, failing.place()) {
+        Some(number) => Spot::StateTables(number),
+        None => Spot::Target,
     };
     Some(Found {
         at: offset_of(text, spot),
-        reason: Reason::Step(step),
+        reason: Reason::Step(low_step(own, &failing, certificate.target)?),
     })
 }

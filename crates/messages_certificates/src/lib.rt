@@ -1,5 +1,6 @@
 //! What people are told of texts of certificates that are refused, beside their printed lines: where in the file each is refused, and
-//! why. It finds the step and the numbers by which a rule fails anew; no printed line depends on the words.
+//! why. The step and the numbers by which a rule fails are those of the check itself, which is asked once more; no printed line depends
+//! on the words.
 #![tactic(auto)]
 
 mod finding;

@@ -1,7 +1,8 @@
 -- The open paths with their orders and costs.
-use Rattle.std.proofs.Common.{◌≡◌, ◌∙◌, refl, sym, ap, subst, ℕ, ◌<◌, ◌≤◌, List, [], ◌∷◌, Bool, true, false, cond, length, map, arith, lit≤}
-use Rattle.std.specs.Prelude.{Contains, filter}
+use Rattle.std.proofs.Common.{◌≡◌, ◌≢◌, ◌∙◌, refl, sym, ap, subst, ℕ, ◌<◌, ◌≤◌, List, [], ◌∷◌, Bool, true, false, cond, length, get_or, map, arith, lit≤}
+use Rattle.std.specs.Prelude.{AllPairs, Contains, filter}
 use Rattle.std.specs.List.{AllByRecursion}
+use Rattle.std.proofs.lemmas.List.{get_or-map, length-map}
 use Rattle.definitions.specs.Table.{Database}
 use Rattle.definitions.specs.Plans.TableSet.{TableSet}
 use Rattle.definitions.specs.Plans.Path as p
@@ -20,6 +21,14 @@ use Rattle.access_paths.specs.Found.{FoundPath, is_open, CostsAsPath, Reads}
 use Rattle.access_paths.specs.Scans.{ScanCost, OneRow, Pages, cost_with}
 use Rattle.plan_space.specs.Item.{Item, with_rows, open_items, IsItem, AreItems}
 use Rattle.plan_space.specs.PathListed.{AreListed}
+use Rattle.plan_space.proofs.PathsOnce.{paths_once}
+
+-- elements differ where their images do
+differ : {X Y : Type 0} (f : X → Y) (xs : List X) → AllPairs (λ (a b : Y). a ≢ b) (map f xs) → AllPairs (λ (a b : X). f a ≢ f b) xs
+differ f xs all i j d lt within same =
+    let at_i : get_or (map f xs) i (f d) ≡ f (get_or xs i d) = get_or-map f xs i d (f d) (omega (arith, lt, within)) in
+    let at_j : get_or (map f xs) j (f d) ≡ f (get_or xs j d) = get_or-map f xs j d (f d) within in
+    all i j (f d) lt (subst (λ n. j < n) (sym (length-map xs f)) within) (at_i ∙ same ∙ sym at_j)
 
 cost_small : (c : ScanCost) (rows : ℕ) → cost_with c rows ≤ limit
 cost_small OneRow rows = lit≤ tt
@@ -85,4 +94,6 @@ are_items version db block table known rows xs listed is_rows within = record {
   paths = same_paths version db block table known rows xs ∙ listed.paths known;
   each = items version db block table known rows is_rows (λ path there. (path_order_numbered version db block known table path within there).0) xs
       (λ path there. subst (λ (ys : List Path). Contains ys path) (listed.paths known) there) listed.costs listed.reads listed.orders;
+  distinct = differ (λ (item : Item). item.path) (open_items known rows xs)
+      (subst (λ (ys : List Path). AllPairs (λ (a b : Path). a ≢ b) ys) (sym (same_paths version db block table known rows xs ∙ listed.paths known)) (paths_once version db block known table));
 }

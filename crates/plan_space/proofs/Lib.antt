@@ -3,10 +3,10 @@ mod Linking
 mod Linked
 mod Following
 pub mod Listing
-mod Items
 pub mod Sides
 mod Ways
 mod PathsOnce
+mod Items
 mod Adding
 mod Walking
 mod Opening
@@ -14,5 +14,6 @@ pub mod Deciding
 pub mod Lists
 pub mod PathItems
 pub mod Merging
+mod Looping
 mod Facts
 mod Plans

@@ -15,10 +15,11 @@ use Rattle.definitions.proofs.PlanTheory.Elements.{first_is, first_or_rest, not_
 use Rattle.plan_tree.specs.Sets.{set_of}
 use Rattle.interesting_orders.specs.Merges.{GoesBy}
 use Rattle.plan_space.specs.Item.{Item, IsItem, AreItems}
+use Rattle.plan_space.specs.Loop.{LoopItem, IsLoopItem, AreLoops}
 use Rattle.plan_space.specs.Merge as m
 use Rattle.plan_space.specs.Merge.{IsMerge, IsMergeItem, AreMerges}
 use Rattle.plan_space.proofs.Sides.{same_sides}
-use Rattle.plan_space.specs.Measures.{IsMeasured, IsPathFound, IsMergeFound}
+use Rattle.plan_space.specs.Measures.{IsMeasured, IsPathFound, IsLoopFound, IsMergeFound}
 use Rattle.plan_space.specs.declared.plan_summary.PlanSummary.{PlanSummary}
 
 -- ---- a path among items
@@ -56,6 +57,35 @@ module _ (space : Space) (known : TableSet) (path : Path) where
 
   pub nowhere : IsLeft [] → IsPathFound space known path None
   nowhere left = λ lt is. not_in_empty path (left.there is)
+
+-- ---- a loop among items
+
+module _ (space : Space) (tables : TableSet) (path : Path) where
+  abbrev wanted_loop : LoopItem
+  wanted_loop = record { path = path; cost = loop_cost space tables path }
+
+  pub record IsLeftLoop (rest : List LoopItem) : Type 0 where
+    pub each : AllByRecursion (IsLoopItem space tables (table_of path)) rest
+    pub there : IsPath space tables path → Contains rest wanted_loop
+
+  pub all_loops_left : (items : List LoopItem) → AreLoops space tables (table_of path) items → IsLeftLoop items
+  all_loops_left items are = record { each = are.each; there = λ is. are.all path refl is }
+
+  pub one_loop_passed : (item : LoopItem) (rest : List LoopItem) → IsLeftLoop (item ∷ rest) → (item.path ≡ path → ⊥) → IsLeftLoop rest
+  one_loop_passed item rest left other = record {
+    each = left.each.1;
+    there = λ is. by_place (first_or_rest item rest wanted_loop (left.there is));
+  }
+    where
+      by_place : (item ≡ wanted_loop) ⊎ Contains rest wanted_loop → Contains rest wanted_loop
+      by_place (inl e) = absurd (other (ap (λ (x : LoopItem). x.path) e))
+      by_place (inr r) = r
+
+  pub loop_here : (item : LoopItem) (rest : List LoopItem) → IsLeftLoop (item ∷ rest) → item.path ≡ path → IsLoopFound space tables path (Some item)
+  loop_here item rest left is = (is, left.each.0)
+
+  pub loop_nowhere : IsLeftLoop [] → IsLoopFound space tables path None
+  loop_nowhere left = λ is. not_in_empty wanted_loop (left.there is)
 
 -- ---- a merge among items
 
@@ -109,23 +139,26 @@ module _ (space : Space) where
     pub not_following : (path : Path) → (MayFollow space (set_of outer.tables) (table_of path) → ⊥) → IsPlan space (Loop plan path) → ⊥
     not_following path never (loop p a is' can) = never (subst (λ s. MayFollow space s (table_of path)) is.tables can.0)
 
-    pub no_path : (path : Path) → MayFollow space (set_of outer.tables) (table_of path) → IsPathFound space (set_of outer.tables) path None → IsPlan space (Loop plan path) → ⊥
-    no_path path follows none (loop p a is' can) = none follows.0 (subst (λ s. IsPath space s path) is.tables can.1)
+    pub no_loop : (path : Path) → IsLoopFound space (set_of outer.tables) path None → IsPlan space (Loop plan path) → ⊥
+    no_loop path none (loop p a is' can) = none (subst (λ s. IsPath space s path) is.tables can.1)
 
-    pub a_loop : (path : Path) (item : Item) (m : PlanSummary) → MayFollow space (set_of outer.tables) (table_of path) → IsPathFound space (set_of outer.tables) path (Some item)
+    pub a_loop : (path : Path) (item : LoopItem) (m : PlanSummary) → MayFollow space (set_of outer.tables) (table_of path) → IsLoopFound space (set_of outer.tables) path (Some item)
         → set_of m.tables ≡ with_table (set_of outer.tables) (table_of path) → m.order ≡ outer.order
-        → m.cost ≡ saturated (outer.cost + saturated (space.cardinality (set_of outer.tables) * item.cost)) → with_table (set_of outer.tables) (table_of path) < 2 ^ space.table_count
+        → m.cost ≡ saturated (outer.cost + item.cost) → with_table (set_of outer.tables) (table_of path) < 2 ^ space.table_count
         → IsMeasured space (Loop plan path) m
     a_loop path item m follows found tables order cost inside = record {
-      is_plan = loop plan path is.is_plan (subst (λ s. MayFollow space s (table_of path)) (sym is.tables) follows, subst (λ s. IsPath space s path) (sym is.tables) found.1);
+      is_plan = loop plan path is.is_plan (subst (λ s. MayFollow space s (table_of path)) (sym is.tables) follows, subst (λ s. IsPath space s path) (sym is.tables) there);
       tables = ap (λ s. with_table s (table_of path)) is.tables ∙ sym tables;
       order = is.order ∙ sym order;
-      cost = ap₂ (λ a b. saturated (a + b)) is.cost (ap (λ s. loop_cost space s path) is.tables ∙ ap (λ n. saturated (space.cardinality (set_of outer.tables) * n)) step) ∙ sym cost;
+      cost = ap₂ (λ a b. saturated (a + b)) is.cost (ap (λ s. loop_cost space s path) is.tables ∙ sym step) ∙ sym cost;
       inside = subst (λ n. n < 2 ^ space.table_count) (sym tables) inside;
     }
       where
-        step : space.path_cost (set_of outer.tables) path ≡ item.cost
-        step = ap (space.path_cost (set_of outer.tables)) (sym found.0) ∙ sym found.2.cost
+        step : item.cost ≡ loop_cost space (set_of outer.tables) path
+        step = found.1.cost ∙ ap (loop_cost space (set_of outer.tables)) found.0
+
+        there : IsPath space (set_of outer.tables) path
+        there = subst (IsPath space (set_of outer.tables)) found.0 found.1.is_path
 
     pub not_following_merge : (number : ℕ) (inner : Inner) → (MayFollow space (set_of outer.tables) (table_of inner.path) → ⊥) → IsPlan space (Merge plan number inner) → ⊥
     not_following_merge number inner never (merge p n i is' can) = never (subst (λ s. MayFollow space s (table_of inner.path)) is.tables can.0)

@@ -1,5 +1,5 @@
 -- The paths of a table where the rows of a set of tables are known, with their orders and costs.
-use Rattle.std.specs.Prelude.{ℕ, ◌<◌, ◌≤◌, ◌≡◌, if◌then◌else◌, List, [], ◌∷◌, length, map}
+use Rattle.std.specs.Prelude.{ℕ, ◌<◌, ◌≤◌, ◌≡◌, ◌≢◌, if◌then◌else◌, List, [], ◌∷◌, AllPairs, length, map}
 use Rattle.std.specs.List.{AllByRecursion}
 use Rattle.definitions.specs.Plans.TableSet.{TableSet}
 use Rattle.definitions.specs.Plans.Path.{Path, table_of}
@@ -36,3 +36,5 @@ module _ (space : Space) (known : TableSet) (table : ℕ) where
   pub record AreItems (items : List Item) : Type 0 where
     pub paths : map (λ (item : Item). item.path) items ≡ space.paths known table
     pub each : AllByRecursion IsItem items
+    -- no two are of one path
+    pub distinct : AllPairs (λ (a b : Item). a.path ≢ b.path) items

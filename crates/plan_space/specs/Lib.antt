@@ -8,6 +8,8 @@ pub mod Item
 pub mod Items
 pub mod PathListed
 pub mod PathLists
+pub mod Loop
+pub mod Loops
 pub mod Merge
 pub mod Merges
 pub mod MergeListed
@@ -16,3 +18,4 @@ pub mod Planned
 pub mod Links
 pub mod Inside
 pub mod Measures
+pub mod BlockPlans

@@ -8,6 +8,7 @@ use Rattle.definitions.specs.Plans.PlanSpace.{IsPath, IsPlan, tables_of, order_o
 use Rattle.definitions.specs.Plans.Cost.{cost_of}
 use Rattle.plan_tree.specs.Sets.{set_of}
 use Rattle.plan_space.specs.Item.{Item, IsItem}
+use Rattle.plan_space.specs.Loop.{LoopItem, IsLoopItem}
 use Rattle.plan_space.specs.Merge.{Merge, IsMerge, IsMergeItem}
 use Rattle.plan_space.specs.declared.plan_summary.PlanSummary.{PlanSummary}
 
@@ -30,6 +31,11 @@ module _ (space : Space) where
   IsPathFound known path None = table_of path < space.table_count → IsPath space known path → ⊥
   IsPathFound known path (Some item) = (item.path ≡ path) × IsPath space known path
       × IsItem space known (table_of path) item
+
+  -- a loop on top of plans on some tables, or none
+  abbrev pub IsLoopFound : TableSet → Path → Option LoopItem → Type 0
+  IsLoopFound tables path None = IsPath space tables path → ⊥
+  IsLoopFound tables path (Some item) = (item.path ≡ path) × IsLoopItem space tables (table_of path) item
 
   -- a merge on top of plans on some tables, or none
   abbrev pub IsMergeFound : TableSet → ℕ → Inner → Option Merge → Type 0

@@ -2,8 +2,10 @@
 //! (Selinger et al. 1979, sections 4 and 5).
 #![tactic(auto)]
 
+mod block_plan;
 mod join_graph;
 mod listed;
+mod loop_joins;
 mod merge_joins;
 mod merge_lists;
 mod notes;
@@ -14,8 +16,10 @@ mod same;
 mod space;
 mod summarising;
 
+pub use block_plan::BlockPlan;
 pub use interesting_orders::{Sorts, Version};
 pub use join_graph::JoinGraph;
+pub use loop_joins::{CostedLoop, Loops};
 pub use merge_joins::{CostedMerge, Merges};
 pub use merge_lists::BlockMerges;
 pub use notes::{PlanNote, PlanNoteKind};

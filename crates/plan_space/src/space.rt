@@ -18,6 +18,7 @@ ghost use Rattle.interesting_orders.specs.Versions.{version_of};
 ghost use Rattle.interesting_orders.specs.Merges.{GoesBy};
 ghost use Rattle.interesting_orders.specs.Sorts.{AreSorts};
 ghost use Rattle.plan_space.specs.Item.{AreItems};
+ghost use Rattle.plan_space.specs.Loop.{AreLoops};
 ghost use Rattle.plan_space.specs.Merge.{AreMerges};
 ghost use Rattle.plan_space.specs.Planned.{space_in};
 ghost use Rattle.definitions.specs.Plans.Search.{IsComplete};
@@ -25,6 +26,7 @@ ghost use Rattle.plan_space.specs.Links.{LinksSay};
 ghost use Rattle.plan_space.specs.Measures.{Measures};
 
 use crate::join_graph::JoinGraph;
+use crate::loop_joins::Loops;
 use crate::merge_joins::Merges;
 use crate::merge_lists::BlockMerges;
 use crate::notes::{PlanNote, add_notes};
@@ -160,6 +162,16 @@ impl<'a> Space<'a> {
         ensures { AreItems (space_in self.now) (set_of known) table result }
     {
         self.paths.paths(&self.estimate, known, table)
+    }
+
+    /// The loops over a table on top of plans on a set of tables, each with what it adds to a plan's cost, at most 10^18 (Selinger et
+    /// al. 1979, section 5). It looks at each path of the table as it comes to it.
+    pub fn loops(&self, tables: TableSet, table: usize) -> Loops<'_>
+        requires set { set_of tables < 2 ^ (space_in self.now).table_count }
+        requires table { table < (space_in self.now).table_count }
+        ensures { AreLoops (space_in self.now) (set_of tables) table result }
+    {
+        Loops::new(self.paths(tables, table), self.cardinality(tables))
     }
 
     /// The merges that bring a table on top of plans on a set of tables. It looks at each merge of the table as it comes to it.

@@ -9,10 +9,12 @@ ghost use Rattle.definitions.specs.Plans.PlanSpace.{MayFollow};
 ghost use Rattle.plan_tree.specs.Plans.{path_of, inner_of, plan_of};
 ghost use Rattle.plan_tree.specs.Sets.{set_of};
 ghost use Rattle.plan_space.specs.Items.{item_of};
+ghost use Rattle.plan_space.specs.Loops.{loop_of};
 ghost use Rattle.plan_space.specs.Merges.{merge_of};
 ghost use Rattle.plan_space.specs.Planned.{space_in};
-ghost use Rattle.plan_space.specs.Measures.{IsMeasured, Measures, IsPathFound, IsMergeFound};
+ghost use Rattle.plan_space.specs.Measures.{IsMeasured, Measures, IsPathFound, IsLoopFound, IsMergeFound};
 
+use crate::loop_joins::CostedLoop;
 use crate::merge_joins::CostedMerge;
 use crate::paths::CostedPath;
 use crate::plan_summary::PlanSummary;
@@ -57,13 +59,11 @@ fn loop_summary(space: &Space, outer: PlanSummary, path: &Path) -> Option<PlanSu
     if !follows(space, outer.tables, path.table()) {
         return None;
     }
-    let item = find_path(space, outer.tables, path)?;
-    let rows = u128::from(space.cardinality(outer.tables));
-    let scans = saturate(rows * u128::from(item.cost));
+    let item = find_loop(space, outer.tables, path)?;
     Some(PlanSummary {
         tables: outer.tables.with(path.table()),
         order: outer.order,
-        cost: saturate(u128::from(outer.cost) + u128::from(scans)),
+        cost: saturate(u128::from(outer.cost) + u128::from(item.cost)),
     })
 }
 
@@ -130,6 +130,21 @@ fn find_path<'s>(space: &'s Space<'_>, known: TableSet, path: &Path) -> Option<C
     }
     let mut rest = space.paths(known, path.table());
     'paths: while let Some(item) = rest.next() {
+        if are_one(item.path, path) {
+            return Some(item);
+        }
+    }
+    None
+}
+
+/// A loop among those on top of plans on a set of tables.
+fn find_loop<'s>(space: &'s Space<'_>, tables: TableSet, path: &Path) -> Option<CostedLoop<'s>>
+    requires set { set_of tables < 2 ^ (space_in space.now).table_count }
+    requires table { table_of (path_of path.now) < (space_in space.now).table_count }
+    ensures { IsLoopFound (space_in space.now) (set_of tables) (path_of path.now) (option_map loop_of result) }
+{
+    let mut rest = space.loops(tables, path.table());
+    'loops: while let Some(item) = rest.next() {
         if are_one(item.path, path) {
             return Some(item);
         }

@@ -1,4 +1,4 @@
-use Rattle.std.proofs.Common.{◌≡◌, ◌∙◌, ◌+◌, ◌*◌, true, false, ap, ap₂, refl, sym, subst}
+use Rattle.std.proofs.Common.{◌≡◌, ◌∙◌, ◌+◌, true, false, ap, ap₂, refl, sym, subst}
 use Rattle.std.proofs.lemmas.Nat.{or_lt, pow_below}
 use Rattle.definitions.specs.Plans.Cost.{saturated}
 use Rattle.definitions.specs.Plans.Path.{table_of}
@@ -6,9 +6,9 @@ use Rattle.definitions.specs.Plans.PlanSpace.{MayFollow}
 use Rattle.definitions.specs.Plans.TableSet.{only, with_table}
 use Rattle.plan_tree.specs.Plans.{path_of}
 use Rattle.plan_tree.specs.Sets.{set_of}
-use Rattle.plan_space.specs.Items.{item_of}
+use Rattle.plan_space.specs.Loops.{loop_of}
 use Rattle.plan_space.specs.Planned.{space_in}
-use Rattle.plan_space.proofs.Plans.{not_following, no_path, a_loop}
+use Rattle.plan_space.proofs.Plans.{not_following, no_loop, a_loop}
 use Rattle.plan_space.proofs.summarising.loop_summary.Goals as goal
 
 pub returns-then-not-follows : goal.returns-then-not-follows
@@ -21,20 +21,15 @@ returns-then-not-follows c = λ plan is.
 pub returns-in_err-item : goal.returns-in_err-item
 returns-in_err-item c = λ plan is.
     let space = space_in c.args.space.now in
-    let tables = set_of c.args.outer.tables in
-    let follows = subst (MayFollow space tables) c.table.ensures (c.if-not-follows.ensures.exact.0 refl) in
-    rw c.from_residual.ensures (no_path space plan c.args.outer is (path_of c.args.path.now) follows c.in_err-item.ensures.exact)
+    rw c.from_residual.ensures (no_loop space plan c.args.outer is (path_of c.args.path.now) c.in_err-item.ensures)
 
 pub returns : goal.returns
 returns c = λ plan is.
     let space = space_in c.args.space.now in
     let tables = set_of c.args.outer.tables in
     let path = path_of c.args.path.now in
-    let item = item_of c.in_ok-item.item in
+    let item = loop_of c.in_ok-item.item in
     let follows : MayFollow space tables (table_of path) = subst (MayFollow space tables) c.table.ensures (c.if-not-follows.ensures.exact.0 refl) in
-    let scans : c.saturate-scans.result ≡ saturated (space.cardinality tables * item.cost) =
-    c.saturate-scans.ensures.exact ∙ ap₂ (λ a b. saturated (a * b)) (c.from-rows.ensures ∙ c.cardinality.ensures.exact) c.from.ensures in
-    let cost : c.saturate.result ≡ saturated (c.args.outer.cost + saturated (space.cardinality tables * item.cost)) =
-    c.saturate.ensures.exact ∙ ap₂ (λ a b. saturated (a + b)) c.from-2.ensures (c.from-3.ensures ∙ scans) in
-    a_loop space plan c.args.outer is path item _ follows c.in_ok-item.ensures.exact (c.with.ensures ∙ ap (with_table tables) c.table-2.ensures) refl cost
+    let cost : c.saturate.result ≡ saturated (c.args.outer.cost + item.cost) = c.saturate.ensures.exact ∙ ap₂ (λ a b. saturated (a + b)) c.from.ensures c.from-2.ensures in
+    a_loop space plan c.args.outer is path item _ follows c.in_ok-item.ensures (c.with.ensures ∙ ap (with_table tables) c.table-2.ensures) refl cost
     (or_lt space.table_count tables (only (table_of path)) c.requires (pow_below (table_of path) space.table_count follows.0))

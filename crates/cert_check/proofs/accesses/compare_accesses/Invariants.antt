@@ -1,0 +1,10 @@
+use Rattle.std.proofs.Common.{None}
+use Rattle.plan_space.specs.Planned.{space_in}
+use Rattle.plan_tree.specs.Certificates.{certificate_of}
+use Rattle.cert_check.specs.Checks.{IsAccessOf}
+use Rattle.cert_check.specs.Handing.{HandsOut}
+use Rattle.cert_check.proofs.Handing.{Before}
+use Rattle.cert_check.proofs.accesses.compare_accesses.Given as goal
+
+abbrev pub invariant-tables : goal.invariant-tables
+invariant-tables g l = HandsOut g.L.Listener.hears (Before (IsAccessOf (space_in l.space) (certificate_of l.certificate)) l.table) l.fn.listener None l.listener

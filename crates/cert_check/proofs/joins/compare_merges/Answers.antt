@@ -1,0 +1,67 @@
+use Rattle.std.proofs.Common.{◌≡◌, ◌∙◌, ◌+◌, sym}
+use Rattle.definitions.specs.Plans.Comparisons.{MergeStep}
+use Rattle.definitions.specs.Plans.Cost.{saturated}
+use Rattle.plan_space.proofs.Deciding.{holds, fails}
+use Rattle.plan_space.specs.Merge.{AreMerges}
+use Rattle.plan_space.specs.Merges.{merge_of}
+use Rattle.plan_space.specs.Planned.{space_in}
+use Rattle.plan_tree.specs.Certificates.{state_of}
+use Rattle.plan_tree.specs.Sets.{set_of}
+use Rattle.cert_check.specs.Checks.{IsMergeWith}
+use Rattle.cert_check.proofs.Comparing.{sum_is}
+use Rattle.cert_check.proofs.JoinRule.{MergeBy, step_for, same_step, merge_apart, merge_of_item, item_of_merge}
+use Rattle.cert_check.proofs.Handing.{begins, nothing, goes_on, stops, item_more, item_stops, ends}
+use Rattle.cert_check.proofs.joins.compare_merges.Goals as goal
+
+pub merges-init : goal.merges-init
+merges-init g c =
+    let space = space_in c.args.space.now in
+    rw c.into_iter-item-iterator.ensures.into_iter_gives (begins g.L.Listener.hears (MergeBy space (state_of c.args.from) c.args.table (set_of c.args.to.tables) c.args.to.order c.args.bound) (AreMerges space (set_of c.args.from.tables) c.args.table) _ _ c.merges-item-items.ensures)
+
+pub merges-preserved : goal.merges-preserved
+merges-preserved g c =
+    let space = space_in c.args.space.now in
+    let from = state_of c.args.from in
+    let table = c.args.table in
+    let reached = set_of c.args.to.tables in
+    let item = merge_of c.in-Some.item in
+    let x = step_for space from table reached c.args.to.order c.args.bound (MergeStep item.conjunct item.inner) c.saturate.result in
+    let cost : c.saturate.result ≡ saturated (from.cost + item.cost) = sum_is _ _ _ _ _ c.saturate.ensures.exact c.from.ensures c.from-in-merges.ensures in
+    let same = same_step space from table reached c.args.to.order c.args.bound (MergeStep item.conjunct item.inner) item.cost c.saturate.result cost in
+    let goes = holds _ c.if-not-goes_by.ensures in
+    item_more g.L.Listener.hears (MergeBy space from table reached c.args.to.order c.args.bound) (AreMerges space from.tables table) _ _ _ _ _ item c.in-Some.ensures.steps c.merges.invariant
+    (λ done are. merge_apart space from table reached c.args.to.order c.args.bound done _ item are) (goes_on g.L.Listener.hears (MergeBy space from table reached c.args.to.order c.args.bound item) _ _ x c.if-not-hear.ensures (goes, same) (λ y is. is.1 ∙ sym same))
+
+pub merges-preserved-then-not-goes_by : goal.merges-preserved-then-not-goes_by
+merges-preserved-then-not-goes_by g c =
+    let space = space_in c.args.space.now in
+    let from = state_of c.args.from in
+    let table = c.args.table in
+    let reached = set_of c.args.to.tables in
+    let item = merge_of c.in-Some.item in
+    item_more g.L.Listener.hears (MergeBy space from table reached c.args.to.order c.args.bound) (AreMerges space from.tables table) _ _ _ _ _ item c.in-Some.ensures.steps c.merges.invariant
+    (λ done are. merge_apart space from table reached c.args.to.order c.args.bound done _ item are) (nothing g.L.Listener.hears (MergeBy space from table reached c.args.to.order c.args.bound item) _ (λ x is. fails _ c.if-not-goes_by.ensures is.0))
+
+pub returns-then-not-hear : goal.returns-then-not-hear
+returns-then-not-hear g c =
+    let space = space_in c.args.space.now in
+    let from = state_of c.args.from in
+    let table = c.args.table in
+    let reached = set_of c.args.to.tables in
+    let item = merge_of c.in-Some.item in
+    let x = step_for space from table reached c.args.to.order c.args.bound (MergeStep item.conjunct item.inner) c.saturate.result in
+    let cost : c.saturate.result ≡ saturated (from.cost + item.cost) = sum_is _ _ _ _ _ c.saturate.ensures.exact c.from.ensures c.from-in-merges.ensures in
+    let same = same_step space from table reached c.args.to.order c.args.bound (MergeStep item.conjunct item.inner) item.cost c.saturate.result cost in
+    let goes = holds _ c.if-not-goes_by.ensures in
+    item_stops g.L.Listener.hears (MergeBy space from table reached c.args.to.order c.args.bound) (AreMerges space from.tables table) _ _ _ _ _ item c.in-Some.ensures.steps c.merges.invariant
+    (λ done are. merge_apart space from table reached c.args.to.order c.args.bound done _ item are) (IsMergeWith space from table reached c.args.to.order c.args.bound) x (merge_of_item space from table reached c.args.to.order c.args.bound)
+    (stops g.L.Listener.hears (MergeBy space from table reached c.args.to.order c.args.bound item) _ _ x c.if-not-hear.ensures (goes, same))
+
+pub returns : goal.returns
+returns g c =
+    let space = space_in c.args.space.now in
+    let from = state_of c.args.from in
+    let table = c.args.table in
+    let reached = set_of c.args.to.tables in
+    ends g.L.Listener.hears (MergeBy space from table reached c.args.to.order c.args.bound) (AreMerges space from.tables table) (IsMergeWith space from table reached c.args.to.order c.args.bound) _ _ _ c.in-None.ensures.steps.0 c.merges.invariant
+    (merge_of_item space from table reached c.args.to.order c.args.bound) (item_of_merge space from table reached c.args.to.order c.args.bound)
