@@ -20,7 +20,8 @@ use crate::blocks::query_blocks;
 use crate::running::spelled_plan;
 use catalog::Database;
 use executor::{QueryWatch, ReadyBlock, ready_blocks, run_select};
-use plan_space::{Plan, PlanNote, Space, Version};
+use plan_space::{Plan, Space, Version};
+use planner::{block_plans, plan_query};
 use query_tree::Block;
 use std::alloc::{AllocError, Global};
 
@@ -29,8 +30,6 @@ use std::alloc::{AllocError, Global};
 struct Unwatched;
 
 impl QueryWatch for Unwatched {
-    fn planned(&self, _notes: &[PlanNote], _blocks: &[Block], _database: &Database) {}
-
     fn passed(&self, _combinations: u64) {}
 }
 
@@ -64,7 +63,9 @@ fn add_planned(
     requires each { AllByRecursion (IsFormedSomewhere database.now) (map block_of blocks.now) }
     requires answerable { AllByRecursion IsAnswerable (map block_of blocks.now) }
 {
-    let mut query = ready_blocks(alloc, database, blocks)?;
+    let planned = plan_query(alloc, database, blocks)?;
+    let chosen = block_plans(alloc, planned)?;
+    let mut query = ready_blocks(alloc, database, blocks, chosen)?;
     'numbers: for number in 0..blocks.len() {
         let block = &blocks[number];
         let text = plan_text(plans, number).unwrap_or("");

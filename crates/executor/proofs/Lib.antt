@@ -1,10 +1,9 @@
 mod ToldValues
-mod Planned
 mod Arranged
-mod Explained
 mod TypedMeanings
 mod InnerBlocks
 mod InnerRows
 mod InnerTelling
 mod Outermost
 mod WholeQuery
+mod GivenPlans

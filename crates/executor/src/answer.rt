@@ -12,6 +12,7 @@ ghost use Rattle.definitions_answers.specs.Standing.{Stands};
 ghost use Rattle.definitions_execution.specs.Total.{AreCertified, IsTotal};
 ghost use Rattle.result_rows.specs.Faults.{IfRaised};
 ghost use Rattle.query_tree.specs.Bound.{block_of};
+ghost use Rattle.plan_space.specs.BlockPlans.{AreLeastOf};
 ghost use Rattle.executor.specs.ReadyBlocks.{blocks_in, database_in, total_at, AreReady, AreRight};
 
 use crate::nested::{sum_of, try_late};
@@ -20,26 +21,27 @@ use crate::running::run_plan;
 use crate::watch::{QueryWatch, WorkCount};
 use block_answers::BlockRows;
 use catalog::Database;
-use plan_space::PlanNote;
+use plan_space::BlockPlan;
 use query_tree::Block;
 use result_rows::AnswerFault;
 use scans::TupleSource;
 use std::alloc::{AllocError, Global};
 use subqueries::{Frames, KeptResults};
 
-/// What a query prints, by least plans of its blocks; and its work, the total of these plans. A watch is told of the plans and how far
-/// the query is. It is the header, the rows
-/// and how many there are, or an exception that the query raises (ISO/IEC 9075:1992, 7.6 to 7.11; Selinger et al. 1979,
-/// sections 4 to 6; the form is own).
+/// What a query prints, by least plans of its blocks; and its work, the total of these plans; a watch is told how far the query is. It
+/// is the header, the rows and how many there are, or an exception that the query raises (ISO/IEC 9075:1992, 7.6 to 7.11; Selinger
+/// et al. 1979, sections 4 to 6; the form is own).
 pub fn answer_text<'a, W: QueryWatch>(
     alloc: Global,
     database: &'a Database,
     blocks: &'a [Block],
+    plans: Vec<BlockPlan<'a>>,
     watch: &W,
 ) -> Result<(Vec<u8>, u64), AnswerFault>
     requires formed { AreFormed database.now (map block_of blocks.now) [] 0 }
     requires each { AllByRecursion (IsFormedSomewhere database.now) (map block_of blocks.now) }
     requires answerable { AllByRecursion IsAnswerable (map block_of blocks.now) }
+    requires least { AreLeastOf database.now (map block_of blocks.now) plans.items }
     ensures rows { IfOk result (λ r. (rows : List Row) × AllowedOf database.now (map block_of blocks.now) (Rows rows)
         × (r.0.items ≡ shown (names_of (map block_of blocks.now)) (Rows rows))) }
     ensures work { IfOk result (λ r. IsTotal current_version database.now (map block_of blocks.now) r.1) }
@@ -48,9 +50,7 @@ pub fn answer_text<'a, W: QueryWatch>(
     ensures certified { IfErr result (λ fault. IfRaised fault (λ raise. (plans : List spec.Plan)
         × AreCertified current_version database.now (map block_of blocks.now) plans)) }
 {
-    let query = ready_blocks(alloc, database, blocks)?;
-    let notes = plan_notes(alloc, &query);
-    watch.planned(&notes, blocks, database);
+    let query = ready_blocks(alloc, database, blocks, plans)?;
     run_select(alloc, &query, watch)
 }
 
@@ -95,19 +95,6 @@ pub fn run_select<'s, W: QueryWatch>(
     let store = rows.finish(alloc, &first.source, first.block, &frames)?;
     let text = store.end(&first.block.order)?;
     Ok((text, sum_of(pipeline.opened_rows(), inner)))
-}
-
-/// What there is to know of the figures that the plans of blocks rest on.
-fn plan_notes(alloc: Global, query: &[ReadyBlock<'_>]) -> Vec<PlanNote> {
-    let mut notes = Vec::new(alloc);
-    for (number, block) in query.iter().enumerate() {
-        if let Some(summary) = block.space.summary(&block.plan) {
-            block
-                .space
-                .add_notes(alloc, &mut notes, number, summary.cost);
-        }
-    }
-    notes
 }
 
 /// How many results are kept of a block that has parameters (own).

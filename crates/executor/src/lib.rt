@@ -1,16 +1,13 @@
-//! Runs a bound query by least plans of its blocks: the text of its answer, and that of its plans' explanation.
+//! Runs a bound query by plans of its blocks that it is given: the text of its answer. It knows of no search.
 #![tactic(auto)]
 
 mod answer;
-mod explaining;
 mod nested;
-mod planning;
 mod ready_block;
 mod running;
 mod watch;
 
 pub use answer::{answer_text, run_select};
-pub use explaining::explain_text;
 pub use ready_block::{ReadyBlock, ready_blocks};
 pub use result_rows::AnswerFault;
 pub use running::run_plan;

@@ -10,6 +10,7 @@ ghost use Rattle.definitions.specs.Plans.PlanSpace.{GivesRequired, InSpace};
 ghost use Rattle.definitions.specs.Queries.BoundBlock.{Blocks};
 ghost use Rattle.definitions_answers.specs.Parameters.{parameters as parameters_of};
 ghost use Rattle.query_tree.specs.Bound.{block_of};
+ghost use Rattle.plan_space.specs.BlockPlans.{AreLeastOf};
 ghost use Rattle.plan_space.specs.Planned.{space_in};
 ghost use Rattle.plan_tree.specs.Plans.{plan_of};
 ghost use Rattle.scans.specs.Sources.{block_in};
@@ -17,10 +18,9 @@ ghost use Rattle.subqueries.specs.OuterColumns.{outer_columns_of};
 ghost use Rattle.executor.specs.declared.ready_block.ReadyBlock.{ReadyBlock as Ready};
 ghost use Rattle.executor.specs.ReadyBlocks.{blocks_in, HasLeast, IsReadyIn};
 
-use crate::planning::least_plan;
 use block_answers::late_conditions;
 use catalog::Database;
-use plan_space::Space;
+use plan_space::{BlockPlan, Space};
 use plan_tree::Plan;
 use query_tree::{Block, Condition};
 use scans::BlockSource;
@@ -92,14 +92,16 @@ impl ReadyBlock<'_> {
     }
 }
 
-/// The blocks of a statement, each with a least plan (Selinger et al. 1979, sections 4 to 6).
+/// The blocks of a statement, each with a least plan, which is given (Selinger et al. 1979, sections 4 to 6).
 pub fn ready_blocks<'s>(
     alloc: Global,
     database: &'s Database,
     blocks: &'s [Block],
+    plans: Vec<BlockPlan<'s>>,
 ) -> Result<Vec<ReadyBlock<'s>>, AllocError>
     requires formed { AllByRecursion (IsFormedSomewhere database.now) (map block_of blocks.now) }
     requires answerable { AllByRecursion IsAnswerable (map block_of blocks.now) }
+    requires least { AreLeastOf database.now (map block_of blocks.now) plans.items }
     ensures ready { IfOk result (λ query. (number : ℕ) (r : Ready) → slice_get query.items number ≡ Some r →
         IsReadyIn database.now (map block_of blocks.now) number r) }
     ensures blocks { IfOk result (λ query. blocks_in query.items ≡ map block_of blocks.now) }
@@ -107,9 +109,11 @@ pub fn ready_blocks<'s>(
 {
     let parameters = block_parameters(alloc, blocks)?;
     let mut query = Vec::new(alloc);
-    'numbers: for number in 0..blocks.len() {
+    let mut rest = plans.into_iter();
+    'taking: while let Some(chosen) = rest.next() {
+        let number = query.len();
         let block = &blocks[number];
-        let (space, plan) = least_plan(alloc, database, block)?;
+        let BlockPlan { space, plan } = chosen;
         let ready = ReadyBlock::new(alloc, database, block, space, plan, &parameters[number])?;
         query.push(ready)?;
     }

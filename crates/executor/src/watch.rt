@@ -1,19 +1,13 @@
 //! Who is told how far a query is.
 
-use catalog::Database;
-use plan_space::PlanNote;
-use query_tree::Block;
 use std::cell::Cell;
 use subqueries::WorkWatch;
 
 /// How many steps are done from one time that a watch is told to the next (own).
 const TOLD_EACH: u64 = 1_024;
 
-/// Is told what the plans of a query rest on, and then how far it is, for people who wait for it. Nothing is promised of it (own).
+/// Is told how far a query is, for people who wait for it. Nothing is promised of it (own).
 pub trait QueryWatch {
-    /// What there is to know of the figures that the plans of a query's blocks rest on, before the first row is read.
-    fn planned(&self, notes: &[PlanNote], blocks: &[Block], database: &Database);
-
     /// How many combinations of rows the outermost block's plan has delivered so far, now and then. Conjuncts that want an inner block
     /// are tested behind it.
     fn passed(&self, combinations: u64);

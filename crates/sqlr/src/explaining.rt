@@ -1,4 +1,4 @@
-//! EXPLAIN: a query is bound and its least plans are spelled.
+//! EXPLAIN: a query is bound and planned, and its least plans are spelled.
 
 ghost use Rattle.std.specs.Prelude.{◌≡◌, IfOk, IfErr};
 ghost use Rattle.parse_tree.specs.Trees.{select_of};
@@ -11,7 +11,7 @@ use crate::sink::Sink;
 use binder::{BindFault, bind};
 use catalog::Database;
 use diagnostics::{Cause, QueryCause};
-use executor::explain_text;
+use planner::{explain_text, plan_notes, plan_query};
 use std::alloc::Global;
 use syntax::Select;
 
@@ -35,7 +35,9 @@ pub(crate) fn explain<'q, S: Sink>(
         }
         Err(BindFault::Memory) => return Err(StepFault::Memory),
     };
+    let planned = plan_query(alloc, database, &blocks)?;
     let watch = WatchedQuery { sink, query };
-    let text = explain_text(alloc, database, &blocks, &watch)?;
+    watch.tell_plans(&plan_notes(alloc, &planned), &blocks, database);
+    let text = explain_text(alloc, &planned)?;
     Ok(done(text))
 }

@@ -26,8 +26,9 @@ pub(crate) struct WatchedQuery<'s, S: Sink> {
     pub(crate) query: &'s Select,
 }
 
-impl<S: Sink> QueryWatch for WatchedQuery<'_, S> {
-    fn planned(&self, notes: &[PlanNote], blocks: &[Block], database: &Database) {
+impl<S: Sink> WatchedQuery<'_, S> {
+    /// Tells what the plans of the query's blocks rest on, before the first row is read.
+    pub(crate) fn tell_plans(&self, notes: &[PlanNote], blocks: &[Block], database: &Database) {
         let planned = Planned {
             query: self.query,
             blocks,
@@ -35,7 +36,9 @@ impl<S: Sink> QueryWatch for WatchedQuery<'_, S> {
         };
         self.sink.report_plans(planned, database);
     }
+}
 
+impl<S: Sink> QueryWatch for WatchedQuery<'_, S> {
     fn passed(&self, combinations: u64) {
         self.sink.report_progress(Progress::Select { combinations });
     }

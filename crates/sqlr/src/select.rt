@@ -1,4 +1,4 @@
-//! SELECT: a query is bound, judged and answered.
+//! SELECT: a query is bound, planned and answered.
 
 ghost use Rattle.std.specs.Prelude.{◌≡◌, IfOk, IfErr};
 ghost use Rattle.parse_tree.specs.Trees.{select_of};
@@ -12,6 +12,7 @@ use binder::{BindFault, bind};
 use catalog::Database;
 use diagnostics::{Cause, QueryCause};
 use executor::{AnswerFault, answer_text};
+use planner::{block_plans, plan_notes, plan_query};
 use std::alloc::Global;
 use syntax::Select;
 
@@ -35,8 +36,11 @@ pub(crate) fn select<'q, S: Sink>(
         }
         Err(BindFault::Memory) => return Err(StepFault::Memory),
     };
+    let planned = plan_query(alloc, database, &blocks)?;
     let watch = WatchedQuery { sink, query };
-    match answer_text(alloc, database, &blocks, &watch) {
+    watch.tell_plans(&plan_notes(alloc, &planned), &blocks, database);
+    let plans = block_plans(alloc, planned)?;
+    match answer_text(alloc, database, &blocks, plans, &watch) {
         Ok((text, work)) => Ok(Printed {
             work: Some(work),
             ..done(text)

@@ -1,8 +1,8 @@
-use Rattle.std.proofs.Common.{◌≡◌, ◌∙◌, sym, ap, ap₂, subst, ℕ, zero, suc, ◌+◌, ◌<◌, List, [], ◌∷◌, ◌++◌, Some, length, map, take, get_or, arith}
+use Rattle.std.proofs.Common.{◌≡◌, ◌∙◌, sym, ap, ap₂, subst, ℕ, zero, suc, ◌+◌, ◌<◌, List, [], ◌∷◌, ◌++◌, Some, length, map, take, drop, get_or, arith, rules}
 use Rattle.std.specs.Prelude.{slice_get}
 use Rattle.std.specs.List.{AllByRecursion}
 use Rattle.std.proofs.Math.Seq.{take-suc}
-use Rattle.std.proofs.lemmas.List.{length-append, length-map, map-append}
+use Rattle.std.proofs.lemmas.List.{length-append, length-map, map-append, take_all}
 use Rattle.std.proofs.lemmas.Option.{slice_get-get_or}
 use Rattle.definitions.specs.Queries.BoundBlock.{Blocks}
 use Rattle.definitions.specs.Binding.Answerable.{IsAnswerable}
@@ -17,11 +17,14 @@ use Rattle.definitions_answers.proofs.Taken.{all_joined}
 use Rattle.query_tree.specs.Bound.{block_of}
 use Rattle.query_tree.specs.declared.block.Block.{Block}
 use Rattle.scans.specs.Sources.{block_in}
+use Rattle.plan_space.specs.BlockPlans.{AreLeastOf, IsLeastOf}
+use Rattle.plan_space.specs.declared.block_plan.BlockPlan.{BlockPlan}
 use Rattle.subqueries.specs.OuterColumns.{columns_of_option, outer_columns_of}
 use Rattle.executor.specs.ReadyBlocks.{blocks_in, HasLeast, IsReadyIn}
 use Rattle.executor.specs.declared.ready_block.ReadyBlock.{ReadyBlock}
 use Rattle.executor.proofs.InnerBlocks.{at_place, some_is}
 use Rattle.executor.proofs.InnerTelling.{get_mapped}
+use Rattle.executor.proofs.GivenPlans.{given_at, left_at, none_left, one_left}
 use Rattle.executor.proofs.ready_block.ready_blocks.Goals as goal
 
 one_more : (P : ℕ → ReadyBlock → Type 0) (xs : List ReadyBlock) (y : ReadyBlock) → ((k : ℕ) (x : ReadyBlock) → slice_get xs k ≡ Some x → P k x) → P (length xs) y → (k : ℕ) (x : ReadyBlock) → slice_get (xs ++ y ∷ []) k ≡ Some x → P k x
@@ -30,68 +33,120 @@ one_more P [] y h own (suc k) x e = absurd cc
 one_more P (z ∷ xs) y h own zero x e = h 0 x e
 one_more P (z ∷ xs) y h own (suc k) x e = one_more (λ n. P (suc n)) xs y (λ n w is. h (suc n) w is) own k x e
 
-pub least_plan-requires : goal.least_plan-requires
-least_plan-requires c =
-    let b : Block = c.index-blocks-number.result in
-    let here : slice_get c.args.blocks.now c.numbers.number ≡ Some b = slice_get-get_or c.args.blocks.now c.numbers.number b c.numbers-test.true ∙ ap Some (sym c.index-blocks-number.is) in
-    record { formed = at_place (IsFormedSomewhere c.args.database.now) (map block_of c.args.blocks.now) c.numbers.number (block_of b) c.requires.formed (get_mapped block_of c.args.blocks.now c.numbers.number b here) }
-
 pub new-requires-clause-formed : goal.new-requires-clause-formed
 new-requires-clause-formed c =
+    let db = c.args.database.now in
+    let blocks : Blocks = map block_of c.args.blocks.now in
+    let n = c.len-number.result in
     let b : Block = c.index-blocks-number.result in
-    let here : slice_get c.args.blocks.now c.numbers.number ≡ Some b = slice_get-get_or c.args.blocks.now c.numbers.number b c.numbers-test.true ∙ ap Some (sym c.index-blocks-number.is) in
-    at_place (IsFormedSomewhere c.args.database.now) (map block_of c.args.blocks.now) c.numbers.number (block_of b) c.requires.formed (get_mapped block_of c.args.blocks.now c.numbers.number b here)
+    let ready : n ≡ length c.taking.query.items = search rules in
+    let left = left_at db blocks (length c.taking.query.items) n c.taking.rest.rest.items c.in-Some.chosen c.next.new.self.rest.items ready c.in-Some.ensures.items c.taking.invariant.left in
+    let within : n < length c.args.blocks.now = subst (λ k. n < k) (length-map c.args.blocks.now block_of) (one_left db blocks n c.in-Some.chosen c.next.new.self.rest.items left) in
+    let here : slice_get c.args.blocks.now n ≡ Some b = slice_get-get_or c.args.blocks.now n b within ∙ ap Some (sym c.index-blocks-number.is) in
+    let mapped : slice_get blocks n ≡ Some (block_of b) = get_mapped block_of c.args.blocks.now n b here in
+    at_place (IsFormedSomewhere db) blocks n (block_of b) c.requires.formed mapped
 
 pub new-requires-clause-answerable : goal.new-requires-clause-answerable
 new-requires-clause-answerable c =
+    let db = c.args.database.now in
+    let blocks : Blocks = map block_of c.args.blocks.now in
+    let n = c.len-number.result in
     let b : Block = c.index-blocks-number.result in
-    let here : slice_get c.args.blocks.now c.numbers.number ≡ Some b = slice_get-get_or c.args.blocks.now c.numbers.number b c.numbers-test.true ∙ ap Some (sym c.index-blocks-number.is) in
-    at_place IsAnswerable (map block_of c.args.blocks.now) c.numbers.number (block_of b) c.requires.answerable (get_mapped block_of c.args.blocks.now c.numbers.number b here)
+    let ready : n ≡ length c.taking.query.items = search rules in
+    let left = left_at db blocks (length c.taking.query.items) n c.taking.rest.rest.items c.in-Some.chosen c.next.new.self.rest.items ready c.in-Some.ensures.items c.taking.invariant.left in
+    let within : n < length c.args.blocks.now = subst (λ k. n < k) (length-map c.args.blocks.now block_of) (one_left db blocks n c.in-Some.chosen c.next.new.self.rest.items left) in
+    let here : slice_get c.args.blocks.now n ≡ Some b = slice_get-get_or c.args.blocks.now n b within ∙ ap Some (sym c.index-blocks-number.is) in
+    let mapped : slice_get blocks n ≡ Some (block_of b) = get_mapped block_of c.args.blocks.now n b here in
+    at_place IsAnswerable blocks n (block_of b) c.requires.answerable mapped
+
+pub new-requires-clause-space : goal.new-requires-clause-space
+new-requires-clause-space c =
+    let db = c.args.database.now in
+    let blocks : Blocks = map block_of c.args.blocks.now in
+    let n = c.len-number.result in
+    let b : Block = c.index-blocks-number.result in
+    let ready : n ≡ length c.taking.query.items = search rules in
+    let left = left_at db blocks (length c.taking.query.items) n c.taking.rest.rest.items c.in-Some.chosen c.next.new.self.rest.items ready c.in-Some.ensures.items c.taking.invariant.left in
+    let within : n < length c.args.blocks.now = subst (λ k. n < k) (length-map c.args.blocks.now block_of) (one_left db blocks n c.in-Some.chosen c.next.new.self.rest.items left) in
+    let here : slice_get c.args.blocks.now n ≡ Some b = slice_get-get_or c.args.blocks.now n b within ∙ ap Some (sym c.index-blocks-number.is) in
+    let mapped : slice_get blocks n ≡ Some (block_of b) = get_mapped block_of c.args.blocks.now n b here in
+    (given_at db blocks n c.in-Some.chosen c.next.new.self.rest.items (block_of b) mapped left).0.space
 
 pub new-requires-clause-within : goal.new-requires-clause-within
 new-requires-clause-within c =
-    let (certificate, certified) = c.in_ok-space.ensures.least in
+    let db = c.args.database.now in
+    let blocks : Blocks = map block_of c.args.blocks.now in
+    let n = c.len-number.result in
+    let b : Block = c.index-blocks-number.result in
+    let ready : n ≡ length c.taking.query.items = search rules in
+    let left = left_at db blocks (length c.taking.query.items) n c.taking.rest.rest.items c.in-Some.chosen c.next.new.self.rest.items ready c.in-Some.ensures.items c.taking.invariant.left in
+    let within : n < length c.args.blocks.now = subst (λ k. n < k) (length-map c.args.blocks.now block_of) (one_left db blocks n c.in-Some.chosen c.next.new.self.rest.items left) in
+    let here : slice_get c.args.blocks.now n ≡ Some b = slice_get-get_or c.args.blocks.now n b within ∙ ap Some (sym c.index-blocks-number.is) in
+    let mapped : slice_get blocks n ≡ Some (block_of b) = get_mapped block_of c.args.blocks.now n b here in
+    let given = (given_at db blocks n c.in-Some.chosen c.next.new.self.rest.items (block_of b) mapped left).0 in
+    let (certificate, certified) = given.certified in
     let (valid, exact, least) = certified in
     least.0
 
 pub new-requires-clause-required : goal.new-requires-clause-required
 new-requires-clause-required c =
-    let (certificate, certified) = c.in_ok-space.ensures.least in
+    let db = c.args.database.now in
+    let blocks : Blocks = map block_of c.args.blocks.now in
+    let n = c.len-number.result in
+    let b : Block = c.index-blocks-number.result in
+    let ready : n ≡ length c.taking.query.items = search rules in
+    let left = left_at db blocks (length c.taking.query.items) n c.taking.rest.rest.items c.in-Some.chosen c.next.new.self.rest.items ready c.in-Some.ensures.items c.taking.invariant.left in
+    let within : n < length c.args.blocks.now = subst (λ k. n < k) (length-map c.args.blocks.now block_of) (one_left db blocks n c.in-Some.chosen c.next.new.self.rest.items left) in
+    let here : slice_get c.args.blocks.now n ≡ Some b = slice_get-get_or c.args.blocks.now n b within ∙ ap Some (sym c.index-blocks-number.is) in
+    let mapped : slice_get blocks n ≡ Some (block_of b) = get_mapped block_of c.args.blocks.now n b here in
+    let given = (given_at db blocks n c.in-Some.chosen c.next.new.self.rest.items (block_of b) mapped left).0 in
+    let (certificate, certified) = given.certified in
     let (valid, exact, least) = certified in
     least.1
 
-pub numbers-preserved : goal.numbers-preserved
-numbers-preserved c =
+pub taking-preserved : goal.taking-preserved
+taking-preserved c =
     let db = c.args.database.now in
     let blocks : Blocks = map block_of c.args.blocks.now in
-    let number = c.numbers.number in
+    let n = c.len-number.result in
     let b : Block = c.index-blocks-number.result in
-    let here : slice_get c.args.blocks.now number ≡ Some b = slice_get-get_or c.args.blocks.now number b c.numbers-test.true ∙ ap Some (sym c.index-blocks-number.is) in
-    let mapped : slice_get blocks number ≡ Some (block_of b) = get_mapped block_of c.args.blocks.now number b here in
-    let within : number < length blocks = subst (λ n. number < n) (sym (length-map c.args.blocks.now block_of)) c.numbers-test.true in
-    let is_b : get_or blocks number (block_of b) ≡ block_of b = some_is (get_or blocks number (block_of b)) (block_of b) (sym (slice_get-get_or blocks number (block_of b) within) ∙ mapped) in
+    let ready : n ≡ length c.taking.query.items = search rules in
+    let left = left_at db blocks (length c.taking.query.items) n c.taking.rest.rest.items c.in-Some.chosen c.next.new.self.rest.items ready c.in-Some.ensures.items c.taking.invariant.left in
+    let within : n < length c.args.blocks.now = subst (λ k. n < k) (length-map c.args.blocks.now block_of) (one_left db blocks n c.in-Some.chosen c.next.new.self.rest.items left) in
+    let here : slice_get c.args.blocks.now n ≡ Some b = slice_get-get_or c.args.blocks.now n b within ∙ ap Some (sym c.index-blocks-number.is) in
+    let mapped : slice_get blocks n ≡ Some (block_of b) = get_mapped block_of c.args.blocks.now n b here in
+    let (given, behind) = given_at db blocks n c.in-Some.chosen c.next.new.self.rest.items (block_of b) mapped left in
     let own = c.index.result.now in
     let columns = c.in_ok-parameters.parameters.items in
-    let in_columns : number < length columns = subst (λ n. number < n) (sym c.in_ok-parameters.ensures.count) c.numbers-test.true in
-    let at_own : slice_get columns number ≡ Some own = slice_get-get_or columns number own in_columns ∙ ap Some (sym c.index.ensures) in
-    let params : outer_columns_of c.deref.result.now ≡ parameters blocks number =
-    ap outer_columns_of c.deref.ensures.value ∙ sym (ap columns_of_option at_own) ∙ c.in_ok-parameters.ensures.exact number in
+    let in_columns : n < length columns = subst (λ k. n < k) (sym c.in_ok-parameters.ensures.count) within in
+    let at_own : slice_get columns n ≡ Some own = slice_get-get_or columns n own in_columns ∙ ap Some (sym c.index.ensures) in
+    let params : outer_columns_of c.deref.result.now ≡ parameters blocks n =
+    ap outer_columns_of c.deref.ensures.value ∙ sym (ap columns_of_option at_own) ∙ c.in_ok-parameters.ensures.exact n in
     let r : ReadyBlock = c.in_ok-ready.ready in
-    let old = c.numbers.query.items in
+    let old = c.taking.query.items in
     let items : c.push.new.self.items ≡ old ++ r ∷ [] = c.in_ok-push.ensures.items in
-    let inv = c.numbers.invariant in
-    let next : suc number ≡ number + 1 = omega arith in
-    let plan = plan_of c.in_ok-space.plan in
+    let inv = c.taking.invariant in
+    let same : n ≡ length old = ready in
+    let within_mapped : n < length blocks = subst (λ k. n < k) (sym (length-map c.args.blocks.now block_of)) within in
+    let is_b : get_or blocks n (block_of b) ≡ block_of b = some_is (get_or blocks n (block_of b)) (block_of b) (sym (slice_get-get_or blocks n (block_of b) within_mapped) ∙ mapped) in
+    let count : length c.push.new.self.items ≡ suc n = ap length items ∙ length-append old (r ∷ []) ∙ omega (arith, same) in
     let own_least : HasLeast db r =
     subst (λ p. (certificate : Certificate) × IsCertified (space_of current_version db (block_in r.source)) p certificate) (sym c.in_ok-ready.ensures.plan)
-    (subst (λ x. (certificate : Certificate) × IsCertified (space_of current_version db x) plan certificate) (sym c.in_ok-ready.ensures.block) c.in_ok-space.ensures.least) in
+    (subst (λ x. (certificate : Certificate) × IsCertified (space_of current_version db x) (plan_of c.in-Some.chosen.plan) certificate) (sym c.in_ok-ready.ensures.block) given.certified) in
     record {
-      count = ap length items ∙ length-append old (r ∷ []) ∙ ap (λ n. n + 1) inv.count;
       blocks =
-          ap blocks_in items ∙ map-append (λ (x : ReadyBlock). block_in x.source) old (r ∷ []) ∙ ap₂ (λ xs x. xs ++ x ∷ []) inv.blocks (c.in_ok-ready.ensures.block ∙ sym is_b)
-          ∙ sym (take-suc blocks number (block_of b) within) ∙ ap (λ n. take n blocks) next;
+          ap blocks_in items ∙ map-append (λ (x : ReadyBlock). block_in x.source) old (r ∷ [])
+          ∙ ap₂ (λ xs x. xs ++ x ∷ []) (inv.blocks ∙ ap (λ k. take k blocks) (sym same)) (c.in_ok-ready.ensures.block ∙ sym is_b)
+          ∙ sym (take-suc blocks n (block_of b) within_mapped) ∙ ap (λ k. take k blocks) (sym count);
       ready =
           subst (λ xs. (k : ℕ) (x : ReadyBlock) → slice_get xs k ≡ Some x → IsReadyIn db blocks k x) (sym items)
-          (one_more (IsReadyIn db blocks) old r inv.ready (subst (λ k. IsReadyIn db blocks k r) (sym inv.count) (c.in_ok-ready.ensures.ready blocks number params)));
+          (one_more (IsReadyIn db blocks) old r inv.ready (subst (λ k. IsReadyIn db blocks k r) same (c.in_ok-ready.ensures.ready blocks n params)));
       least = subst (AllByRecursion (HasLeast db)) (sym items) (all_joined (HasLeast db) old (r ∷ []) inv.least (own_least, tt));
+      left = subst (λ k. AreLeastOf db (drop k blocks) c.next.new.self.rest.items) (sym count) behind;
     }
+
+pub returns-clause-blocks : goal.returns-clause-blocks
+returns-clause-blocks c =
+    let blocks : Blocks = map block_of c.args.blocks.now in
+    let none : length c.taking.rest.rest.items ≡ 0 = search rules in
+    c.taking.invariant.blocks ∙ take_all (length c.taking.query.items) blocks (none_left c.args.database.now blocks (length c.taking.query.items) c.taking.rest.rest.items none c.taking.invariant.left)

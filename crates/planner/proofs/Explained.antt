@@ -62,7 +62,7 @@ first_of [] i b lt is = absurd (omega (arith, lt))
 first_of (x ∷ xs) zero b lt is = ap (λ y. block_of y ∷ map block_of xs) (sym is)
 first_of (x ∷ xs) (suc i) b lt is = first_of xs i b (omega (arith, lt)) is
 
-past : {X : Type 0} (xs : List X) (n : ℕ) → length xs ≤ n → drop n xs ≡ []
+pub past : {X : Type 0} (xs : List X) (n : ℕ) → length xs ≤ n → drop n xs ≡ []
 past [] zero h = refl
 past [] (suc n) h = refl
 past (x ∷ xs) zero h = absurd (omega (arith, h))

@@ -1,0 +1,2 @@
+pub use Rattle.definitions.specs.Certificates.Explaining
+pub mod Planned
