@@ -9,10 +9,7 @@ use crate::create::write_create;
 use crate::exceptions::ExceptionReport;
 use crate::index::write_index;
 use crate::list::write_list_hint;
-use crate::load_notes::{LoadReport, LoadedRows};
 use crate::places::offset_of;
-use crate::plan_notes::PlanReport;
-use crate::refused_loads::{RefusedLoads, place_of};
 use crate::refused_tables::RefusedTables;
 use crate::statistics::{write_statistics, write_table_statistics};
 use catalog::{
@@ -23,6 +20,7 @@ use diagnostics::{Cause, CheckedFile, ColumnList, FileLoad, Planned, Refused};
 use messages_certificates::FileReport;
 use messages_excerpts::{LineColumn, Lines, write_excerpt};
 use messages_files::{FileRecord, write_record, write_record_hint, write_repeated, write_survey};
+use messages_notes::{LoadReport, Notes, PlanReport};
 use messages_queries::{QueryWords, write_near_table};
 use messages_syntax::{
     write_lexical, write_lexical_hint, write_too_deep, write_unexpected, write_unexpected_hint,
@@ -38,9 +36,8 @@ pub struct Reporter<'a> {
     alloc: Global,
     script_name: &'a str,
     lines: Lines<'a>,
-    refused_loads: RefusedLoads,
     refused_tables: RefusedTables,
-    loaded_rows: LoadedRows,
+    notes: Notes<'a>,
 }
 
 impl<'a> Reporter<'a> {
@@ -50,9 +47,8 @@ impl<'a> Reporter<'a> {
             alloc,
             script_name,
             lines: Lines::new(script),
-            refused_loads: RefusedLoads::new(alloc),
             refused_tables: RefusedTables::new(alloc),
-            loaded_rows: LoadedRows::new(alloc),
+            notes: Notes::new(alloc, script_name),
         }
     }
 
@@ -68,7 +64,7 @@ impl<'a> Reporter<'a> {
     {
         let offset = offset_of(&refused.cause);
         let place = self.lines.locate(offset);
-        self.refused_loads.keep(database, &refused.cause, place);
+        self.notes.keep_refusal(database, &refused.cause, place);
         self.refused_tables
             .keep(self.alloc, &refused.cause, &self.lines);
         Report {
@@ -88,19 +84,7 @@ impl<'a> Reporter<'a> {
     where
         'a: 'r,
     {
-        self.refused_loads.forget(database, table);
-        let name = table.text.as_str();
-        let loaded = database.table(name);
-        let before = match (loaded, place_of(database, name)) {
-            (Some(own), Some(place)) => self.loaded_rows.replace(place, own.len()),
-            _ => 0,
-        };
-        LoadReport {
-            script_name: self.script_name,
-            place: self.lines.locate(table.start),
-            table: loaded,
-            before,
-        }
+        self.notes.report_load(&self.lines, table, database)
     }
 
     /// The message on an exception.
@@ -123,14 +107,7 @@ impl<'a> Reporter<'a> {
         planned: Planned<'r>,
         database: &'r Database,
     ) -> PlanReport<'r> {
-        PlanReport {
-            alloc: self.alloc,
-            script_name: self.script_name,
-            lines: &self.lines,
-            planned,
-            database,
-            refused_loads: &self.refused_loads,
-        }
+        self.notes.report_plans(&self.lines, planned, database)
     }
 
     /// The messages on a file of certificates of a name, over the database of their query.

@@ -124,6 +124,9 @@ fn end_hint(seen: &Seen) -> Option<&'static str> {
     if seen.follows("LIMIT") && seen.is_number() {
         return Some(LIMIT);
     }
+    if seen.follows("OFFSET") && seen.is_number() {
+        return Some(OFFSET);
+    }
     if let Some(hint) = pair_hint(seen) {
         return Some(hint);
     }
@@ -160,6 +163,8 @@ const JOIN: &str = "to join tables write a comma between them, and the condition
 
 const LIMIT: &str = "there is no LIMIT: all rows are printed";
 
+const OFFSET: &str = "there is no OFFSET: all rows are printed";
+
 const FETCH: &str = "there is no FETCH: all rows are printed";
 
 const SET_OPERATION: &str = "there is no UNION, EXCEPT or INTERSECT: a query is one SELECT";
@@ -172,7 +177,7 @@ static PAIRS: [(&str, &str, &str); 20] = [
     ("OUTER", "JOIN", OUTER_JOIN),
     ("", "JOIN", JOIN),
     ("", "LIMIT", LIMIT),
-    ("", "OFFSET", "there is no OFFSET: all rows are printed"),
+    ("", "OFFSET", OFFSET),
     ("FETCH", "FIRST", FETCH),
     ("FETCH", "NEXT", FETCH),
     (
