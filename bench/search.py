@@ -1,12 +1,13 @@
 #!/usr/bin/env python3
 """Times EXPLAIN, which searches for a least plan and writes its certificate, and the check of that certificate, best of three: blocks of
-12 tables joined as a chain, as a star and all to all (as far as a block's 64 conjuncts go), and of 14 as a chain, each table with an index
-and statistics. Of a script with some EXPLAINs and one with none the difference is taken, and of a check and that script too. Processor
-seconds are counted, and the most memory that a process held.
+12 and of 14 tables joined as a chain, as a star and all to all (as far as a block's 64 conjuncts go), each table with statistics and an index
+that is unique, or has ten rows a key. Joins of ten rows a key grow with each table, and so does what is cheaper than the least plan. Of a
+script with some EXPLAINs and one with none the difference is taken, and of a check and that script too. Processor seconds are counted, and the
+most memory that a process held.
 
 Beside it stands PostgreSQL's planner on the same joins, with its search over all orders of joins (`join_collapse_limit` high and `geqo` off):
-the planning time that EXPLAIN (SUMMARY) tells, best of three, in a cluster of its own under a temporary folder. It needs Debian's package
-postgresql; without it our figures are printed alone.
+the planning time that EXPLAIN (SUMMARY) tells, best of three, in a cluster of its own under a temporary folder; of 14 tables all to all it would
+take minutes, and isn't asked. It needs Debian's package postgresql; without it our figures are printed alone.
 """
 import os
 import pathlib
@@ -22,7 +23,8 @@ SERVER = next(iter(sorted(pathlib.Path("/usr/lib/postgresql").glob("*/bin"), rev
 TIMES = 3
 EXPLAINS = 10
 CONJUNCTS = 64
-BLOCKS = [("chain", 12), ("star", 12), ("all", 12), ("chain", 14)]
+BLOCKS = [(shape, tables, index) for index in ("unique", "tens") for shape in ("chain", "star", "all") for tables in (12, 14)]
+ALONE = ("all", 14)
 
 
 def run(folder, *words):
@@ -55,15 +57,23 @@ def query(shape, tables):
     return f"SELECT T1.X FROM {names} WHERE " + " AND ".join(f"{a} = {b}" for a, b in joins(shape, tables)) + ";"
 
 
-def our_tables(shape, tables):
+def made_index(index, t):
+    return f"CREATE {'UNIQUE ' if index == 'unique' else ''}INDEX ON T{t} (X);"
+
+
+def keys(index, t):
+    return 1000 * t if index == "unique" else 100 * t
+
+
+def our_tables(shape, tables, index):
     for t in range(1, tables + 1):
-        yield f"CREATE TABLE T{t} {columns(shape, tables, t)}; CREATE INDEX ON T{t} (X);"
-        yield f"SET STATISTICS T{t} ROWS {1000 * t} PAGES {10 * t}; SET STATISTICS T{t} (X) KEYS {100 * t} PAGES {2 * t};"
+        yield f"CREATE TABLE T{t} {columns(shape, tables, t)}; {made_index(index, t)}"
+        yield f"SET STATISTICS T{t} ROWS {1000 * t} PAGES {10 * t}; SET STATISTICS T{t} (X) KEYS {keys(index, t)} PAGES {2 * t};"
 
 
-def ours(folder, shape, tables):
+def ours(folder, shape, tables, index):
     """The seconds of an EXPLAIN and of a check, the most memory in MiB, and how many states the certificate lists."""
-    made = "\n".join(our_tables(shape, tables)) + "\n"
+    made = "\n".join(our_tables(shape, tables, index)) + "\n"
     asked = query(shape, tables)
     (folder / "tables.sql").write_text(made)
     (folder / "explains.sql").write_text(made + f"EXPLAIN {asked}\n" * EXPLAINS)
@@ -78,11 +88,11 @@ def ours(folder, shape, tables):
     return seconds, checked - nothing, max(it[1] for it in explained), certificate.count("STATE")
 
 
-def statements(shape, tables):
+def statements(shape, tables, index):
     for t in range(1, tables + 1):
         yield f"CREATE TABLE T{t} {columns(shape, tables, t)};"
-        yield f"CREATE INDEX ON T{t} (X);"
-        yield f"INSERT INTO T{t} (X, Y) SELECT i % {100 * t}, i FROM generate_series(1, {1000 * t}) i;"
+        yield made_index(index, t)
+        yield f"INSERT INTO T{t} (X, Y) SELECT i % {keys(index, t)}, i FROM generate_series(1, {1000 * t}) i;"
         yield f"ANALYZE T{t};"
     yield "SET join_collapse_limit = 100; SET from_collapse_limit = 100; SET geqo = off;"
     for _ in range(TIMES):
@@ -93,10 +103,10 @@ def as_postgres(*words, **kept):
     return subprocess.run(["runuser", "-u", "postgres", "--", *map(str, words)], check=True, capture_output=True, text=True, **kept).stdout
 
 
-def planning(folder, shape, tables):
+def planning(folder, shape, tables, index):
     """The milliseconds that PostgreSQL plans."""
-    as_postgres("createdb", "-h", folder, f"{shape}{tables}")
-    told = as_postgres("psql", "-q", "-h", folder, "-d", f"{shape}{tables}", "-f", "-", input="\n".join(statements(shape, tables)))
+    as_postgres("createdb", "-h", folder, f"{shape}{tables}{index}")
+    told = as_postgres("psql", "-q", "-h", folder, "-d", f"{shape}{tables}{index}", "-f", "-", input="\n".join(statements(shape, tables, index)))
     return min(float(time) for time in re.findall(r"Planning Time: ([\d.]+) ms", told))
 
 
@@ -111,7 +121,7 @@ def peers():
         as_postgres(SERVER / "initdb", "-D", data)
         as_postgres(SERVER / "pg_ctl", "-D", data, "-w", "-o", f"-k {folder} -h ''", "-l", folder / "log", "start")
         try:
-            return {block: planning(folder, *block) for block in BLOCKS}
+            return {block: planning(folder, *block) for block in BLOCKS if block[:2] != ALONE}
         finally:
             as_postgres(SERVER / "pg_ctl", "-D", data, "-m", "fast", "stop")
     finally:
@@ -122,11 +132,11 @@ def main():
     theirs = peers()
     print("block  EXPLAIN/ms  check/ms  PostgreSQL/ms  ratio  states listed  MiB")
     with tempfile.TemporaryDirectory() as name:
-        for shape, tables in BLOCKS:
-            explain, check, held, states = ours(pathlib.Path(name), shape, tables)
-            peer = theirs.get((shape, tables))
+        for shape, tables, index in BLOCKS:
+            explain, check, held, states = ours(pathlib.Path(name), shape, tables, index)
+            peer = theirs.get((shape, tables, index))
             beside = f"{peer:.1f} {explain * 1e3 / peer:.3f}" if peer else "- -"
-            print(f"{shape} {tables}: {explain * 1e3:.1f} {check * 1e3:.1f} {beside} {states} {held:.1f}")
+            print(f"{shape} {tables} {index}: {explain * 1e3:.1f} {check * 1e3:.1f} {beside} {states} {held:.1f}")
 
 
 if __name__ == "__main__":

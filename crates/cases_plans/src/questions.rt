@@ -1,18 +1,15 @@
 //! What a row may ask of a block. Tables, conjuncts and sets of tables are numbered as in certificates: tables and conjuncts from 1, a set by
 //! the sum of 2^(t-1) over its tables.
 
-ghost use Rattle.std.specs.Prelude.{◌<◌, ◌^◌, IfSome};
 ghost use Rattle.estimate.specs.Estimated.{IsFormed};
 ghost use Rattle.query_tree.specs.Bound.{block_of};
-ghost use Rattle.plan_tree.specs.Sets.{set_of};
-ghost use Rattle.plan_space.specs.Planned.{space_in};
 
 use crate::answer::{Answer, BAR, DOWN, number_of};
 use crate::running::{add_run, space_of};
 use catalog::Database;
 use estimate::Estimate;
 use join_dp::{Tried, optimise};
-use plan_space::{Space, Version};
+use plan_space::{JoinRelation, Space, Version};
 use plan_tree::TableSet;
 use query_tree::Block;
 use std::alloc::{AllocError, Global};
@@ -128,9 +125,7 @@ fn ask_set(space: &Space<'_>, kind: &str, set: u64, answer: &mut Answer) {
 }
 
 /// The set of a number, if the block has its tables.
-fn set_of_number(space: &Space<'_>, set: u64) -> Option<TableSet>
-    ensures { IfSome result (λ tables. set_of tables < 2 ^ (space_in space.now).table_count) }
-{
+fn set_of_number(space: &Space<'_>, set: u64) -> Option<TableSet> {
     let place = set as usize;
     if place > space.whole().place() {
         return None;
@@ -154,9 +149,7 @@ fn add_folds(space: &Space<'_>, tables: TableSet, answer: &mut Answer) {
 }
 
 /// Adds for each order those that it gives too where a set is joined.
-fn add_serves(space: &Space<'_>, tables: TableSet, answer: &mut Answer)
-    requires { set_of tables < 2 ^ (space_in space.now).table_count }
-{
+fn add_serves(space: &Space<'_>, tables: TableSet, answer: &mut Answer) {
     for order in 0..space.order_count() {
         for wanted in 0..space.order_count() {
             if space.satisfies(tables, order, wanted) {
@@ -168,31 +161,33 @@ fn add_serves(space: &Space<'_>, tables: TableSet, answer: &mut Answer)
 }
 
 /// Adds the tables that may come next to a set.
-fn add_next(space: &Space<'_>, tables: TableSet, answer: &mut Answer)
-    requires { set_of tables < 2 ^ (space_in space.now).table_count }
-{
+fn add_next(space: &Space<'_>, tables: TableSet, answer: &mut Answer) {
+    let outer = space.relation(tables);
     for table in 0..space.table_count() {
-        if space.can_join_next(tables, table) {
+        if outer.can_join_next(table) {
             answer.add_from_one(table);
         }
     }
 }
 
 /// Adds the merges that a set's orders go by, of the first two conjuncts: order, conjunct and the table that comes next.
-fn add_leads(space: &Space<'_>, tables: TableSet, answer: &mut Answer)
-    requires { set_of tables < 2 ^ (space_in space.now).table_count }
-{
+fn add_leads(space: &Space<'_>, tables: TableSet, answer: &mut Answer) {
+    let outer = space.relation(tables);
     for order in 0..space.order_count() {
-        add_led(space, tables, order, 0, answer);
-        add_led(space, tables, order, 1, answer);
+        add_led(space, &outer, order, 0, answer);
+        add_led(space, &outer, order, 1, answer);
     }
 }
 
-fn add_led(space: &Space<'_>, tables: TableSet, order: usize, conjunct: usize, answer: &mut Answer)
-    requires { set_of tables < 2 ^ (space_in space.now).table_count }
-{
+fn add_led(
+    space: &Space<'_>,
+    outer: &JoinRelation<'_>,
+    order: usize,
+    conjunct: usize,
+    answer: &mut Answer,
+) {
     for table in 0..space.table_count() {
-        if space.goes_by(tables, order, conjunct, table) {
+        if outer.goes_by(order, conjunct, table) {
             answer.add_place(order);
             answer.add_from_one(conjunct);
             answer.add_from_one(table);

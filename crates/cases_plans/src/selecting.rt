@@ -21,7 +21,7 @@ use crate::running::spelled_plan;
 use catalog::Database;
 use executor::{QueryWatch, ReadyBlock, ready_blocks, run_select};
 use plan_space::{Plan, Space, Version};
-use planner::{block_plans, plan_query};
+use planner::least_plans;
 use query_tree::Block;
 use std::alloc::{AllocError, Global};
 
@@ -63,8 +63,7 @@ fn add_planned(
     requires each { AllByRecursion (IsFormedSomewhere database.now) (map block_of blocks.now) }
     requires answerable { AllByRecursion IsAnswerable (map block_of blocks.now) }
 {
-    let planned = plan_query(alloc, database, blocks)?;
-    let chosen = block_plans(alloc, planned)?;
+    let chosen = least_plans(alloc, database, blocks)?;
     let mut query = ready_blocks(alloc, database, blocks, chosen)?;
     'numbers: for number in 0..blocks.len() {
         let block = &blocks[number];

@@ -6,6 +6,3 @@ pub mod Places
 mod Left
 pub mod Members
 mod Sizes
-mod LastTable
-mod Taking
-mod Made

@@ -7,5 +7,3 @@ pub mod PlanConjuncts
 pub mod Widths
 pub mod Sizes
 pub mod Inside
-pub mod SetEstimate
-pub mod Sets

@@ -2,7 +2,7 @@
 
 ghost use Rattle.std.specs.Prelude.{◌≡◌, ◌≤◌, ◌<◌, IfOk, length, map, slice_get, Some};
 ghost use Rattle.std.specs.List.{AllByRecursion};
-ghost use Rattle.definitions.specs.Limits.{most_from_tables};
+ghost use Rattle.definitions.specs.Limits.{most_from_tables, most_conjuncts};
 ghost use Rattle.definitions.specs.Plans.Cost.{limit, selectivity_of};
 ghost use Rattle.definitions.specs.Queries.Conjuncts as queries;
 ghost use Rattle.definitions.specs.Estimates.BlockTables.{table_at};
@@ -112,6 +112,7 @@ impl<'a> Estimate<'a> {
         ensures exact { map conjunct_of result.now ≡ plans.plan_conjuncts self.now.database (block_of self.now.block) }
         ensures conditions { map condition_of_conjunct result.now ≡ queries.conjuncts (block_of self.now.block) }
         ensures few { AllByRecursion NamesFew (queries.conjuncts (block_of self.now.block)) }
+        ensures counted { length result.now ≤ most_conjuncts }
     {
         self.conjuncts.as_slice()
     }
@@ -125,7 +126,8 @@ impl<'a> Estimate<'a> {
         u64::from(self.conjuncts[conjunct].selectivity)
     }
 
-    /// How many rows a set of tables is taken to give (Selinger et al. 1979, section 5: QCARD).
+    /// How many rows a set of tables is taken to give (Selinger et al. 1979, section 5: QCARD). It looks at each conjunct for each of
+    /// the tables.
     pub fn cardinality(&self, tables: TableSet) -> u64
         ensures exact { result ≡ spec.cardinality self.now.database (block_of self.now.block) (set_of tables) }
         ensures below { result ≤ limit }

@@ -33,7 +33,11 @@ pub fn share(number: u64, millionths: u32) -> u64
     ensures exact { result ≡ cost.share number millionths }
     ensures below { result ≤ number }
 {
-    (u128::from(number) * u128::from(millionths)).div_ceil(u128::from(MILLION)) as u64
+    // a division of 64 bits takes a tenth of the time of one of 128
+    match number.checked_mul(u64::from(millionths)) {
+        Some(product) => product.div_ceil(u64::from(MILLION)),
+        None => (u128::from(number) * u128::from(millionths)).div_ceil(u128::from(MILLION)) as u64,
+    }
 }
 
 /// What is left out of all rows, at least one millionth (own).

@@ -1,4 +1,4 @@
-//! What the rows of a block are taken to be: the shares that conditions leave of them, how many its tables and all sets of its
+//! What the rows of a block are taken to be: the shares that conditions leave of them, how many its tables and sets of its
 //! tables give, and what a sort of them costs (Selinger et al. 1979, sections 4 and 5).
 #![tactic(auto)]
 
@@ -10,8 +10,6 @@ mod key_ranges;
 mod plan_conjunct;
 mod planning;
 mod selectivity_shares;
-mod set_estimate;
-mod set_estimates;
 mod shares;
 mod sides;
 mod table_size;
@@ -21,4 +19,3 @@ pub use estimate::Estimate;
 pub use fractions::{MILLION, fraction, share};
 pub use plan_conjunct::PlanConjunct;
 pub use selectivity_shares::one_key;
-pub use set_estimates::SetEstimates;

@@ -1,7 +1,7 @@
 mod ClassMerging
 mod Passing
 mod Labelling
-mod Rows
+mod Classes
 mod OrderPlaces
 mod Comparing
 mod Adding

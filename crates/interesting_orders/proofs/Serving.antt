@@ -1,5 +1,8 @@
 -- Orders that serve for others, and the columns that they lead with.
-use Rattle.std.proofs.Common.{◌≡◌, refl, sym, subst, ℕ, ◌<◌, inl, inr, List, [], ◌∷◌, Bool, true, false, Option, Some, None, cond, length, arith}
+use Rattle.std.proofs.Common.{◌≡◌, ◌∙◌, refl, sym, subst, ℕ, ◌+◌, ◌<◌, inl, inr, List, [], ◌∷◌, Bool, true, false, Option, Some, None, cond, drop, get_or, length, arith}
+use Rattle.std.specs.Prelude.{◌↔◌}
+use Rattle.std.proofs.lemmas.List.{get_or_default}
+use Rattle.estimate.proofs.Places.{at_place}
 use Rattle.definitions.specs.Plans.TableSet.{TableSet}
 use Rattle.definitions.specs.Plans.Order.{BlockColumn, Order, ascending}
 use Rattle.definitions.specs.Plans.Space.{Space}
@@ -20,8 +23,16 @@ module _ (space : Space) (tables : TableSet) where
   too_long (k ∷ ks) [] lt h = absurd (omega (arith, lt))
   too_long (k ∷ ks) (w ∷ ws) lt h = too_long ks ws (omega (arith, lt)) h.2
 
-  abbrev Serves : SortKey → SortKey → Type 0
+  abbrev pub Serves : SortKey → SortKey → Type 0
   Serves k w = ((key_of k).descending ≡ (key_of w).descending) × SameClass space tables (key_of k).column (key_of w).column
+
+  -- one key further: the next ones serve, and those behind them
+  pub next_key : (keys wanted : List SortKey) (i : ℕ) (key want d d' : SortKey) → i < length keys → i < length wanted → key ≡ get_or keys i d → want ≡ get_or wanted i d'
+      → Satisfies space tables (order_of (drop i keys)) (order_of (drop i wanted)) ↔ (Serves key want × Satisfies space tables (order_of (drop (i + 1) keys)) (order_of (drop (i + 1) wanted)))
+  next_key keys wanted i key want d d' hk hw ek ew =
+      let here = at_place keys i key hk (ek ∙ get_or_default keys i d key hk) in
+      let there = at_place wanted i want hw (ew ∙ get_or_default wanted i d' want hw) in
+      rw (here, there) ((λ s. ((s.0, s.1), s.2)), (λ p. (p.0.0, p.0.1, p.1)))
 
   -- ---- columns that are not equated are alone
 

@@ -1,18 +1,12 @@
--- What the classes of this crate say, under each set of tables.
-use Rattle.std.specs.Prelude.{ℕ, ◌+◌, ◌*◌, ◌^◌, ◌<◌, ◌≡◌, ◌⊎◌, ◌↔◌, List, length, get_or}
+-- What the classes of this crate say, under a set of tables.
+use Rattle.std.specs.Prelude.{ℕ, ◌<◌, ◌≡◌, ◌⊎◌, ◌↔◌, List, length, get_or}
+use Rattle.definitions.specs.Plans.TableSet.{TableSet}
 use Rattle.definitions.specs.Plans.Order as o
 use Rattle.definitions.specs.Plans.Space.{Space}
 use Rattle.definitions.specs.Plans.ColumnClass.{Equates, SameClass}
 use Rattle.interesting_orders.specs.Labels.{column_at, label_at, Holds}
 use Rattle.interesting_orders.specs.declared.equivalence_classes.EquivalenceClasses.{EquivalenceClasses}
 use Rattle.interesting_orders.specs.declared.equivalence_classes.Equality.{Equality}
-
--- how many columns and how many sets of tables they are of
-abbrev pub columns_in : EquivalenceClasses → ℕ
-columns_in c = c.columns
-
-abbrev pub sets_in : EquivalenceClasses → ℕ
-sets_in c = 2 ^ c.tables
 
 -- no column stands in the list twice
 abbrev pub AreDistinct : List o.BlockColumn → Type 0
@@ -34,8 +28,7 @@ pub record AreEquations (space : Space) (columns : List o.BlockColumn) (equation
       → (place : ℕ) × (place < length equations) × Says columns (get_or equations place no_equation) a b
 
 -- two columns have one label exactly where they are of one class
-abbrev pub AreClasses : Space → List o.BlockColumn → EquivalenceClasses → Type 0
-AreClasses space columns c =
-    (set i j : ℕ) → set < sets_in c → i < length columns → j < length columns
-    → (label_at c.labels.items (set * c.columns + i) ≡ label_at c.labels.items (set * c.columns + j))
-    ↔ SameClass space set (column_at columns i) (column_at columns j)
+abbrev pub AreClasses : Space → TableSet → List o.BlockColumn → EquivalenceClasses → Type 0
+AreClasses space tables columns c =
+    (i j : ℕ) → i < length columns → j < length columns
+    → (label_at c.labels i ≡ label_at c.labels j) ↔ SameClass space tables (column_at columns i) (column_at columns j)

@@ -5,7 +5,9 @@ use Rattle.definitions.specs.Plans.Space.{Space}
 use Rattle.definitions.specs.Plans.PlanSpace.{IsMergeConjunct}
 use Rattle.query_tree.specs.Bound.{column_of}
 use Rattle.interesting_orders.specs.Labels.{column_at}
-use Rattle.interesting_orders.specs.Classes.{sets_in, AreClasses}
+use Rattle.definitions.specs.Plans.TableSet.{TableSet}
+use Rattle.interesting_orders.specs.Classes.{AreClasses, AreEquations}
+use Rattle.interesting_orders.specs.declared.equivalence_classes.EquivalenceClasses.{EquivalenceClasses}
 use Rattle.interesting_orders.specs.declared.equivalence_classes.Equality.{Equality}
 use Rattle.interesting_orders.specs.Places.{AreStated, HaveSides, IsPlace}
 use Rattle.interesting_orders.specs.Merges.{leading_of}
@@ -25,14 +27,14 @@ places_in e = length e.columns.items
 abbrev pub equation_in : EquatedColumns → ℕ → Option Equality
 equation_in e number = get_or e.equations.items number None
 
--- how many sets of tables they have classes under
-abbrev pub sets_under : EquatedColumns → ℕ
-sets_under e = sets_in e.classes
-
 pub record AreEquated (space : Space) (e : EquatedColumns) : Type 0 where
   pub has : HaveSides (columns_of e) space.conjuncts
   pub stated : AreStated (columns_of e) space.conjuncts e.equations.items
-  pub classes : AreClasses space (columns_of e) e.classes
+  pub equations : AreEquations space (columns_of e) e.given.items
+
+-- the classes of its columns, under a set of tables
+abbrev pub AreClassesOf : Space → TableSet → EquatedColumns → EquivalenceClasses → Type 0
+AreClassesOf space tables e classes = AreClasses space tables (columns_of e) classes
 
 -- the place of the column that an order leads with, if it is there
 abbrev pub IsPlaceOf : List BlockColumn → Option BlockColumn → Option ℕ → Type 0

@@ -1,12 +1,13 @@
 //! Classes of the columns that conjuncts equate.
 
-ghost use Rattle.std.specs.Prelude.{◌≡◌, ◌<◌, ◌≤◌, ◌^◌, All, IfOk, IfSome, length, map, option_map};
+ghost use Rattle.std.specs.Prelude.{◌≡◌, ◌<◌, ◌≤◌, All, IfOk, IfSome, length, map, option_map};
 ghost use Rattle.std.specs.Bool.{Decides};
-ghost use Rattle.definitions.specs.Limits.{most_from_tables};
+ghost use Rattle.definitions.specs.Limits.{most_conjuncts};
+ghost use Rattle.definitions.specs.Plans.TableSet as sets;
 ghost use Rattle.definitions.specs.Plans.ColumnClass.{SameClass, Satisfies};
 ghost use Rattle.definitions.specs.Plans.Space.{Space};
 ghost use Rattle.query_tree.specs.Bound.{column_of};
-ghost use Rattle.interesting_orders.specs.Classes.{columns_in};
+ghost use Rattle.interesting_orders.specs.Classes.{AreDistinct};
 ghost use Rattle.interesting_orders.specs.Labels.{IsBetween};
 ghost use Rattle.estimate.specs.PlanConjuncts.{conjunct_of};
 ghost use Rattle.plan_tree.specs.Plans.{key_of, order_of};
@@ -30,39 +31,43 @@ pub(crate) struct MergeSides {
     pub inner: usize,
 }
 
-/// The columns that the early conjuncts of a block equate, with their classes under each set of its tables.
+/// The columns that the early conjuncts of a block equate.
 #[derive(Drop)]
 pub(crate) struct EquatedColumns {
     columns: Vec<BlockColumn>,
     // by conjunct
     equations: Vec<Option<Equality>>,
-    classes: EquivalenceClasses,
-    ghost counted: { columns_in classes ≡ length columns.items },
+    // those that are there
+    given: Vec<Equality>,
+    ghost few: { length columns.items ≤ 128 },
+    ghost distinct: { AreDistinct (map column_of columns.items) },
     ghost between: { All (AreBetween (length columns.items)) equations.items },
+    ghost within: { All (IsBetween (length columns.items)) given.items },
 }
 
 impl EquatedColumns {
-    ghost use Rattle.interesting_orders.specs.Equated.{column_in, equation_in, places_in, sets_under, AreEquated, AreSides, IsLead};
+    ghost use Rattle.interesting_orders.specs.Equated.{column_in, equation_in, places_in, AreClassesOf, AreEquated, AreSides, IsLead};
 
-    pub fn new(
-        alloc: Global,
-        conjuncts: &[PlanConjunct],
-        tables: usize,
-    ) -> Result<EquatedColumns, AllocError>
-        requires tables { tables ≤ most_from_tables }
-        ensures sets { IfOk result (λ e. sets_under e ≡ 2 ^ tables) }
-        ensures exact { (space : Space) → space.conjuncts ≡ map conjunct_of conjuncts.now →
+    pub fn new(alloc: Global, conjuncts: &[PlanConjunct]) -> Result<EquatedColumns, AllocError>
+        requires few { length conjuncts.now ≤ most_conjuncts }
+        ensures { (space : Space) → space.conjuncts ≡ map conjunct_of conjuncts.now →
             IfOk result (AreEquated space) }
     {
         let columns = equated_columns(alloc, conjuncts)?;
         let equations = equations_of(alloc, &columns, conjuncts)?;
-        let stated = given_equations(alloc, &equations)?;
-        let classes = EquivalenceClasses::new(alloc, &columns, &stated, tables)?;
+        let given = given_equations(alloc, &equations)?;
         Ok(EquatedColumns {
             columns,
             equations,
-            classes,
+            given,
         })
+    }
+
+    /// The classes of the columns under a set of tables.
+    pub fn classes(&self, tables: TableSet) -> EquivalenceClasses
+        ensures { (space : Space) → AreEquated space self.now → AreClassesOf space (set_of tables) self.now result }
+    {
+        EquivalenceClasses::new(&self.columns, &self.given, tables)
     }
 
     /// The table of the column at a place.
@@ -73,43 +78,47 @@ impl EquatedColumns {
         self.columns[place].table
     }
 
-    /// Whether the columns at two places are of one class under a set of tables.
-    pub fn are_joined(&self, tables: TableSet, a: usize, b: usize) -> bool
-        requires set { set_of tables < sets_under self.now }
+    /// Whether the columns at two places are of one class.
+    pub fn are_joined(&self, classes: &EquivalenceClasses, a: usize, b: usize) -> bool
         requires a { a < places_in self.now }
         requires b { b < places_in self.now }
-        ensures { (space : Space) → AreEquated space self.now →
-            Decides result (SameClass space (set_of tables) (column_in self.now a) (column_in self.now b)) }
+        ensures { (space : Space) (tables : sets.TableSet) → AreClassesOf space tables self.now classes.now →
+            Decides result (SameClass space tables (column_in self.now a) (column_in self.now b)) }
     {
-        self.classes.are_equal(tables, a, b)
+        classes.are_equal(a, b)
     }
 
-    /// Whether two columns are of one class under a set of tables.
-    fn are_equal(&self, tables: TableSet, a: BlockColumn, b: BlockColumn) -> bool
-        requires set { set_of tables < sets_under self.now }
-        ensures { (space : Space) → AreEquated space self.now →
-            Decides result (SameClass space (set_of tables) (column_of a) (column_of b)) }
+    /// Whether two columns are of one class.
+    fn are_equal(&self, classes: &EquivalenceClasses, a: BlockColumn, b: BlockColumn) -> bool
+        ensures { (space : Space) (tables : sets.TableSet) → AreEquated space self.now →
+            AreClassesOf space tables self.now classes.now →
+            Decides result (SameClass space tables (column_of a) (column_of b)) }
     {
         if are_equal(a, b) {
             return true;
         }
         match (place_of(&self.columns, a), place_of(&self.columns, b)) {
-            (Some(a), Some(b)) => self.are_joined(tables, a, b),
+            (Some(a), Some(b)) => self.are_joined(classes, a, b),
             _ => false,
         }
     }
 
-    /// Whether rows in one order are in another, too, on all rows of plans on a set of tables.
-    pub fn satisfies(&self, tables: TableSet, order: &[SortKey], wanted: &[SortKey]) -> bool
-        requires set { set_of tables < sets_under self.now }
-        ensures { (space : Space) → AreEquated space self.now →
-            Decides result (Satisfies space (set_of tables) (order_of order.now) (order_of wanted.now)) }
+    /// Whether rows in one order are in another, too, on all rows of plans on the tables under which the classes are.
+    pub fn satisfies(
+        &self,
+        classes: &EquivalenceClasses,
+        order: &[SortKey],
+        wanted: &[SortKey],
+    ) -> bool
+        ensures { (space : Space) (tables : sets.TableSet) → AreEquated space self.now →
+            AreClassesOf space tables self.now classes.now →
+            Decides result (Satisfies space tables (order_of order.now) (order_of wanted.now)) }
     {
         if order.len() < wanted.len() {
             return false;
         }
         'keys: for place in 0..wanted.len() {
-            if !self.serves(tables, order[place], wanted[place]) {
+            if !self.serves(classes, order[place], wanted[place]) {
                 return false;
             }
         }
@@ -117,13 +126,13 @@ impl EquatedColumns {
     }
 
     /// Whether one key serves for another.
-    fn serves(&self, tables: TableSet, key: SortKey, wanted: SortKey) -> bool
-        requires set { set_of tables < sets_under self.now }
-        ensures { (space : Space) → AreEquated space self.now →
+    fn serves(&self, classes: &EquivalenceClasses, key: SortKey, wanted: SortKey) -> bool
+        ensures { (space : Space) (tables : sets.TableSet) → AreEquated space self.now →
+            AreClassesOf space tables self.now classes.now →
             Decides result (((key_of key).descending ≡ (key_of wanted).descending) ×
-            SameClass space (set_of tables) (key_of key).column (key_of wanted).column) }
+            SameClass space tables (key_of key).column (key_of wanted).column) }
     {
-        key.descending == wanted.descending && self.are_equal(tables, key.column, wanted.column)
+        key.descending == wanted.descending && self.are_equal(classes, key.column, wanted.column)
     }
 
     /// The place of the column that an order leads with, if it is ascending and equated with another.
@@ -167,18 +176,18 @@ impl EquatedColumns {
         }
     }
 
-    /// The tables that may come next by a merge on a column, or on one of its class under some tables.
-    pub fn partners(&self, tables: TableSet, lead: usize) -> Option<TableSet>
-        requires set { set_of tables < sets_under self.now }
+    /// The tables that may come next by a merge on a column, or on one of its class.
+    pub fn partners(&self, classes: &EquivalenceClasses, lead: usize) -> Option<TableSet>
         requires within { lead < places_in self.now }
-        ensures { (space : Space) → AreEquated space self.now →
-            AreThose (IsOpened space (set_of tables) (column_in self.now lead)) (option_map set_of result) }
+        ensures { (space : Space) (tables : sets.TableSet) → AreEquated space self.now →
+            AreClassesOf space tables self.now classes.now →
+            AreThose (IsOpened space tables (column_in self.now lead)) (option_map set_of result) }
     {
         let mut partners = Some(TableSet::none());
         'equations: for equation in &self.equations {
             if let Some(equation) = equation {
-                partners = self.with_side(tables, lead, equation.left, equation.right, partners);
-                partners = self.with_side(tables, lead, equation.right, equation.left, partners);
+                partners = self.with_side(classes, lead, equation.left, equation.right, partners);
+                partners = self.with_side(classes, lead, equation.right, equation.left, partners);
             }
         }
         partners
@@ -187,21 +196,20 @@ impl EquatedColumns {
     /// With the table of the column to which a merge leads from another one, if that is of the leading column's class.
     fn with_side(
         &self,
-        tables: TableSet,
+        classes: &EquivalenceClasses,
         lead: usize,
         from: usize,
         to: usize,
         partners: Option<TableSet>,
     ) -> Option<TableSet>
-        requires set { set_of tables < sets_under self.now }
         requires lead { lead < places_in self.now }
         requires from { from < places_in self.now }
         requires to { to < places_in self.now }
-        ensures { (space : Space) → AreEquated space self.now →
-            IsWithSide space (set_of tables) (column_in self.now lead) (column_in self.now from)
+        ensures { (space : Space) (tables : sets.TableSet) → AreClassesOf space tables self.now classes.now →
+            IsWithSide space tables (column_in self.now lead) (column_in self.now from)
             (column_in self.now to) (option_map set_of partners) (option_map set_of result) }
     {
-        if self.table(from) != self.table(to) && self.are_joined(tables, lead, from) {
+        if self.table(from) != self.table(to) && self.are_joined(classes, lead, from) {
             with_table(partners, self.table(to))
         } else {
             partners

@@ -1,25 +1,26 @@
 //! Classes of columns under a set of tables.
 
-ghost use Rattle.std.specs.Prelude.{◌≡◌, ◌<◌, ◌≤◌, ◌^◌, length, map, All};
+ghost use Rattle.std.specs.Prelude.{List, ◌≡◌, ◌<◌, ◌≤◌, length, map, All};
 ghost use Rattle.std.specs.Bool.{Decides};
+ghost use Rattle.definitions.specs.Plans.TableSet as sets;
 ghost use Rattle.definitions.specs.Plans.TableSet.{Has};
 ghost use Rattle.query_tree.specs.Bound.{column_of};
 ghost use Rattle.definitions.specs.Plans.Space.{Space};
 ghost use Rattle.plan_tree.specs.Sets.{set_of};
 ghost use Rattle.interesting_orders.specs.Labels.{column_at, AreSound, Holds, IsBetween, Joins};
-ghost use Rattle.std.specs.Prelude.{◌*◌, List, IfOk};
-ghost use Rattle.definitions.specs.Limits.{most_from_tables};
 ghost use Rattle.definitions.specs.Plans.ColumnClass.{SameClass};
 ghost use Rattle.definitions.specs.Plans.Order as o;
 
 use crate::labels::{relabel, separate};
 use plan_tree::TableSet;
 use query_tree::BlockColumn;
-use std::alloc::{AllocError, Global};
+
+/// How many columns the conjuncts of a block equate at most, two each.
+pub(crate) const MAX_EQUATED: usize = 128;
 
 /// That two columns are equal, by their places in a list of columns.
 #[derive(Clone, Copy, Debug, PartialEq, Eq)]
-pub struct Equality {
+pub(crate) struct Equality {
     pub left: usize,
     pub right: usize,
 }
@@ -56,59 +57,44 @@ fn has_both(tables: TableSet, columns: &[BlockColumn], equation: Equality) -> bo
     tables.has(columns[equation.left].table) && tables.has(columns[equation.right].table)
 }
 
-/// The classes of the columns of a list, under each set of a block's tables.
-#[derive(Drop)]
+/// The classes of the columns of a list, under a set of a block's tables.
+#[derive(Clone, Copy)]
 pub struct EquivalenceClasses {
-    columns: usize,
-    tables: usize,
-    // a row of labels for each set, in the order of the sets' places
-    labels: Vec<usize>,
-    ghost whole: { length labels.items ≡ 2 ^ tables * columns },
+    // by place; columns of one class have one label
+    labels: [usize; MAX_EQUATED],
 }
 
 impl EquivalenceClasses {
-    ghost use Rattle.interesting_orders.specs.Classes.{columns_in, sets_in, AreClasses, AreDistinct, AreEquations};
+    ghost use Rattle.interesting_orders.specs.Classes.{AreClasses, AreDistinct, AreEquations};
 
-    /// The classes of columns by the equations that a block's early conjuncts say; no column comes twice. It looks at each
-    /// equation for each set of the tables, and at each column for each equation. They take 8 bytes for each column and set.
-    pub fn new(
-        alloc: Global,
+    /// The classes of columns by the equations that a block's early conjuncts say; no column comes twice. It looks at each equation,
+    /// and for each whose tables are in the set at each column.
+    pub(crate) fn new(
         columns: &[BlockColumn],
         equations: &[Equality],
-        tables: usize,
-    ) -> Result<EquivalenceClasses, AllocError>
-        requires tables { tables ≤ most_from_tables }
+        tables: TableSet,
+    ) -> EquivalenceClasses
+        requires few { length columns.now ≤ 128 }
         requires distinct { AreDistinct (map column_of columns.now) }
         requires between { All (IsBetween (length columns.now)) equations.now }
-        ensures columns { IfOk result (λ c. columns_in c ≡ length columns.now) }
-        ensures sets { IfOk result (λ c. sets_in c ≡ 2 ^ tables) }
-        ensures classes { (space : Space) → AreEquations space (map column_of columns.now) equations.now →
-            IfOk result (AreClasses space (map column_of columns.now)) }
+        ensures { (space : Space) → AreEquations space (map column_of columns.now) equations.now →
+            AreClasses space (set_of tables) (map column_of columns.now) result }
     {
-        let mut row = vec![in alloc; 0; columns.len()]?;
-        let mut labels = Vec::new(alloc);
-        'sets: for place in 0..1 << tables {
-            label(&mut row, columns, equations, TableSet::at(place));
-            labels.extend_from_slice(&row)?;
-        }
-        Ok(EquivalenceClasses {
-            columns: columns.len(),
-            tables,
-            labels,
-        })
+        let mut labels = [0; MAX_EQUATED];
+        let row = &mut labels[..columns.len()];
+        label(row, columns, equations, tables);
+        EquivalenceClasses { labels }
     }
 
-    /// Whether two of the columns are of one class under a set of tables: they are one, or a chain of early conjuncts equates
-    /// them whose tables are all in the set (Selinger et al. 1979, section 5; that the tables have to be there is own).
-    pub fn are_equal(&self, tables: TableSet, a: usize, b: usize) -> bool
-        requires set { set_of tables < sets_in self.now }
-        requires a { a < columns_in self.now }
-        requires b { b < columns_in self.now }
-        ensures { (space : Space) (columns : List o.BlockColumn) → length columns ≡ columns_in self.now →
-            AreClasses space columns self.now → Decides result
-            (SameClass space (set_of tables) (column_at columns a) (column_at columns b)) }
+    /// Whether two of the columns are of one class: they are one, or a chain of early conjuncts equates them whose tables are all in
+    /// the set (Selinger et al. 1979, section 5; that the tables have to be there is own).
+    pub(crate) fn are_equal(&self, a: usize, b: usize) -> bool
+        requires a { a < 128 }
+        requires b { b < 128 }
+        ensures { (space : Space) (tables : sets.TableSet) (columns : List o.BlockColumn) → a < length columns →
+            b < length columns → AreClasses space tables columns self.now →
+            Decides result (SameClass space tables (column_at columns a) (column_at columns b)) }
     {
-        let row = tables.place() * self.columns;
-        self.labels[row + a] == self.labels[row + b]
+        self.labels[a] == self.labels[b]
     }
 }

@@ -1,8 +1,9 @@
 //! What the orders of a block serve for.
 
-ghost use Rattle.std.specs.Prelude.{◌≡◌, ◌≢◌, ◌<◌, [], ◌≤◌, ◌^◌, All, IfOk, map};
+ghost use Rattle.std.specs.Prelude.{◌≡◌, ◌≢◌, [], ◌≤◌, All, IfOk, length, map};
 ghost use Rattle.std.specs.Bool.{Decides};
-ghost use Rattle.definitions.specs.Limits.{most_from_tables};
+ghost use Rattle.definitions.specs.Limits.{most_from_tables, most_conjuncts};
+ghost use Rattle.definitions.specs.Plans.TableSet as sets;
 ghost use Rattle.definitions.specs.Plans.ColumnClass.{Satisfies};
 ghost use Rattle.definitions.specs.Plans.Folding.{Folds, OpensMerge};
 ghost use Rattle.definitions.specs.Plans.PlanSpace.{CanSort};
@@ -16,6 +17,7 @@ ghost use Rattle.interesting_orders.specs.Sorts.{AreSorts};
 ghost use Rattle.interesting_orders.specs.declared.order_use.OrderUse.{OrderUse};
 
 use crate::equated::EquatedColumns;
+use crate::equivalence_classes::EquivalenceClasses;
 use crate::order_use::{OrderUse, order_uses};
 use crate::reach::are_within;
 use crate::sorts::Sorts;
@@ -34,10 +36,10 @@ pub struct InterestingOrders {
 }
 
 impl InterestingOrders {
-    ghost use Rattle.interesting_orders.specs.Uses.{sets_in, AreUses, IsUse};
+    ghost use Rattle.interesting_orders.specs.Uses.{AreClassesIn, AreUses, IsUse};
 
     /// What the orders of a block serve for, by its conjuncts in text order, its numbered orders and the one that it asks for. It
-    /// looks at each conjunct for each order and for each set of the tables.
+    /// looks at each conjunct for each order.
     pub fn new(
         alloc: Global,
         conjuncts: &[PlanConjunct],
@@ -46,13 +48,14 @@ impl InterestingOrders {
         tables: usize,
     ) -> Result<InterestingOrders, AllocError>
         requires tables { tables ≤ most_from_tables }
-        ensures sets { IfOk result (λ u. sets_in u ≡ 2 ^ tables) }
-        ensures exact { (space : Space) → space.table_count ≡ tables →
+        requires few { length conjuncts.now ≤ most_conjuncts }
+        ensures { (space : Space) → space.table_count ≡ tables →
             space.conjuncts ≡ map conjunct_of conjuncts.now → space.orders ≡ orders_in orders.now →
             space.required ≡ order_of required.now → IfOk result (AreUses space) }
     {
-        let equated = EquatedColumns::new(alloc, conjuncts, tables)?;
-        let orders = order_uses(alloc, &equated, orders, required, TableSet::first(tables))?;
+        let equated = EquatedColumns::new(alloc, conjuncts)?;
+        let classes = equated.classes(TableSet::first(tables));
+        let orders = order_uses(alloc, &equated, &classes, orders, required)?;
         Ok(InterestingOrders {
             equated,
             orders,
@@ -77,7 +80,16 @@ impl InterestingOrders {
         }
     }
 
-    /// Whether rows of all tables in an order are in the one that the block asks for. This and the calls below take constant time.
+    /// The classes of the columns that conjuncts equate, under a set of tables. It looks at each conjunct, and for each that equates
+    /// columns of the set at each column.
+    pub fn classes(&self, tables: TableSet) -> EquivalenceClasses
+        ensures { (space : Space) → AreUses space self.now → AreClassesIn space (set_of tables) self.now result }
+    {
+        self.equated.classes(tables)
+    }
+
+    /// Whether rows of all tables in an order are in the one that the block asks for. This and the calls below take constant time,
+    /// but where they say otherwise.
     pub fn gives_required(&self, order: usize) -> bool
         ensures { (space : Space) → AreUses space self.now →
             Decides result (Satisfies space (whole space) (order_at space order) space.required) }
@@ -138,19 +150,32 @@ impl InterestingOrders {
         }
     }
 
-    /// Whether rows of plans on a set of tables in one order are in another, too. It goes through the keys.
-    pub fn satisfies(&self, tables: TableSet, order: &[SortKey], wanted: &[SortKey]) -> bool
-        requires set { set_of tables < sets_in self.now }
-        ensures { (space : Space) → AreUses space self.now →
-            Decides result (Satisfies space (set_of tables) (order_of order.now) (order_of wanted.now)) }
+    /// Whether rows of plans on the tables of the classes in one order are in another, too. It goes through the keys.
+    pub fn satisfies(
+        &self,
+        classes: &EquivalenceClasses,
+        order: &[SortKey],
+        wanted: &[SortKey],
+    ) -> bool
+        ensures { (space : Space) (tables : sets.TableSet) → AreUses space self.now →
+            AreClassesIn space tables self.now classes.now →
+            Decides result (Satisfies space tables (order_of order.now) (order_of wanted.now)) }
     {
-        self.equated.satisfies(tables, order, wanted)
+        self.equated.satisfies(classes, order, wanted)
     }
 
-    /// Whether an order of a set of tables goes by the set's column of a merge conjunct, by which a table comes next.
-    pub fn goes_by(&self, tables: TableSet, order: usize, conjunct: usize, table: usize) -> bool
-        requires set { set_of tables < sets_in self.now }
+    /// Whether an order of a set of tables, whose classes these are, goes by the set's column of a merge conjunct, by which a table
+    /// comes next.
+    pub fn goes_by(
+        &self,
+        classes: &EquivalenceClasses,
+        tables: TableSet,
+        order: usize,
+        conjunct: usize,
+        table: usize,
+    ) -> bool
         ensures { (space : Space) → AreUses space self.now →
+            AreClassesIn space (set_of tables) self.now classes.now →
             Decides result (GoesBy space (set_of tables) order conjunct table) }
     {
         let Some(lead) = self.at(order).lead else {
@@ -160,7 +185,7 @@ impl InterestingOrders {
             return false;
         };
         tables.has(self.equated.table(sides.outer))
-            && self.equated.are_joined(tables, lead, sides.outer)
+            && self.equated.are_joined(classes, lead, sides.outer)
     }
 
     /// The other table of a conjunct, if it is a merge conjunct by which a table comes next.

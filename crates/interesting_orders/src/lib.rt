@@ -15,7 +15,7 @@ mod sort_orders;
 mod sorts;
 mod version;
 
-pub use equivalence_classes::{Equality, EquivalenceClasses};
+pub use equivalence_classes::EquivalenceClasses;
 pub use interesting_orders::InterestingOrders;
 pub use known::known_indexes;
 pub use required::{is_grouped, required_order};

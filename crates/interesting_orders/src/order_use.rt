@@ -4,12 +4,14 @@ ghost use Rattle.std.specs.Prelude.{◌<◌, All, IfOk, option_map};
 ghost use Rattle.definitions.specs.Plans.Space.{Space};
 ghost use Rattle.plan_tree.specs.Plans.{order_of, orders_in};
 ghost use Rattle.plan_tree.specs.Sets.{set_of};
-ghost use Rattle.interesting_orders.specs.Equated.{places_in, sets_under, AreEquated};
+ghost use Rattle.definitions.specs.Plans.TableSet as sets;
+ghost use Rattle.interesting_orders.specs.Equated.{places_in, AreClassesOf, AreEquated};
 ghost use Rattle.interesting_orders.specs.Merges.{IsWithin};
 ghost use Rattle.interesting_orders.specs.Reach.{AreThose};
 ghost use Rattle.interesting_orders.specs.Uses.{AreUsesOf, IsReached, IsUseOf};
 
 use crate::equated::EquatedColumns;
+use crate::equivalence_classes::EquivalenceClasses;
 use crate::reach::order_tables;
 use plan_tree::{SortKey, TableSet};
 use std::alloc::{AllocError, Global};
@@ -27,22 +29,21 @@ pub(crate) struct OrderUse {
     pub gives_required: bool,
 }
 
-/// What each order serves for.
+/// What each order serves for, by the classes of the columns under all tables.
 pub(crate) fn order_uses(
     alloc: Global,
     equated: &EquatedColumns,
+    classes: &EquivalenceClasses,
     orders: &[Vec<SortKey>],
     required: &[SortKey],
-    whole: TableSet,
 ) -> Result<Vec<OrderUse>, AllocError>
-    requires set { set_of whole < sets_under equated.now }
     ensures within { IfOk result (λ uses. All (λ (u : OrderUse). IsWithin (places_in equated.now) u.lead) uses.items) }
-    ensures exact { IfOk result (λ uses. AreUsesOf equated.now (set_of whole) (order_of required.now)
+    ensures exact { IfOk result (λ uses. AreUsesOf equated.now classes.now (order_of required.now)
         (orders_in orders.now) uses.items) }
 {
     let mut uses = Vec::new(alloc);
     'orders: for order in orders {
-        uses.push(order_use(equated, order, required, whole))?;
+        uses.push(order_use(equated, classes, order, required))?;
     }
     Ok(uses)
 }
@@ -50,32 +51,35 @@ pub(crate) fn order_uses(
 /// What an order serves for.
 fn order_use(
     equated: &EquatedColumns,
+    classes: &EquivalenceClasses,
     order: &[SortKey],
     required: &[SortKey],
-    whole: TableSet,
 ) -> OrderUse
-    requires set { set_of whole < sets_under equated.now }
     ensures within { IsWithin (places_in equated.now) result.lead }
-    ensures exact { IsUseOf equated.now (set_of whole) (order_of required.now) (order_of order.now) result }
+    ensures exact { IsUseOf equated.now classes.now (order_of required.now) (order_of order.now) result }
 {
     let lead = equated.lead(order);
     OrderUse {
         lead,
         tables: order_tables(order),
-        partners: partners(equated, whole, lead),
-        gives_required: equated.satisfies(whole, order, required),
+        partners: partners(equated, classes, lead),
+        gives_required: equated.satisfies(classes, order, required),
     }
 }
 
 /// The tables that a merge may bring which goes by the column that an order leads with.
-fn partners(equated: &EquatedColumns, whole: TableSet, lead: Option<usize>) -> Option<TableSet>
-    requires set { set_of whole < sets_under equated.now }
+fn partners(
+    equated: &EquatedColumns,
+    classes: &EquivalenceClasses,
+    lead: Option<usize>,
+) -> Option<TableSet>
     requires within { IsWithin (places_in equated.now) lead }
-    ensures { (space : Space) → AreEquated space equated.now →
-        AreThose (IsReached space equated.now (set_of whole) lead) (option_map set_of result) }
+    ensures { (space : Space) (tables : sets.TableSet) → AreEquated space equated.now →
+        AreClassesOf space tables equated.now classes.now →
+        AreThose (IsReached space equated.now tables lead) (option_map set_of result) }
 {
     match lead {
-        Some(lead) => equated.partners(whole, lead),
+        Some(lead) => equated.partners(classes, lead),
         None => Some(TableSet::none()),
     }
 }

@@ -1,6 +1,6 @@
 //! The columns that conjuncts equate, and their places.
 
-ghost use Rattle.std.specs.Prelude.{◌≡◌, IfOk, OnOk, map, option_map};
+ghost use Rattle.std.specs.Prelude.{◌≡◌, ◌+◌, ◌*◌, ◌≤◌, IfOk, OnOk, length, map, option_map};
 ghost use Rattle.std.specs.Bool.{Decides};
 ghost use Rattle.query_tree.specs.Bound.{column_of};
 ghost use Rattle.interesting_orders.specs.Classes.{AreDistinct};
@@ -31,6 +31,7 @@ pub(crate) fn equated_columns(
 ) -> Result<Vec<BlockColumn>, AllocError>
     ensures distinct { IfOk result (λ columns. AreDistinct (map column_of columns.items)) }
     ensures whole { IfOk result (λ columns. HaveSides (map column_of columns.items) (map conjunct_of conjuncts.now)) }
+    ensures few { IfOk result (λ columns. length columns.items ≤ 2 * length conjuncts.now) }
 {
     let mut columns = Vec::new(alloc);
     'conjuncts: for conjunct in conjuncts {
@@ -46,6 +47,7 @@ fn add_sides(
 ) -> Result<(), AllocError>
     ensures grown { OnOk result (IsGrown (map column_of columns.old.items) (map column_of columns.new.items)) }
     ensures there { OnOk result (HasSides (map column_of columns.new.items) (option_map pair_of sides)) }
+    ensures few { OnOk result (length columns.new.items ≤ length columns.old.items + 2) }
 {
     if let Some((x, y)) = sides {
         add(columns, x)?;
@@ -58,6 +60,7 @@ fn add_sides(
 fn add(columns: &mut Vec<BlockColumn>, column: BlockColumn) -> Result<(), AllocError>
     ensures grown { OnOk result (IsGrown (map column_of columns.old.items) (map column_of columns.new.items)) }
     ensures there { OnOk result (HasColumn (map column_of columns.new.items) (column_of column)) }
+    ensures few { OnOk result (length columns.new.items ≤ length columns.old.items + 1) }
 {
     if place_of(columns, column).is_none() {
         columns.push(column)?;

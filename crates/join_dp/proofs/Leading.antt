@@ -1,128 +1,195 @@
--- Accesses and joins of a table, one after another.
-use Rattle.std.proofs.Common.{◌≡◌, ◌∙◌, ℕ, ◌*◌, ◌<◌, ◌≤◌, List, ◌∷◌, Option, None, length, arith, refl, sym, ap}
+-- Steps that are taken one after another.
+use Rattle.std.proofs.Common.{◌≡◌, ℕ, ◌+◌, ◌^◌, ◌<◌, ◌≤◌, List, [], ◌∷◌, Option, Some, None, length, arith, refl, sym, ap, subst}
 use Rattle.std.specs.List.{AllByRecursion}
-use Rattle.definitions.specs.Plans.TableSet.{only, with_table}
+use Rattle.std.proofs.Math.Pow.{pow-lt}
+use Rattle.definitions.specs.Plans.TableSet.{only}
 use Rattle.definitions.specs.Plans.Path.{Path}
-use Rattle.definitions.specs.Plans.Plan.{Inner}
 use Rattle.definitions.specs.Plans.Space.{Space}
-use Rattle.definitions.specs.Plans.PlanSpace.{MayFollow}
+use Rattle.definitions.specs.Plans.PlanSpace.{CanSort}
 use Rattle.definitions.specs.Plans.Folding.{Folds}
-use Rattle.definitions.specs.Plans.Cost.{saturated, merge_cost}
+use Rattle.definitions.specs.Plans.Cost.{limit, saturated}
 use Rattle.definitions.proofs.PlanTheory.Orders.{folds_once}
+use Rattle.interesting_orders.specs.Sorts.{AreSorts}
 use Rattle.plan_space.specs.Item.{Item, AreItems}
-use Rattle.plan_space.specs.Merge.{Merge as CostedMerge, IsMergeItem, AreMerges}
 use Rattle.plan_space.proofs.Lists.{has_each, head_has, both}
 use Rattle.plan_space.proofs.PathItems.{IsPathItem, each_path, found_item}
-use Rattle.join_dp.specs.Steps.{Join, Loop, Merge, AccessOf, Candidate}
-use Rattle.join_dp.specs.Joining.{IsJoin, IsAdded}
-use Rattle.join_dp.specs.Rows.{SetCandidates, cost_at, offered, Below}
-use Rattle.join_dp.specs.Solving.{Solved, IsUnsorted, AreUnsorted, LowByAccesses, LowByJoin}
-use Rattle.join_dp.proofs.Found.{improved_size, below_same, below_trans, LeadsLow, goes_low}
-use Rattle.join_dp.proofs.Offering.{offered_below, offered_low, offered_unsorted}
+use Rattle.join_dp.specs.Searched.{LowByAccesses, LowBySorts, cost_sorted, cost_sorted_if}
+use Rattle.join_dp.specs.Searching.{Search, cost_at, IsOpen, IsOffer, AreMore}
+use Rattle.join_dp.specs.StatePlans.{StatePlan, at, StepMakes, SortMakes}
+use Rattle.join_dp.specs.Steps.{Step, AccessOf}
+use Rattle.join_dp.proofs.Growing.{step_kept}
+use Rattle.join_dp.proofs.Offering.{more_same, more_more}
+
+abbrev pub CostAt : Type 0
+CostAt = ℕ → ℕ → ℕ
+
+-- no cost is higher
+abbrev pub IsBelow : CostAt → CostAt → Type 0
+IsBelow new old = (t k : ℕ) → new t k ≤ old t k
+
+-- if the items that are left are seen to, a claim holds of all lower costs
+abbrev pub LeadsLow : {X : Type 0} → (X → Type 0) → (CostAt → X → Type 0) → (CostAt → Type 0) → CostAt → List X → Type 0
+LeadsLow P Q C cost items = AllByRecursion P items × ((later : CostAt) → IsBelow later cost → AllByRecursion (Q later) items → C later)
+
+pub goes_low : {X : Type 0} (P : X → Type 0) (Q : CostAt → X → Type 0) (C : CostAt → Type 0) (old new : CostAt) (items rest : List X) (x : X) → items ≡ x ∷ rest
+    → LeadsLow P Q C old items → IsBelow new old → ((later : CostAt) → IsBelow later new → Q later x) → LeadsLow P Q C new rest
+goes_low P Q C old new items rest x is l b q =
+    let m = rw is at l in
+    (m.0.1, λ later lb all. m.1 later (λ t k. let a = lb t k in let a' = b t k in omega (arith, a, a')) (q later lb, all))
+
+pub ends_low : {X : Type 0} (P : X → Type 0) (Q : CostAt → X → Type 0) (C : CostAt → Type 0) (cost : CostAt) (items : List X) → items ≡ [] → LeadsLow P Q C cost items → C cost
+ends_low P Q C cost items is l = let m = rw is at l in m.1 cost (λ t k. omega arith) tt
+
+-- ---- accesses
 
 module _ (space : Space) (table : ℕ) where
-  -- ---- accesses
+  abbrev pub AccessSeen : CostAt → Item → Type 0
+  AccessSeen cost item = (folded : ℕ) → Folds space (only table) item.order folded → cost (only table) folded ≤ item.cost
 
-  abbrev pub AccessSeen : List (Option Candidate) → Item → Type 0
-  AccessSeen candidates item = (folded : ℕ) → Folds space (only table) item.order folded → cost_at candidates folded ≤ item.cost
+  abbrev pub AccessesLow : CostAt → Type 0
+  AccessesLow cost = LowByAccesses space cost table
 
-  pub record Accessed (old candidates : List (Option Candidate)) (items : List Item) : Type 0 where
-    pub size : length candidates ≡ length space.orders
-    pub made : (states : List Solved) → AreUnsorted space states (only table) old → AreUnsorted space states (only table) candidates
-    pub below : Below candidates old
-    pub leads : LeadsLow (IsPathItem space 0 table) AccessSeen (LowByAccesses space table) candidates items
+  pub record Accessed (old s : Search) (items : List Item) : Type 0 where
+    pub is_open : IsOpen space 0 s
+    pub more : AreMore old s
+    pub leads : LeadsLow (IsPathItem space 0 table) AccessSeen AccessesLow (cost_at s) items
 
-  pub accesses_begin : (candidates : List (Option Candidate)) (items : List Item) → length candidates ≡ length space.orders → AreItems space 0 table items → Accessed candidates candidates items
-  accesses_begin candidates items size are = record {
-    size = size;
-    made = λ states made. made;
-    below = below_same candidates;
+  pub accesses_begin : (s : Search) (items : List Item) → IsOpen space 0 s → AreItems space 0 table items → Accessed s s items
+  accesses_begin s items v are = record {
+    is_open = v;
+    more = more_same s;
     leads = (each, λ later below all path folded at there folds. of_item later path folded folds (found_item space 0 table items (λ (item : Item). IsPathItem space 0 table item × AccessSeen later item) are (both (IsPathItem space 0 table) (AccessSeen later) items each all) path at there));
   }
     where
       each : AllByRecursion (IsPathItem space 0 table) items
       each = each_path space 0 table items are
 
-      of_item : (later : List (Option Candidate)) (path : Path) (folded : ℕ) → Folds space (only table) (space.path_order path) folded → (item : Item) × (IsPathItem space 0 table item × AccessSeen later item) × (item.path ≡ path) → cost_at later folded ≤ space.path_cost 0 path
+      of_item : (later : CostAt) (path : Path) (folded : ℕ) → Folds space (only table) (space.path_order path) folded → (item : Item) × (IsPathItem space 0 table item × AccessSeen later item) × (item.path ≡ path) → later (only table) folded ≤ space.path_cost 0 path
       of_item later path folded folds (item, (right, seen), is) =
           let o : item.order ≡ space.path_order path = rw is at right.0.order in
           let c : item.cost ≡ space.path_cost 0 path = rw is at right.0.cost in
           rw c at (seen folded (rw o folds))
 
-  pub access_within : (old candidates : List (Option Candidate)) (items rest : List Item) (item : Item) (f : ℕ) → items ≡ item ∷ rest → f ≤ item.order → Accessed old candidates items → f < length candidates
-  access_within old candidates items rest item f is le s =
-      let right = head_has (IsPathItem space 0 table) items rest item is s.leads.0 in
-      omega (arith, right.0.numbered, s.size, le)
+  module _ (old s : Search) (items rest : List Item) (item : Item) (f : ℕ) (lt : table < space.table_count) (is : items ≡ item ∷ rest) (le : f ≤ item.order) (folds : Folds space (only table) item.order f) (a : Accessed old s items) where
+    right : IsPathItem space 0 table item
+    right = head_has (IsPathItem space 0 table) items rest item is a.leads.0
 
-  pub accesses_go : (old : List (Option Candidate)) (candidates row' : SetCandidates) (items rest : List Item) (item : Item) (f : ℕ) → table < space.table_count → items ≡ item ∷ rest → f ≤ item.order → Folds space (only table) item.order f
-      → Accessed old candidates.found items → row' ≡ offered candidates f (record { step = AccessOf item.path; sorted = None; cost = item.cost }) → Accessed old row'.found rest
-  accesses_go old candidates row' items rest item f lt is le folds s e = record {
-    size = ap (λ (r : SetCandidates). length r.found) e ∙ improved_size candidates.found f candidate ∙ s.size;
-    made = λ states made. offered_unsorted space states (only table) candidates row' f candidate e within (s.made states made) (fits states);
-    below = below_trans _ _ _ below s.below;
-    leads = goes_low (IsPathItem space 0 table) AccessSeen (LowByAccesses space table) candidates.found row'.found items rest item is s.leads below
-        (λ later b folded folds'. let once : f ≡ folded = folds_once space (only table) item.order f folded folds folds' in let l = b.lower f in let h = offered_low candidates row' f candidate e within in rw (← once) (omega (arith, l, h)));
-  }
-    where
-      candidate : Candidate
-      candidate = record { step = AccessOf item.path; sorted = None; cost = item.cost }
+    pub access_numbered : f < length space.orders
+    access_numbered = let n = right.0.numbered in omega (arith, n, le)
 
-      right : IsPathItem space 0 table item
-      right = head_has (IsPathItem space 0 table) items rest item is s.leads.0
+    pub access_offer : IsOffer space 0 s (only table) f (record { step = AccessOf item.path; sorted = None; cost = item.cost })
+    access_offer = record {
+      is_open = a.is_open;
+      made = record { small = right.0.small; made = (rw right.0.reads lt, right.1, ap only (sym right.0.reads), rw right.0.order at folds, right.0.cost) };
+      inside = pow-lt lt;
+      numbered = access_numbered;
+      high = omega arith;
+    }
 
-      within : f < length candidates.found
-      within = access_within old candidates.found items rest item f is le s
+    pub accesses_go : (new : Search) → IsOpen space 0 new → AreMore s new → cost_at new (only table) f ≤ item.cost → Accessed old new rest
+    accesses_go new v more here = record {
+      is_open = v;
+      more = more_more old s new a.more more;
+      leads = goes_low (IsPathItem space 0 table) AccessSeen AccessesLow (cost_at s) (cost_at new) items rest item is a.leads more.lower
+          (λ later below folded folds'. let once : f ≡ folded = folds_once space (only table) item.order f folded folds folds' in let l = below (only table) f in rw (← once) (omega (arith, l, here)));
+    }
 
-      below : Below row'.found candidates.found
-      below = offered_below candidates row' f candidate e within right.0.small
+-- ---- sorts
 
-      fits : (states : List Solved) → IsUnsorted space states (only table) f candidate
-      fits states = record {
-        small = right.0.small;
-        unsorted = refl;
-        made = (rw right.0.reads lt, right.1, ap only (sym right.0.reads), rw right.0.order at folds, right.0.cost);
-      }
+-- what a sort of a state's plan goes on from: the plan without the sort behind its last step
+pub record SortBase (space : Space) (states : List StatePlan) (tables cost : ℕ) (step : Step) : Type 0 where
+  pub before : ℕ
+  pub less : ℕ
+  pub made : StepMakes space states (length states) tables before less step
+  pub is : cost ≡ saturated (less + space.sort_cost tables)
 
-module _ (space : Space) (states : List Solved) (s table : ℕ) where
-  -- ---- loops
+pub sort_base : (space : Space) (states : List StatePlan) (first tables order cost : ℕ) (step : Step) (sorted : Option ℕ) → first ≤ length states → SortMakes space states first tables order cost step sorted
+    → SortBase space states tables (cost_sorted_if space sorted tables cost) step
+sort_base space states first tables order cost step None le m =
+    record { before = order; less = cost; made = step_kept space states states (λ place lt. refl) first (length states) tables order cost step le le m; is = refl }
+sort_base space states first tables order cost step (Some into) le (before, less, m, can, folds, is) =
+    record { before = before; less = less; made = step_kept space states states (λ place lt. refl) first (length states) tables before less step le le m; is = is }
 
-  pub join_low_later : (join : Join) (later candidates : List (Option Candidate)) → Below later candidates → LowByJoin space states s table join candidates → LowByJoin space states s table join later
-  join_low_later join later candidates below low place within on folded goes folds = let l = below.lower folded in let h = low place within on folded goes folds in omega (arith, l, h)
+sorted_bounds : (space : Space) (sorted : Option ℕ) (tables cost : ℕ) → cost ≤ limit → (cost ≤ cost_sorted_if space sorted tables cost) × (cost_sorted_if space sorted tables cost ≤ saturated (cost + space.sort_cost tables))
+sorted_bounds space None tables cost small = (omega (arith, small), omega arith)
+sorted_bounds space (Some into) tables cost small = (omega arith, omega (arith, small))
 
-  pub loop_added : (item : Item) (cardinality n added : ℕ) → MayFollow space s table → IsPathItem space s table item → n ≡ cardinality → cardinality ≡ space.cardinality s → (cost : ℕ) → cost ≡ item.cost → added ≡ saturated (n * cost) → IsAdded space s table (Loop item.path) added
-  loop_added item cardinality n added follows right a b cost d e = record {
-    follows = follows;
-    is_join = (right.0.reads, right.1);
-    cost = rw (← b, ← right.0.cost, ← d, ← a) e;
-  }
+module _ (space : Space) (tables cost : ℕ) where
+  abbrev pub SortSeen : CostAt → ℕ → Type 0
+  SortSeen costs into = (folded : ℕ) → Folds space tables into folded → costs tables folded ≤ cost
 
-  -- ---- merges
+  abbrev pub SortsLow : CostAt → Type 0
+  SortsLow costs = (into folded : ℕ) → CanSort space tables into → Folds space tables into folded → costs tables folded ≤ cost
 
-  abbrev pub MergeSeen : List (Option Candidate) → CostedMerge → Type 0
-  MergeSeen candidates item = LowByJoin space states s table (Merge item.conjunct item.inner) candidates
+  pub record Sorted (level : ℕ) (step : Step) (old s : Search) (orders : List ℕ) : Type 0 where
+    pub is_open : IsOpen space level s
+    pub more : AreMore old s
+    pub inside : tables < 2 ^ space.table_count
+    pub high : level ≤ cost
+    pub base : SortBase space old.states tables cost step
+    pub leads : LeadsLow (CanSort space tables) SortSeen SortsLow (cost_at s) orders
 
-  abbrev pub LowByMerges : List (Option Candidate) → Type 0
-  LowByMerges candidates = (number : ℕ) (inner : Inner) → IsJoin space s table (Merge number inner) → LowByJoin space states s table (Merge number inner) candidates
-
-  pub record Merged (old candidates : List (Option Candidate)) (items : List CostedMerge) : Type 0 where
-    pub made : AreUnsorted space states (with_table s table) candidates
-    pub below : Below candidates old
-    pub leads : LeadsLow (IsMergeItem space s table) MergeSeen LowByMerges candidates items
-
-  pub merges_begin : (candidates : List (Option Candidate)) (items : List CostedMerge) → AreUnsorted space states (with_table s table) candidates → AreMerges space s table items → Merged candidates candidates items
-  merges_begin candidates items made are = record {
-    made = made;
-    below = below_same candidates;
-    leads = (are.each, λ later below all number inner is. has_each (MergeSeen later) items (record { conjunct = number; inner = inner; cost = merge_cost space s number inner }) all (are.all number inner is));
-  }
-
-  pub merges_go : (old candidates row' : List (Option Candidate)) (items rest : List CostedMerge) (item : CostedMerge) → items ≡ item ∷ rest → Merged old candidates items
-      → AreUnsorted space states (with_table s table) row' → Below row' candidates → MergeSeen row' item → Merged old row' rest
-  merges_go old candidates row' items rest item is so_far made below low = record {
-    made = made;
-    below = below_trans row' candidates old below so_far.below;
-    leads = goes_low (IsMergeItem space s table) MergeSeen LowByMerges candidates row' items rest item is so_far.leads below (λ later b. join_low_later (Merge item.conjunct item.inner) later row' b low);
+  pub sorts_begin : (level : ℕ) (step : Step) (s : Search) (orders : List ℕ) → IsOpen space level s → tables < 2 ^ space.table_count → level ≤ cost → SortBase space s.states tables cost step → AreSorts space tables orders → Sorted level step s s orders
+  sorts_begin level step s orders v inside high base are = record {
+    is_open = v;
+    more = more_same s;
+    inside = inside;
+    high = high;
+    base = base;
+    leads = (are.each, λ later below all into folded can folds. has_each (SortSeen later) orders into all (are.all into can) folded folds);
   }
 
-  pub merge_added : (item : CostedMerge) → MayFollow space s table → IsMergeItem space s table item → IsAdded space s table (Merge item.conjunct item.inner) item.cost
-  merge_added item follows right = record { follows = follows; is_join = right.is_merge; cost = right.cost }
+  module _ (level : ℕ) (step : Step) (old s : Search) (orders rest : List ℕ) (into f : ℕ) (is : orders ≡ into ∷ rest) (le : f ≤ into) (folds : Folds space tables into f) (a : Sorted level step old s orders) where
+    can : CanSort space tables into
+    can = head_has (CanSort space tables) orders rest into is a.leads.0
+
+    pub sort_numbered : f < length space.orders
+    sort_numbered = let n = can.1.0 in omega (arith, n, le)
+
+    pub sort_offer : IsOffer space level s tables f (record { step = step; sorted = Some into; cost = cost })
+    sort_offer =
+        let b = a.base in
+        let is' = b.is in
+        let longer = a.more.longer in
+        record {
+          is_open = a.is_open;
+          made = record {
+            small = omega (arith, is');
+            made = (b.before, b.less, step_kept space old.states s.states a.more.kept (length old.states) (length s.states) tables b.before b.less step (omega arith) longer b.made, can, folds, is');
+          };
+          inside = a.inside;
+          numbered = sort_numbered;
+          high = a.high;
+        }
+
+    pub sorts_go : (new : Search) → IsOpen space level new → AreMore s new → cost_at new tables f ≤ cost → Sorted level step old new rest
+    sorts_go new v more here = record {
+      is_open = v;
+      more = more_more old s new a.more more;
+      inside = a.inside;
+      high = a.high;
+      base = a.base;
+      leads = goes_low (CanSort space tables) SortSeen SortsLow (cost_at s) (cost_at new) orders rest into is a.leads more.lower
+          (λ later below folded folds'. let once : f ≡ folded = folds_once space tables into f folded folds folds' in let l = below tables f in rw (← once) (omega (arith, l, here)));
+    }
+
+-- what the sorts of a state begin with
+pub state_sorts : (space : Space) (s : Search) (place cost : ℕ) (orders : List ℕ) → place < length s.states → IsOpen space (at s.states place).found.cost s → cost ≡ cost_sorted space (at s.states place) → AreSorts space (at s.states place).tables orders
+    → Sorted space (at s.states place).tables cost (at s.states place).found.cost (at s.states place).found.step s s orders
+state_sorts space s place cost orders lt v is are =
+    let x = at s.states place in
+    let m = v.made place lt in
+    let bounds = sorted_bounds space x.found.sorted x.tables x.found.cost m.small in
+    let low = bounds.0 in
+    let base = sort_base space s.states place x.tables x.order x.found.cost x.found.step x.found.sorted (omega (arith, lt)) m.made in
+    sorts_begin space x.tables cost x.found.cost x.found.step s orders v (v.inside place lt) (omega (arith, low, is)) (subst (λ n. SortBase space s.states x.tables n x.found.step) (sym is) base) are
+
+pub sorts_end : (space : Space) (s : Search) (place cost : ℕ) (costs : CostAt) → place < length s.states → IsOpen space (at s.states place).found.cost s → cost ≡ cost_sorted space (at s.states place) → SortsLow space (at s.states place).tables cost costs
+    → LowBySorts space costs (at s.states place).tables (at s.states place).found.cost
+sorts_end space s place cost costs lt v is low into folded can folds =
+    let x = at s.states place in
+    let m = v.made place lt in
+    let bounds = sorted_bounds space x.found.sorted x.tables x.found.cost m.small in
+    let high = bounds.1 in
+    let l = low into folded can folds in
+    omega (arith, l, is, high)

@@ -1,5 +1,5 @@
 -- The path of a table that costs least, and the loop over it.
-use Rattle.std.proofs.Common.{◌≡◌, ℕ, ◌+◌, ◌*◌, ◌<◌, ◌≤◌, List, [], ◌∷◌, Option, Some, None, length, nat_lt, if◌then◌else◌, Bool, true, false, mul-le-mul_left, arith, refl, sym, subst}
+use Rattle.std.proofs.Common.{◌≡◌, ℕ, ◌+◌, ◌≤◌, List, [], ◌∷◌, Option, Some, None, length, nat_lt, if◌then◌else◌, Bool, true, false, mul-le-mul_left, arith, refl, sym, subst}
 use Rattle.std.proofs.lemmas.Bool.Decides.{nat_tests}
 use Rattle.std.specs.Prelude.{Contains, ⊤}
 use Rattle.std.specs.List.{AllByRecursion}
@@ -13,10 +13,7 @@ use Rattle.plan_space.proofs.Lists.{both}
 use Rattle.plan_space.proofs.PathItems.{IsPathItem, each_path, found_item}
 use Rattle.join_dp.specs.CheapestPath.{cheaper_item, IsCheapestPath}
 use Rattle.join_dp.specs.Joining.{join_cost, IsJoin}
-use Rattle.join_dp.specs.Rows.{Below}
-use Rattle.join_dp.specs.Solving.{Solved, LowByJoin, LowByDearer}
-use Rattle.join_dp.specs.Steps.{Join, Loop, Merge, Candidate}
-use Rattle.join_dp.proofs.Leading.{join_low_later}
+use Rattle.join_dp.specs.Steps.{Loop}
 
 -- ---- the cheaper of two
 
@@ -101,36 +98,12 @@ module _ (space : Space) (s table : ℕ) where
   pub some_path : (path : Path) → table_of path ≡ table → IsPath space s path → 1 ≤ length (space.paths s table)
   some_path path at there = contains_some (space.paths s table) path (rw at at there)
 
--- no more than once each, where there is one or more
-pub once_each : (old new each all : ℕ) → 1 ≤ all → new ≤ old + each → new ≤ old + each * all
-once_each old new each all some le = let m = mul-le-mul_left each some in omega (arith, le, m)
-
 -- ---- what the loop over it adds
-
-sum_more : (a b n low : ℕ) → low ≤ saturated (n + a) → a ≤ b → low ≤ saturated (n + b)
-sum_more a b n low le more = omega (arith, le, more)
 
 saturated_more : (a b : ℕ) → a ≤ b → saturated a ≤ saturated b
 saturated_more a b le = omega (arith, le)
 
-saturated_small : (n : ℕ) → saturated n ≤ limit
-saturated_small n = omega arith
-
-module _ (space : Space) (states : List Solved) (s table : ℕ) where
-  join_small : (join : Join) → join_cost space s join ≤ limit
-  join_small (Loop path) = saturated_small _
-  join_small (Merge number inner) = saturated_small _
-
-  pub none_dearer : (n : ℕ) (candidates : List (Option Candidate)) → limit < n → LowByDearer space states s table n candidates
-  none_dearer n candidates large join le = absurd (omega (arith, large, le, join_small join))
-
-  pub low_by_dearer : (path : Path) (n : ℕ) (candidates : List (Option Candidate)) → n ≡ join_cost space s (Loop path) → LowByJoin space states s table (Loop path) candidates → LowByDearer space states s table n candidates
-  low_by_dearer path n candidates is low join le place within on folded goes folds =
-      sum_more (join_cost space s (Loop path)) (join_cost space s join) _ _ (low place within on folded tt folds) (subst (λ m. m ≤ join_cost space s join) is le)
-
-  pub dearer_later : (n : ℕ) (later candidates : List (Option Candidate)) → Below later candidates → LowByDearer space states s table n candidates → LowByDearer space states s table n later
-  dearer_later n later candidates below low join le = join_low_later space states s table join later candidates below (low join le)
-
+module _ (space : Space) (s table : ℕ) where
   pub loop_least : (item : Item) (n : ℕ) → IsPathItem space s table item → n ≡ join_cost space s (Loop item.path) → ((path : Path) → table_of path ≡ table → IsPath space s path → item.cost ≤ space.path_cost s path)
       → (path : Path) → IsJoin space s table (Loop path) → n ≤ join_cost space s (Loop path)
   loop_least item n right is least path join =

@@ -11,11 +11,11 @@ use Rattle.definitions.specs.Plans.Cost.{saturated, loop_cost, merge_cost, cost_
 use Rattle.definitions.proofs.PlanTheory.Orders.{refold, merge_order}
 use Rattle.definitions.specs.Plans.Search.{IsComplete}
 use Rattle.join_dp.specs.Joining.{CanJoin, join_cost}
-use Rattle.join_dp.specs.Solving.{Solved, at, StepMakes, SortMakes, IsMadeAt, AllMade}
+use Rattle.join_dp.specs.StatePlans.{StatePlan, at, StepMakes, SortMakes, IsMadeAt, AllMade}
 use Rattle.join_dp.specs.Steps.{Join, Loop, Merge, Step, AccessOf, JoinOn, table_in, joined}
 use Rattle.join_dp.specs.Planned.{IsStepPlanAt}
 use Rattle.join_dp.specs.Words.{words_in, tables_among, IsPlanOf, IsStepOf}
-use Rattle.join_dp.proofs.RowSteps.{follows}
+use Rattle.join_dp.proofs.Steps.{follows}
 use Rattle.join_dp.proofs.Sizes.{one_more_among, some_among}
 
 pub joined_words : (p : Plan) (join : Join) → words_in (joined p join) ≡ words_in p + 1
@@ -67,7 +67,7 @@ module _ (space : Space) (complete : IsComplete space) where
 
   -- ---- the plan of a place, from those of the places before it
 
-  module _ (states : List Solved) where
+  module _ (states : List StatePlan) where
     abbrev pub PlanAt : ℕ → Plan → Type 0
     PlanAt place p = IsPlanOf space (at states place).tables (at states place).order (at states place).found.cost p
 

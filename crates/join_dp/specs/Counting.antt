@@ -1,5 +1,5 @@
 -- How many steps a search may take (own).
-use Rattle.std.specs.Prelude.{ℕ, zero, suc, ◌+◌, ◌-◌, ◌*◌, ◌^◌, ◌<◌, ◌≤◌, if◌then◌else◌, ◌==◌, List, length, get_or}
+use Rattle.std.specs.Prelude.{ℕ, zero, suc, ◌+◌, ◌-◌, ◌*◌, ◌^◌, ◌≤◌, if◌then◌else◌, ◌==◌, List, length}
 use Rattle.definitions.specs.Estimates.BlockTables.{has}
 use Rattle.definitions.specs.Plans.TableSet.{TableSet, no_tables}
 use Rattle.definitions.specs.Plans.Order.{OrderNumber}
@@ -8,10 +8,10 @@ use Rattle.definitions.specs.Plans.PlanSpace.{MayFollow}
 use Rattle.plan_space.specs.Merge.{Merge as CostedMerge, AreMerges}
 use Rattle.interesting_orders.specs.Sorts.{AreSorts}
 
--- a set has at most so many states, by where the sets begin
-abbrev pub AreFew : ℕ → List ℕ → Type 0
-AreFew most starts = (tables : ℕ) → tables + 1 < length starts
-    → get_or starts (tables + 1) 0 ≤ get_or starts tables 0 + most
+-- the accesses of the first tables
+abbrev pub most_accesses : Space → ℕ → ℕ
+most_accesses space zero = 0
+most_accesses space (suc table) = most_accesses space table + length (space.paths no_tables table)
 
 module _ (space : Space) (sorts : TableSet → ℕ) (joins : TableSet → ℕ → ℕ) where
   -- no more sorts of a set, and joins of it with a table that may follow, than so many
@@ -21,6 +21,11 @@ module _ (space : Space) (sorts : TableSet → ℕ) (joins : TableSet → ℕ �
     pub of_joins : (tables : TableSet) (table : ℕ) (merges : List CostedMerge) → MayFollow space tables table
         → AreMerges space tables table merges
         → length (space.paths tables table) + length merges ≤ joins tables table
+
+  -- the joins on top of plans of a set with any of the first tables
+  abbrev pub most_joins : TableSet → ℕ → ℕ
+  most_joins tables zero = 0
+  most_joins tables (suc table) = most_joins tables table + (if has tables table then 0 else joins tables table)
 
   -- the steps by which a table comes last to a set: its accesses, or its joins on top of each state of the set without
   -- it

@@ -1,8 +1,8 @@
--- Plans of solved states, by their places.
+-- Plans of states, by their places.
 use Rattle.std.specs.Prelude.{ℕ, ◌<◌, ⊤, List, length}
 use Rattle.definitions.specs.Plans.Plan.{Plan}
 use Rattle.definitions.specs.Plans.Space.{Space}
-use Rattle.join_dp.specs.Solving.{Solved, at, StepMakes}
+use Rattle.join_dp.specs.StatePlans.{StatePlan, at, StepMakes}
 use Rattle.join_dp.specs.Steps.{Step, AccessOf, JoinOn}
 use Rattle.join_dp.specs.Words.{IsPlanOf, IsStepOf}
 
@@ -11,10 +11,10 @@ abbrev pub IsFromBefore : ℕ → Step → Type 0
 IsFromBefore place (AccessOf path) = ⊤
 IsFromBefore place (JoinOn from join) = from < place
 
-abbrev pub AreFromBefore : List Solved → Type 0
+abbrev pub AreFromBefore : List StatePlan → Type 0
 AreFromBefore states = (place : ℕ) → place < length states → IsFromBefore place (at states place).found.step
 
-module _ (space : Space) (states : List Solved) where
+module _ (space : Space) (states : List StatePlan) where
   -- a plan of the state at a place, at its cost
   abbrev pub IsPlanAt : ℕ → Plan → Type 0
   IsPlanAt place plan =

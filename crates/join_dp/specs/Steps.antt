@@ -1,5 +1,5 @@
 -- Plans by their last steps.
-use Rattle.std.specs.Prelude.{ℕ, Option, Some, None, nat_lt, if◌then◌else◌}
+use Rattle.std.specs.Prelude.{ℕ, Option}
 use Rattle.definitions.specs.Plans.Order.{OrderNumber}
 use Rattle.definitions.specs.Plans.Path.{Path, table_of}
 use Rattle.definitions.specs.Plans.Plan as plan
@@ -28,8 +28,3 @@ table_in (Merge number inner) = table_of inner.path
 abbrev pub joined : plan.Plan → Join → plan.Plan
 joined outer (Loop path) = plan.Loop outer path
 joined outer (Merge number inner) = plan.Merge outer number inner
-
--- the one that costs less, the first where both cost the same
-abbrev pub better : Option Candidate → Candidate → Candidate
-better None candidate = candidate
-better (Some known) candidate = if nat_lt candidate.cost known.cost then candidate else known

@@ -1,11 +1,11 @@
-//! Plans of solved states, by their last steps.
+//! Plans of states, by their last steps.
 
 ghost use Rattle.std.specs.Prelude.{◌≡◌, ◌<◌, IfOk, length};
 ghost use Rattle.definitions.specs.Plans.Space.{Space};
 ghost use Rattle.definitions.specs.Plans.Search.{IsComplete};
 ghost use Rattle.plan_tree.specs.Plans.{path_of, plan_of};
 ghost use Rattle.join_dp.specs.Planned.{AreFromBefore, IsPlanAt, IsStepPlanAt};
-ghost use Rattle.join_dp.specs.Solving.{AllMade};
+ghost use Rattle.join_dp.specs.StatePlans.{AllMade};
 ghost use Rattle.join_dp.specs.States.{states_in};
 ghost use Rattle.join_dp.specs.Steps.{joined};
 ghost use Rattle.join_dp.specs.Views.{join_of};

@@ -1,7 +1,8 @@
 //! A least plan, with its certificate.
 
 ghost use Rattle.std.specs.Prelude.{ℕ, ◌+◌, ◌≤◌, ◌≡◌, IfOk, length};
-ghost use Rattle.definitions.specs.Plans.Exact.{IsExact};
+ghost use Rattle.definitions.specs.Plans.Certificate as certificates;
+ghost use Rattle.definitions.specs.Plans.Exact.{IsCertified, IsExact};
 ghost use Rattle.definitions.specs.Plans.Least.{IsLeast};
 ghost use Rattle.definitions.specs.Plans.Search.{certificate_below};
 ghost use Rattle.definitions.specs.Plans.Validity.{IsValid};
@@ -9,17 +10,14 @@ ghost use Rattle.plan_tree.specs.Plans.{plan_of};
 ghost use Rattle.plan_tree.specs.Certificates.{certificate_of};
 ghost use Rattle.join_dp.specs.Counting.{AreCounts, most_steps};
 ghost use Rattle.join_dp.specs.Final.{AreSolutions};
-ghost use Rattle.join_dp.specs.Solved.{told_all};
-ghost use Rattle.join_dp.specs.States.{states_in};
 ghost use Rattle.join_dp.specs.Words.{words_in};
 ghost use Rattle.plan_space.specs.Planned.{space_in};
 
-use crate::cheapest::cheapest;
+use crate::certificate::{certificate, settled_states};
 use crate::plan::plan_at;
-use crate::solve::solve;
-use crate::states::States;
+use crate::settling::settle_states;
 use plan_space::Space;
-use plan_tree::{Certificate, Plan, State, TableSet};
+use plan_tree::{Certificate, Plan};
 use std::alloc::{AllocError, Global};
 
 /// How much a search did: the states that it solved, and the steps on the way, each an access, a join or a sort whose cost was
@@ -28,6 +26,17 @@ use std::alloc::{AllocError, Global};
 pub struct Tried {
     pub solutions: u64,
     pub steps: u64,
+}
+
+/// A least plan (Selinger et al. 1979, section 5). There is a certificate that shows it, which isn't made. It fails where memory runs
+/// out.
+pub fn least_plan(alloc: Global, space: &Space<'_>) -> Result<Plan, AllocError>
+    ensures { IfOk result (λ plan. (certificate : certificates.Certificate) ×
+        IsCertified (space_in space.now) (plan_of plan) certificate) }
+{
+    let (states, place) = settle_states(alloc, space)?;
+    let plan = plan_at(alloc, &states, place)?;
+    Ok(plan)
 }
 
 /// A least plan, the certificate that shows it, and how much was tried (Selinger et al. 1979, section 5). It fails where memory
@@ -43,36 +52,14 @@ pub fn optimise(alloc: Global, space: &Space<'_>) -> Result<(Plan, Certificate, 
     ensures steps { (sorts : ℕ → ℕ) (joins : ℕ → ℕ → ℕ) → AreCounts (space_in space.now) sorts joins →
         IfOk result (λ r. r.2.steps ≤ most_steps (space_in space.now) sorts joins) }
 {
-    let states = solve(alloc, space)?;
-    let all = TableSet::first(space.table_count());
-    let Some(place) = cheapest(space, &states, all) else {
-        unreachable!()
-    };
+    let (states, place) = settle_states(alloc, space)?;
+    let target = states.at(place).found.cost;
+    let settled = settled_states(alloc, space, &states.costs)?;
     let plan = plan_at(alloc, &states, place)?;
-    let certificate = certificate(alloc, &states, states.at(place).found.cost)?;
+    let certificate = certificate(alloc, &settled, target)?;
     let tried = Tried {
-        solutions: states.len() as u64,
+        solutions: settled.len() as u64,
         steps: states.steps,
     };
     Ok((plan, certificate, tried))
-}
-
-/// The states that cost less than a target.
-fn certificate(alloc: Global, states: &States<'_>, target: u64) -> Result<Certificate, AllocError>
-    ensures { IfOk result (λ c. certificate_of c ≡ certificate_below target (told_all (states_in states.now))) }
-{
-    let mut kept = Vec::new(alloc);
-    'states: for state in &states.solved {
-        if state.found.cost < target {
-            kept.push(State {
-                tables: state.tables,
-                order: state.order,
-                cost: state.found.cost,
-            })?;
-        }
-    }
-    Ok(Certificate {
-        target,
-        states: kept,
-    })
 }

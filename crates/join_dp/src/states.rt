@@ -1,131 +1,113 @@
-//! The states that are solved so far: a set of tables and an order, each with its least plan.
+//! The states that a search has found: sets of tables and orders, with plans.
 
-ghost use Rattle.std.specs.Prelude.{ℕ, ◌≡◌, ◌+◌, ◌<◌, ◌≤◌, ◌++◌, [], ◌∷◌, IfOk, length, min, map};
+ghost use Rattle.std.specs.Prelude.{ℕ, ◌≡◌, ◌+◌, ◌<◌, ◌≤◌, [], IfOk, IfSome, IfNone, length, false};
+ghost use Rattle.definitions.specs.Plans.Cost.{limit};
+ghost use Rattle.definitions.specs.Plans.Space.{Space};
 ghost use Rattle.plan_tree.specs.Sets.{set_of};
-ghost use Rattle.join_dp.specs.Solving.{at, entries_from};
-ghost use Rattle.join_dp.specs.Counting.{AreFew};
-ghost use Rattle.join_dp.specs.Indexing.{AreStarts};
-ghost use Rattle.join_dp.specs.States.{solved_of};
+ghost use Rattle.join_dp.specs.Costs.{unknown};
+ghost use Rattle.join_dp.specs.Searching.{cost_at, IsSettled, IsOffer, IsOpen, IsNext, AreMore, AreSlotted};
+ghost use Rattle.join_dp.specs.StatePlans.{at};
+ghost use Rattle.join_dp.specs.Views.{candidate_of};
 
-use crate::set_candidates::SetCandidates;
+use crate::frontier::Frontier;
+use crate::state_costs::StateCosts;
 use crate::step::Candidate;
 use plan_tree::TableSet;
 use std::alloc::{AllocError, Global};
 
-/// A state with its least plan.
+/// A state with a plan.
 #[derive(Clone, Copy)]
-pub(crate) struct Solved<'a> {
+pub(crate) struct StatePlan<'a> {
     pub tables: TableSet,
     pub order: usize,
     pub found: Candidate<'a>,
 }
 
-/// The places of the states of one set of tables.
-#[derive(Clone, Copy)]
-pub(crate) struct Places {
-    pub start: usize,
-    pub end: usize,
-}
-
-/// The solved states, by their sets of tables in rising order, and where those of each set begin.
+/// Plans of states, each of which cost less than those found before, in the order in which they were found; the states that wait to be
+/// settled; and how many steps were looked at.
 #[derive(Drop)]
 pub(crate) struct States<'a> {
-    pub solved: Vec<Solved<'a>>,
-    pub starts: Vec<usize>,
+    pub plans: Vec<StatePlan<'a>>,
+    pub costs: StateCosts,
+    pub frontier: Frontier,
     pub steps: u64,
 }
 
 impl<'a> States<'a> {
-    ghost use Rattle.join_dp.specs.States.{states_in, starts_in};
+    ghost use Rattle.join_dp.specs.StateCosts.{costs_of};
+    ghost use Rattle.join_dp.specs.States.{search_of, states_in, state_plan_of};
 
-    /// No states. None is of the empty set, so that those of the first set begin where those of the empty one do.
-    pub fn new(alloc: Global) -> Result<States<'a>, AllocError>
+    /// No states, of so many sets of tables and orders.
+    pub fn new(alloc: Global, sets: usize, orders: usize) -> Result<States<'a>, AllocError>
         ensures states { IfOk result (λ s. states_in s ≡ []) }
-        ensures starts { IfOk result (λ s. starts_in s ≡ 0 ∷ 0 ∷ []) }
+        ensures waiting { IfOk result (λ s. s.frontier ≡ []) }
         ensures steps { IfOk result (λ s. s.steps ≡ 0) }
+        ensures sets { IfOk result (λ s. (costs_of s.costs).sets ≡ sets) }
+        ensures orders { IfOk result (λ s. (costs_of s.costs).orders ≡ orders) }
+        ensures costs { IfOk result (λ s. (tables order : ℕ) → (costs_of s.costs).cost tables order ≡ unknown) }
+        ensures settled { IfOk result (λ s. (tables order : ℕ) → (costs_of s.costs).settled tables order ≡ false) }
     {
-        let mut starts: Vec<usize> = Vec::new(alloc);
-        starts.push(0)?;
-        starts.push(0)?;
         Ok(States {
-            solved: Vec::new(alloc),
-            starts,
+            plans: Vec::new(alloc),
+            costs: StateCosts::new(alloc, sets, orders)?,
+            frontier: Frontier::new(alloc),
             steps: 0,
         })
     }
 
-    /// How many states are kept.
-    pub fn len(&self) -> usize
-        ensures { result ≡ length (states_in self.now) }
-    {
-        self.solved.len()
-    }
-
     /// The state at a place.
-    pub fn at(&self, place: usize) -> Solved<'a>
+    pub fn at(&self, place: usize) -> StatePlan<'a>
         requires { place < length (states_in self.now) }
-        ensures { solved_of result ≡ at (states_in self.now) place }
+        ensures { state_plan_of result ≡ at (states_in self.now) place }
     {
-        self.solved[place]
+        self.plans[place]
     }
 
-    /// The places of the states of a set.
-    pub fn places(&self, tables: TableSet) -> Places
-        requires starts { AreStarts (states_in self.now) (starts_in self.now) }
-        requires known { set_of tables + 1 < length (starts_in self.now) }
-        ensures rising { result.start ≤ result.end }
-        ensures few { (most : ℕ) → AreFew most (starts_in self.now) → result.end ≤ result.start + most }
-        ensures within { result.end ≤ length (states_in self.now) }
-        ensures there { (place : ℕ) → result.start ≤ place → place < result.end →
-            (at (states_in self.now) place).tables ≡ set_of tables }
-        ensures all { (place : ℕ) → place < length (states_in self.now) →
-            (at (states_in self.now) place).tables ≡ set_of tables → (result.start ≤ place) × (place < result.end) }
-    {
-        let place = tables.place();
-        Places {
-            start: self.starts[place],
-            end: self.starts[place + 1],
-        }
-    }
-
-    /// Puts the states of the next set behind those before.
-    pub fn push_candidates(
+    /// Looks at a plan of a state, which counts as one step, and keeps it if it costs less than the one that is known.
+    pub fn offer(
         &mut self,
         tables: TableSet,
-        candidates: &SetCandidates<'a>,
+        order: usize,
+        found: Candidate<'a>,
     ) -> Result<(), AllocError>
-        ensures states { IfOk result (λ _. states_in self.new
-            ≡ states_in self.old ++ entries_from (set_of tables) 0 candidates.now.found) }
-        ensures starts { IfOk result (λ _. starts_in self.new
-            ≡ starts_in self.old ++ length (states_in self.new) ∷ []) }
-        ensures counted { IfOk result (λ _. length (states_in self.old) ≤ self.old.steps →
-            length (states_in self.new) ≤ self.new.steps) }
-        ensures steps { IfOk result (λ _. self.new.steps ≡ min (self.old.steps + candidates.now.steps) 18446744073709551615) }
+        requires set { set_of tables < (costs_of self.old.costs).sets }
+        requires order { order < (costs_of self.old.costs).orders }
+        ensures is_open { IfOk result (λ _. (space : Space) (level : ℕ) → IsOffer space level (search_of self.old)
+            (set_of tables) order (candidate_of found.entry) → IsOpen space level (search_of self.new)) }
+        ensures more { IfOk result (λ _. (space : Space) (level : ℕ) → IsOffer space level (search_of self.old)
+            (set_of tables) order (candidate_of found.entry) → AreMore (search_of self.old) (search_of self.new)) }
+        ensures here { IfOk result (λ _. cost_at (search_of self.new) (set_of tables) order ≤ found.entry.cost) }
+        ensures steps { IfOk result (λ _. self.new.steps ≤ self.old.steps + 1) }
     {
-        push_states(&mut self.solved, tables, candidates)?;
-        self.starts.push(self.solved.len())?;
-        self.steps = self.steps.saturating_add(candidates.steps());
-        Ok(())
-    }
-}
-
-/// Puts the states of a row behind those before.
-fn push_states<'a>(
-    solved: &mut Vec<Solved<'a>>,
-    tables: TableSet,
-    candidates: &SetCandidates<'a>,
-) -> Result<(), AllocError>
-    ensures { IfOk result (λ _. map solved_of solved.new.items
-        ≡ map solved_of solved.old.items ++ entries_from (set_of tables) 0 candidates.now.found) }
-{
-    'orders: for order in 0..candidates.len() {
-        if let Some(found) = candidates.at(order) {
-            solved.push(Solved {
+        self.steps = self.steps.saturating_add(1);
+        if found.cost < self.costs.cost(tables, order) {
+            self.costs.find(tables, order, found.cost)?;
+            self.frontier.push(found.cost, self.plans.len())?;
+            self.plans.push(StatePlan {
                 tables,
                 order,
                 found,
             })?;
         }
+        Ok(())
     }
-    Ok(())
+
+    /// Settles the cheapest state that waits, and tells the place of its plan.
+    pub fn settle_next(&mut self) -> Option<usize>
+        requires slotted { AreSlotted (search_of self.old) }
+        ensures next { IfSome result (λ place. (space : Space) (level : ℕ) → IsOpen space level (search_of self.old) →
+            IsNext space level place (search_of self.old) (search_of self.new)) }
+        ensures all { IfNone result ((space : Space) (level : ℕ) → IsOpen space level (search_of self.old) →
+            (tables order : ℕ) → cost_at (search_of self.old) tables order ≤ limit →
+            IsSettled (search_of self.old) tables order) }
+    {
+        'waiting: while let Some((_, place)) = self.frontier.pop() {
+            let state = self.at(place);
+            if !self.costs.is_settled(state.tables, state.order) {
+                self.costs.settle(state.tables, state.order);
+                return Some(place);
+            }
+        }
+        None
+    }
 }

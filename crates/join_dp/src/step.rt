@@ -1,6 +1,6 @@
 //! The last step of a plan, and candidates for the least plan of a state.
 
-use plan_tree::{Path, TableSet};
+use plan_tree::Path;
 
 /// A join with one more table: a path of it, or a merge by a conjunct with a path of it, whose rows may have to be sorted.
 #[derive(Clone, Copy)]
@@ -15,7 +15,7 @@ pub(crate) enum Join<'a> {
     },
 }
 
-/// The last access or join of a plan. A join goes on from the plan of a state that is solved, which stands at a place.
+/// The last access or join of a plan. A join goes on from the plan of a state, which stands at a place.
 #[derive(Clone, Copy)]
 pub(crate) enum Step<'a> {
     Access { path: &'a Path },
@@ -33,7 +33,6 @@ pub(crate) struct Candidate<'a> {
 /// A join of a set of tables with one more, and what it adds to the cost of a plan.
 #[derive(Clone, Copy)]
 pub(crate) struct AddedJoin<'a> {
-    pub tables: TableSet,
     pub table: usize,
     pub join: Join<'a>,
     pub cost: u64,

@@ -1,17 +1,12 @@
 -- Which table may follow a set of tables.
-use Rattle.std.proofs.Common.{◌≡◌, ◌∙◌, ◌⊎◌, inl, inr, sym, ap, subst, ℕ, ◌<◌, ◌^◌, length, get_or, true, false, arith}
+use Rattle.std.proofs.Common.{◌≡◌, ◌∙◌, ◌⊎◌, inl, inr, sym, subst, ℕ, ◌<◌, true, false, arith}
 use Rattle.std.specs.Int.{bit_at}
-use Rattle.std.proofs.lemmas.List.{get_or-map}
 use Rattle.std.proofs.lemmas.Nat.Bits.{bit_at-zero, same_from_bits}
 use Rattle.definitions.specs.Plans.TableSet.{TableSet, Has, Lacks, no_tables}
 use Rattle.definitions.specs.Plans.Space.{Space}
 use Rattle.definitions.specs.Plans.PlanSpace.{Links, MayFollow}
 use Rattle.definitions.proofs.PlanTheory.TableSets.{has_or_lacks}
-use Rattle.plan_tree.specs.Sets.{set_of}
-use Rattle.plan_tree.specs.declared.table_set.TableSet.{TableSet as Code}
 use Rattle.plan_space.specs.Linked.{AreLinked}
-use Rattle.plan_space.specs.JoinGraph.{AreLinks}
-use Rattle.plan_space.specs.declared.join_graph.JoinGraph.{JoinGraph}
 
 module _ (space : Space) (count : ℕ) (set linked : TableSet) (table : ℕ) (e : space.table_count ≡ count)
     (below : table < count) (lacks : Lacks set table) (are : AreLinked space count set linked) where
@@ -41,9 +36,6 @@ module _ (space : Space) (count : ℕ) (set linked : TableSet) (table : ℕ) (e 
       of_case (inr (inl links)) = let h = (are table).1 (below, lacks, links) in absurd (omega (arith, h, not_linked))
       of_case (inr (inr none)) = same_from_bits linked 0 (λ u. of_bit none u (has_or_lacks linked u))
 
--- the entry of a set, as it is read
-pub read_linked : (space : Space) (l : JoinGraph) (set : ℕ) (x : Code) → set < 2 ^ l.tables → x ≡ get_or l.linked.items set x → AreLinks space l
-    → AreLinked space l.tables set (set_of x)
-read_linked space l set x below r are =
-    let inside : set < length l.linked.items = omega (arith, below, l.whole) in
-    subst (AreLinked space l.tables set) (get_or-map set_of l.linked.items set x no_tables inside ∙ ap set_of (sym r)) (are set below)
+-- where products are free, any table outside the set may
+pub free_follows : (space : Space) (set : TableSet) (table : ℕ) → table < space.table_count → Lacks set table → space.free_products ≡ true → MayFollow space set table
+free_follows space set table below lacks free = (below, lacks, inl free)

@@ -4,14 +4,12 @@ use Rattle.std.specs.Prelude.{AllPairs, Contains}
 use Rattle.std.specs.List.{AllByRecursion}
 use Rattle.std.proofs.lemmas.List.{get_or-map, length-map}
 use Rattle.definitions.specs.Plans.TableSet.{TableSet}
-use Rattle.definitions.specs.Plans.Path.{Path, table_of}
+use Rattle.definitions.specs.Plans.Path.{Path}
 use Rattle.definitions.specs.Plans.Space.{Space}
-use Rattle.definitions.specs.Plans.PlanSpace.{IsPath}
 use Rattle.definitions.specs.Plans.Cost.{limit, saturated, loop_cost}
-use Rattle.definitions.proofs.PlanTheory.Elements.{first_is, later, first_or_rest, not_in_empty}
+use Rattle.definitions.proofs.PlanTheory.Elements.{first_is, later}
 use Rattle.plan_space.specs.Item.{Item, AreItems}
 use Rattle.plan_space.specs.Loop.{LoopItem, with_scans, IsLoopItem, AreLoops}
-use Rattle.plan_space.proofs.Lists.{has_each, all_mapped}
 use Rattle.plan_space.proofs.PathItems.{IsPathItem, each_path, found_item}
 
 small : (n : ℕ) → saturated n ≤ limit

@@ -1,15 +1,13 @@
 -- What a space keeps.
-use Rattle.std.specs.Prelude.{◌≡◌, ◌<◌, ◌≤◌, ◌^◌, length}
+use Rattle.std.specs.Prelude.{◌≡◌, ◌<◌, ◌≤◌, length}
 use Rattle.definitions.specs.Limits.{most_from_tables}
 use Rattle.query_tree.specs.Bound.{block_of}
 use Rattle.interesting_orders.specs.Versions.{version_of}
 use Rattle.plan_space.specs.PathLists as block_paths
 use Rattle.plan_space.specs.MergeLists as block_merges
-use Rattle.estimate.specs.Sets as set_estimates
 use Rattle.interesting_orders.specs.Uses as order_uses
 use Rattle.plan_space.specs.Planned.{Planned, space_in}
 use Rattle.definitions.specs.Plans.Search.{IsComplete}
-use Rattle.plan_space.specs.Links.{LinksSay}
 use Rattle.plan_space.specs.declared.space.Space.TheInside.{Inside}
 
 abbrev pub planned : Inside → Planned
@@ -26,8 +24,4 @@ pub record IsPlanSpace (s : Inside) : Type 0 where
   pub paths_count : block_paths.tables_in s.paths ≡ (space_in (planned s)).table_count
   pub merges : block_merges.AreBlockMerges (space_in (planned s)) s.merges
   pub merges_count : block_merges.tables_in s.merges ≡ (space_in (planned s)).table_count
-  pub estimates : set_estimates.AreEstimates s.estimate.database (block_of s.estimate.block) s.estimates
-  pub estimates_count : set_estimates.tables_in s.estimates ≡ (space_in (planned s)).table_count
   pub uses : order_uses.AreUses (space_in (planned s)) s.uses
-  pub uses_count : order_uses.sets_in s.uses ≡ 2 ^ (space_in (planned s)).table_count
-  pub links : LinksSay (space_in (planned s)) s.join_graph

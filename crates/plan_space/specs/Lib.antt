@@ -3,7 +3,6 @@ pub use Rattle.definitions.specs.Estimates
 pub use Rattle.definitions.specs.Plans.Cost
 pub use Rattle.definitions.specs.Plans.Search
 pub mod Linked
-pub mod JoinGraph
 pub mod Item
 pub mod Items
 pub mod PathListed
@@ -15,7 +14,7 @@ pub mod Merges
 pub mod MergeListed
 pub mod MergeLists
 pub mod Planned
-pub mod Links
+pub mod Relation
 pub mod Inside
 pub mod Measures
 pub mod BlockPlans

@@ -1,65 +1,20 @@
 //! Tables that are linked to sets of tables.
 
-ghost use Rattle.std.specs.Prelude.{◌≡◌, ◌+◌, ◌<◌, ◌≤◌, ◌^◌, length, map, false, IfOk};
+ghost use Rattle.std.specs.Prelude.{◌≡◌, ◌+◌, ◌<◌, ◌≤◌, map};
 ghost use Rattle.std.specs.Bool.{Decides};
 ghost use Rattle.definitions.specs.Limits.{most_from_tables};
 ghost use Rattle.definitions.specs.Plans.Space.{Space};
-ghost use Rattle.definitions.specs.Plans.PlanSpace.{Links, MayFollow};
+ghost use Rattle.definitions.specs.Plans.PlanSpace.{Links};
 ghost use Rattle.plan_tree.specs.Sets.{set_of};
 ghost use Rattle.estimate.specs.PlanConjuncts.{conjunct_of};
 ghost use Rattle.plan_space.specs.Linked.{AreLinked, Connect, LinksBy};
 
 use estimate::PlanConjunct;
 use plan_tree::TableSet;
-use std::alloc::{AllocError, Global};
 
-/// Which tables are linked to each set of a block's tables.
-#[derive(Drop)]
-pub struct JoinGraph {
-    tables: usize,
-    // the linked tables of each set, in the order of the sets' places
-    linked: Vec<TableSet>,
-    ghost whole: { length linked.items ≡ 2 ^ tables },
-}
-
-impl JoinGraph {
-    ghost use Rattle.plan_space.specs.JoinGraph.{tables_in, AreLinks};
-
-    /// The links that a block's early conjuncts make: each set of its tables with the tables outside it that a conjunct names
-    /// together with one of the set, and with no others (Selinger et al. 1979, section 5; that it holds them for all sets is own).
-    /// It looks at each conjunct for each set and table. They take 2 bytes for each set.
-    pub fn new(
-        alloc: Global,
-        conjuncts: &[PlanConjunct],
-        tables: usize,
-    ) -> Result<JoinGraph, AllocError>
-        requires tables { tables ≤ most_from_tables }
-        ensures tables { IfOk result (λ l. tables_in l ≡ tables) }
-        ensures links { (space : Space) → space.conjuncts ≡ map conjunct_of conjuncts.now →
-            IfOk result (AreLinks space) }
-    {
-        let mut linked = Vec::new(alloc);
-        'sets: for place in 0..1 << tables {
-            linked.push(linked_to(conjuncts, TableSet::at(place), tables))?;
-        }
-        Ok(JoinGraph { tables, linked })
-    }
-
-    /// Whether a table may come next after a set of tables: it is outside the set, and linked to it where any table is, so that
-    /// products of tables come last (Selinger et al. 1979, section 5). It takes constant time.
-    pub fn can_join_next(&self, set: TableSet, table: usize) -> bool
-        requires set { set_of set < 2 ^ tables_in self.now }
-        requires table { table < tables_in self.now }
-        ensures { (space : Space) → space.table_count ≡ tables_in self.now → space.free_products ≡ false →
-            AreLinks space self.now → Decides result (MayFollow space (set_of set) table) }
-    {
-        let linked = self.linked[set.place()];
-        !set.has(table) && (linked.has(table) || linked.is_empty())
-    }
-}
-
-/// The tables outside a set that are linked to it, among so many.
-fn linked_to(conjuncts: &[PlanConjunct], set: TableSet, tables: usize) -> TableSet
+/// The tables of the join graph that are linked to a set, among so many: those outside it that an early conjunct names together with
+/// one of the set, and with no others (Selinger et al. 1979, section 5). It looks at each conjunct for each table.
+pub(crate) fn linked_to(conjuncts: &[PlanConjunct], set: TableSet, tables: usize) -> TableSet
     requires { tables ≤ most_from_tables }
     ensures { (space : Space) → space.conjuncts ≡ map conjunct_of conjuncts.now →
         AreLinked space tables (set_of set) (set_of result) }

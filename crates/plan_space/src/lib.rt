@@ -4,6 +4,7 @@
 
 mod block_plan;
 mod join_graph;
+mod join_relation;
 mod listed;
 mod loop_joins;
 mod merge_joins;
@@ -18,7 +19,7 @@ mod summarising;
 
 pub use block_plan::BlockPlan;
 pub use interesting_orders::{Sorts, Version};
-pub use join_graph::JoinGraph;
+pub use join_relation::JoinRelation;
 pub use loop_joins::{CostedLoop, Loops};
 pub use merge_joins::{CostedMerge, Merges};
 pub use merge_lists::BlockMerges;

@@ -1,21 +1,18 @@
 //! The merges that may bring tables, for every set of tables.
 
-ghost use Rattle.std.specs.Prelude.{◌≡◌, ◌<◌, ◌*◌, ◌^◌, IfOk, IfSome, OnOk, length, map};
+ghost use Rattle.std.specs.Prelude.{◌≡◌, ◌<◌, ◌*◌, IfOk, IfSome, OnOk, length, map};
 ghost use Rattle.definitions.specs.Limits.{most_from_tables};
 ghost use Rattle.definitions.specs.Plans.Cost.{saturated};
 ghost use Rattle.definitions.specs.Plans.PlanSpace.{IsPath};
 ghost use Rattle.definitions.specs.Plans.Space.{Space};
 ghost use Rattle.definitions.specs.Plans.TableSet.{no_tables, only};
 ghost use Rattle.definitions.specs.Estimates.BlockSpace.{space_of};
-ghost use Rattle.definitions.specs.Estimates.Cardinality as estimates;
 ghost use Rattle.definitions.specs.Estimates.PlanConjuncts as plans;
 ghost use Rattle.definitions.specs.Estimates.Version as versions;
 ghost use Rattle.query_tree.specs.Bound.{block_of};
 ghost use Rattle.plan_tree.specs.Plans.{path_of};
 ghost use Rattle.plan_tree.specs.Sets.{set_of};
-ghost use Rattle.interesting_orders.specs.Uses as order_uses;
-ghost use Rattle.interesting_orders.specs.Uses.{AreUses};
-ghost use Rattle.estimate.specs.Sets as set_estimates;
+ghost use Rattle.interesting_orders.specs.Uses.{AreClassesIn, AreUses};
 ghost use Rattle.plan_space.specs.Item.{AreItems, IsItem};
 ghost use Rattle.plan_space.specs.Items.{item_of};
 ghost use Rattle.plan_space.specs.PathLists as block_paths;
@@ -26,8 +23,8 @@ use crate::listed::{MergeClause, MergeJoinPath};
 use crate::merge_joins::Merges;
 use crate::path_lists::BlockPaths;
 use crate::paths::{CostedPath, Paths};
-use estimate::{Estimate, SetEstimates};
-use interesting_orders::InterestingOrders;
+use estimate::Estimate;
+use interesting_orders::{EquivalenceClasses, InterestingOrders};
 use plan_tree::{Path, TableSet, saturate};
 use std::alloc::{AllocError, Global};
 
@@ -40,28 +37,23 @@ pub struct BlockMerges {
 impl BlockMerges {
     ghost use Rattle.plan_space.specs.MergeLists.{tables_in, AreBlockMerges};
 
-    /// The merges of a block, by the paths of its tables, what its orders serve for, and what sorts cost.
+    /// The merges of a block, by the paths of its tables and what its orders serve for.
     pub fn new(
         alloc: Global,
         estimate: &Estimate,
         paths: &BlockPaths,
         uses: &InterestingOrders,
-        estimates: &SetEstimates,
     ) -> Result<BlockMerges, AllocError>
         requires paths { block_paths.tables_in paths.now ≡ length (block_of estimate.now.block).tables }
-        requires uses { order_uses.sets_in uses.now ≡ 2 ^ length (block_of estimate.now.block).tables }
-        requires estimates { set_estimates.tables_in estimates.now ≡ length (block_of estimate.now.block).tables }
         ensures tables { IfOk result (λ m. tables_in m ≡ length (block_of estimate.now.block).tables) }
         ensures merges { (version : versions.Version) →
             block_paths.AreBlockPaths version estimate.now.database (block_of estimate.now.block) paths.now →
             AreUses (space_of version estimate.now.database (block_of estimate.now.block)) uses.now →
-            set_estimates.AreEstimates estimate.now.database (block_of estimate.now.block) estimates.now →
             IfOk result (AreBlockMerges (space_of version estimate.now.database (block_of estimate.now.block))) }
     {
         let mut tables = Vec::new(alloc);
         'tables: for table in 0..estimate.table_count() {
-            let sort_cost = estimates.sort_cost(TableSet::only(table));
-            tables.push(table_merges(alloc, estimate, paths, uses, table, sort_cost)?)?;
+            tables.push(table_merges(alloc, estimate, paths, uses, table)?)?;
         }
         Ok(BlockMerges { tables })
     }
@@ -78,32 +70,33 @@ impl BlockMerges {
     }
 }
 
-/// The merges that may bring a table, whose rows cost so much to sort.
+/// The merges that may bring a table.
 fn table_merges(
     alloc: Global,
     estimate: &Estimate,
     paths: &BlockPaths,
     uses: &InterestingOrders,
     table: usize,
-    sort_cost: u64,
 ) -> Result<Vec<MergeJoinPath>, AllocError>
     requires table { table < length (block_of estimate.now.block).tables }
     requires few { table < most_from_tables }
     requires paths { block_paths.tables_in paths.now ≡ length (block_of estimate.now.block).tables }
-    requires uses { order_uses.sets_in uses.now ≡ 2 ^ length (block_of estimate.now.block).tables }
     ensures { (version : versions.Version) → block_paths.AreBlockPaths version estimate.now.database
         (block_of estimate.now.block) paths.now → AreUses
         (space_of version estimate.now.database (block_of estimate.now.block)) uses.now →
-        sort_cost ≡ estimates.sort_cost estimate.now.database (block_of estimate.now.block) (only table) →
         IfOk result (λ merges. AreMergesOf (space_of version estimate.now.database (block_of estimate.now.block))
         table (map found_merge_of merges.items)) }
 {
+    let alone = TableSet::only(table);
+    let sort_cost = estimate.sort_cost(alone);
+    let classes = uses.classes(alone);
     let mut merges = Vec::new(alloc);
     'conjuncts: for conjunct in 0..estimate.conjuncts().len() {
         if let Some(clause) = merge_way(estimate, uses, table, conjunct, sort_cost) {
             add_merges(
                 &mut merges,
                 uses,
+                &classes,
                 clause,
                 paths.paths(estimate, TableSet::none(), table),
             )?;
@@ -137,22 +130,24 @@ fn merge_way(
     })
 }
 
-/// Adds the merges of a conjunct: each path of the table that needs no rows of others, sorted, and as it is where its order serves.
+/// Adds the merges of a conjunct: each path of the table that needs no rows of others, sorted, and as it is where its order serves, by
+/// the classes of columns under the table alone.
 fn add_merges(
     merges: &mut Vec<MergeJoinPath>,
     uses: &InterestingOrders,
+    classes: &EquivalenceClasses,
     clause: MergeClause,
     paths: Paths<'_>,
 ) -> Result<(), AllocError>
-    requires { only clause.table < order_uses.sets_in uses.now }
-    ensures { (space : Space) → AreUses space uses.now → IsWay space clause.table clause.conjunct (Some clause) →
+    ensures { (space : Space) → AreUses space uses.now → AreClassesIn space (only clause.table) uses.now classes.now →
+        IsWay space clause.table clause.conjunct (Some clause) →
         AreItems space no_tables clause.table paths.entry → ListsPathsOnce space clause.table →
         OnOk result (AddsMerges space clause.table clause.conjunct (map found_merge_of merges.old.items)
         (map found_merge_of merges.new.items)) }
 {
     let mut rest = paths;
     'paths: while let Some(item) = rest.next() {
-        add_path(merges, uses, clause, item)?;
+        add_path(merges, uses, classes, clause, item)?;
     }
     Ok(())
 }
@@ -161,23 +156,20 @@ fn add_merges(
 fn add_path(
     merges: &mut Vec<MergeJoinPath>,
     uses: &InterestingOrders,
+    classes: &EquivalenceClasses,
     clause: MergeClause,
     item: CostedPath<'_>,
 ) -> Result<(), AllocError>
-    requires { only clause.table < order_uses.sets_in uses.now }
-    ensures { (space : Space) → AreUses space uses.now → IsWay space clause.table clause.conjunct (Some clause) →
+    ensures { (space : Space) → AreUses space uses.now → AreClassesIn space (only clause.table) uses.now classes.now →
+        IsWay space clause.table clause.conjunct (Some clause) →
         IsItem space no_tables clause.table (item_of item.entry) → IsPath space no_tables (path_of item.entry.path.now) →
         OnOk result (AddsPath space clause.table clause.conjunct (path_of item.entry.path.now)
         (map found_merge_of merges.old.items) (map found_merge_of merges.new.items)) }
 {
     let sorted = saturate(u128::from(item.cost) + u128::from(clause.sort_cost));
     merges.push(merge_path(clause, item.path, true, sorted)?)?;
-    if uses.goes_by(
-        TableSet::only(clause.table),
-        item.order,
-        clause.conjunct,
-        clause.other,
-    ) {
+    let alone = TableSet::only(clause.table);
+    if uses.goes_by(classes, alone, item.order, clause.conjunct, clause.other) {
         merges.push(merge_path(clause, item.path, false, item.cost)?)?;
     }
     Ok(())

@@ -1,31 +1,30 @@
 //! The plan space of a block.
 
-ghost use Rattle.std.specs.Prelude.{◌≡◌, ◌<◌, ◌≤◌, ◌^◌, IfOk, length};
+ghost use Rattle.std.specs.Prelude.{◌≡◌, ◌<◌, ◌≤◌, IfOk, length};
 ghost use Rattle.std.specs.Bool.{Decides};
 ghost use Rattle.definitions.specs.Limits.{most_from_tables};
-ghost use Rattle.definitions.specs.Estimates.BlockSpace.{space_of};
 ghost use Rattle.definitions.specs.Estimates.Laws.{HasPlans};
 ghost use Rattle.definitions.specs.Plans.ColumnClass.{Satisfies};
 ghost use Rattle.definitions.specs.Plans.Cost.{limit, cost_of};
 ghost use Rattle.definitions.specs.Plans.Folding.{Folds};
-ghost use Rattle.definitions.specs.Plans.PlanSpace.{MayFollow, CanSort, InSpace};
+ghost use Rattle.definitions.specs.Plans.PlanSpace.{CanSort, InSpace};
 ghost use Rattle.definitions.specs.Plans.Space.{whole, order_at};
 ghost use Rattle.definitions.specs.Plans.TableSet.{only};
 ghost use Rattle.query_tree.specs.Bound.{block_of};
 ghost use Rattle.plan_tree.specs.Plans.{order_of, orders_in, plan_of};
 ghost use Rattle.plan_tree.specs.Sets.{set_of};
 ghost use Rattle.interesting_orders.specs.Versions.{version_of};
-ghost use Rattle.interesting_orders.specs.Merges.{GoesBy};
 ghost use Rattle.interesting_orders.specs.Sorts.{AreSorts};
 ghost use Rattle.plan_space.specs.Item.{AreItems};
 ghost use Rattle.plan_space.specs.Loop.{AreLoops};
 ghost use Rattle.plan_space.specs.Merge.{AreMerges};
 ghost use Rattle.plan_space.specs.Planned.{space_in};
 ghost use Rattle.definitions.specs.Plans.Search.{IsComplete};
-ghost use Rattle.plan_space.specs.Links.{LinksSay};
+ghost use Rattle.plan_space.specs.Relation.{IsRelation, LinksSay};
 ghost use Rattle.plan_space.specs.Measures.{Measures};
 
-use crate::join_graph::JoinGraph;
+use crate::join_graph::linked_to;
+use crate::join_relation::JoinRelation;
 use crate::loop_joins::Loops;
 use crate::merge_joins::Merges;
 use crate::merge_lists::BlockMerges;
@@ -34,14 +33,14 @@ use crate::path_lists::BlockPaths;
 use crate::paths::Paths;
 use crate::plan_summary::PlanSummary;
 use crate::summarising::summarise;
-use estimate::{Estimate, SetEstimates};
+use estimate::Estimate;
 use interesting_orders::{InterestingOrders, SortOrders, Sorts, Version, required_order};
 use plan_tree::{Plan, SortKey, TableSet, saturate};
 use std::alloc::{AllocError, Global};
 use std::marker::Model;
 
-/// The plans of a block, in one of the versions of the plan space: what each step of a plan may be, and what it costs. What a
-/// search asks for again and again is made once.
+/// The plans of a block, in one of the versions of the plan space: what each step of a plan may be, and what it costs. What is asked
+/// of a table again and again is made once, and of a set of tables where the set is met (`JoinRelation`).
 #[derive(Drop)]
 pub struct Space<'a> {
     estimate: Estimate<'a>,
@@ -49,10 +48,7 @@ pub struct Space<'a> {
     orders: SortOrders,
     paths: BlockPaths,
     merges: BlockMerges,
-    estimates: SetEstimates,
     uses: InterestingOrders,
-    // none where products are free
-    join_graph: Option<JoinGraph>,
 }
 
 impl<'a> Model for Space<'a> {
@@ -72,8 +68,8 @@ impl<'a> Model for Space<'a> {
 }
 
 impl<'a> Space<'a> {
-    /// The plan space of a block. For n tables, c conjuncts and m orders it takes 18 bytes for each of the 2^n sets of tables and
-    /// 8 for each column that a conjunct equates with another and set, and goes through the conjuncts for each set, table and order.
+    /// The plan space of a block. It keeps each table's paths and merges and each order, and goes through the conjuncts for each table
+    /// and order.
     pub fn new(
         alloc: Global,
         estimate: Estimate<'a>,
@@ -88,7 +84,6 @@ impl<'a> Space<'a> {
         let required = required_order(alloc, estimate.block())?;
         let orders = SortOrders::new(alloc, &estimate, version, &required)?;
         let paths = BlockPaths::new(alloc, &estimate, version, &orders)?;
-        let estimates = SetEstimates::new(alloc, &estimate)?;
         let uses = InterestingOrders::new(
             alloc,
             estimate.conjuncts(),
@@ -96,17 +91,14 @@ impl<'a> Space<'a> {
             &required,
             tables,
         )?;
-        let merges = BlockMerges::new(alloc, &estimate, &paths, &uses, &estimates)?;
-        let join_graph = join_graph_of(alloc, &estimate, version)?;
+        let merges = BlockMerges::new(alloc, &estimate, &paths, &uses)?;
         Ok(Space {
             estimate,
             version,
             orders,
             paths,
             merges,
-            estimates,
             uses,
-            join_graph,
         })
     }
 
@@ -142,17 +134,29 @@ impl<'a> Space<'a> {
         self.orders.all().len()
     }
 
-    /// Whether a table may come next after a set of tables. This and the calls below, but those that say otherwise, take constant
-    /// time.
-    pub fn can_join_next(&self, tables: TableSet, table: usize) -> bool
-        requires set { set_of tables < 2 ^ (space_in self.now).table_count }
-        requires table { table < (space_in self.now).table_count }
-        ensures { Decides result (MayFollow (space_in self.now) (set_of tables) table) }
+    /// The plans on a set of tables, as joins go on from them. It looks at each conjunct for each of the tables, and takes no memory.
+    pub fn relation(&self, tables: TableSet) -> JoinRelation<'_>
+        ensures tables { result.tables ≡ tables }
+        ensures exact { IsRelation (space_in self.now) result }
     {
-        match &self.join_graph {
-            Some(join_graph) => join_graph.can_join_next(tables, table),
-            None => !tables.has(table),
+        JoinRelation {
+            tables,
+            rows: self.cardinality(tables),
+            uses: &self.uses,
+            classes: self.uses.classes(tables),
+            linked: self.linked(tables),
         }
+    }
+
+    /// The tables that conjuncts link to a set of tables; none where products of tables are free.
+    fn linked(&self, tables: TableSet) -> Option<TableSet>
+        ensures { LinksSay (space_in self.now) (set_of tables) result }
+    {
+        if self.version.has_free_products() {
+            return None;
+        }
+        let conjuncts = self.estimate.conjuncts();
+        Some(linked_to(conjuncts, tables, self.estimate.table_count()))
     }
 
     /// The paths of a table where the rows of a set of tables are known. It looks at each conjunct once, and at each path of the table
@@ -166,23 +170,22 @@ impl<'a> Space<'a> {
 
     /// The loops over a table on top of plans on a set of tables, each with what it adds to a plan's cost, at most 10^18 (Selinger et
     /// al. 1979, section 5). It looks at each path of the table as it comes to it.
-    pub fn loops(&self, tables: TableSet, table: usize) -> Loops<'_>
-        requires set { set_of tables < 2 ^ (space_in self.now).table_count }
+    pub fn loops(&self, outer: &JoinRelation<'_>, table: usize) -> Loops<'_>
+        requires outer { IsRelation (space_in self.now) outer.now }
         requires table { table < (space_in self.now).table_count }
-        ensures { AreLoops (space_in self.now) (set_of tables) table result }
+        ensures { AreLoops (space_in self.now) (set_of outer.now.tables) table result }
     {
-        Loops::new(self.paths(tables, table), self.cardinality(tables))
+        Loops::new(self.paths(outer.tables, table), outer.rows)
     }
 
     /// The merges that bring a table on top of plans on a set of tables. It looks at each merge of the table as it comes to it.
-    pub fn merges(&self, tables: TableSet, table: usize) -> Merges<'_>
-        requires set { set_of tables < 2 ^ (space_in self.now).table_count }
+    pub fn merges(&self, outer: &JoinRelation<'_>, table: usize) -> Merges<'_>
+        requires outer { IsRelation (space_in self.now) outer.now }
         requires table { table < (space_in self.now).table_count }
-        ensures { AreMerges (space_in self.now) (set_of tables) table result }
+        ensures { AreMerges (space_in self.now) (set_of outer.now.tables) table result }
     {
-        let outer = u128::from(self.cardinality(tables));
-        let inner = u128::from(self.table_rows(table));
-        self.merges.merges(tables, table, saturate(outer * inner))
+        let pairs = u128::from(outer.rows) * u128::from(self.table_rows(table));
+        self.merges.merges(outer.tables, table, saturate(pairs))
     }
 
     /// Whether rows of a set of tables may be sorted into an order.
@@ -197,14 +200,6 @@ impl<'a> Space<'a> {
         ensures { AreSorts (space_in self.now) (set_of tables) result }
     {
         self.uses.sorts(tables)
-    }
-
-    /// Whether an order of plans on a set of tables goes by the set's column of a merge conjunct, by which a table comes next.
-    pub fn goes_by(&self, tables: TableSet, order: usize, conjunct: usize, table: usize) -> bool
-        requires { set_of tables < 2 ^ (space_in self.now).table_count }
-        ensures { Decides result (GoesBy (space_in self.now) (set_of tables) order conjunct table) }
-    {
-        self.uses.goes_by(tables, order, conjunct, table)
     }
 
     /// The fold of an order at a set of tables: itself where it is still of use, else the empty one.
@@ -223,15 +218,15 @@ impl<'a> Space<'a> {
         self.uses.gives_required(order)
     }
 
-    /// Whether rows of plans on a set of tables in one order are in another, too; an order without a number is empty. It goes through
-    /// the keys.
+    /// Whether rows of plans on a set of tables in one order are in another, too; an order without a number is empty. It looks at each
+    /// conjunct, and goes through the keys.
     pub fn satisfies(&self, tables: TableSet, order: usize, wanted: usize) -> bool
-        requires { set_of tables < 2 ^ (space_in self.now).table_count }
         ensures { Decides result (Satisfies (space_in self.now) (set_of tables) (order_at (space_in self.now) order)
             (order_at (space_in self.now) wanted)) }
     {
+        let classes = self.uses.classes(tables);
         self.uses
-            .satisfies(tables, self.keys(order), self.keys(wanted))
+            .satisfies(&classes, self.keys(order), self.keys(wanted))
     }
 
     /// The keys of an order; one without a number is empty.
@@ -244,13 +239,12 @@ impl<'a> Space<'a> {
         }
     }
 
-    /// How many rows a set of tables is taken to give.
+    /// How many rows a set of tables is taken to give. It looks at each conjunct for each of the tables.
     pub fn cardinality(&self, tables: TableSet) -> u64
-        requires { set_of tables < 2 ^ (space_in self.now).table_count }
         ensures exact { result ≡ (space_in self.now).cardinality (set_of tables) }
         ensures below { result ≤ limit }
     {
-        self.estimates.cardinality(tables)
+        self.estimate.cardinality(tables)
     }
 
     /// How many rows a table is taken to give, with what is known of it alone.
@@ -259,16 +253,15 @@ impl<'a> Space<'a> {
         ensures exact { result ≡ (space_in self.now).cardinality (only table) }
         ensures below { result ≤ limit }
     {
-        self.estimates.cardinality(TableSet::only(table))
+        self.estimate.cardinality(TableSet::only(table))
     }
 
-    /// What a sort of the rows of a set of tables costs.
+    /// What a sort of the rows of a set of tables costs. It looks at each conjunct for each of the tables.
     pub fn sort_cost(&self, tables: TableSet) -> u64
-        requires { set_of tables < 2 ^ (space_in self.now).table_count }
         ensures exact { result ≡ (space_in self.now).sort_cost (set_of tables) }
         ensures below { result ≤ limit }
     {
-        self.estimates.sort_cost(tables)
+        self.estimate.sort_cost(tables)
     }
 
     /// Adds what a reader should know of the figures that the block's plans rest on, where the block has this number and its least plan
@@ -306,20 +299,4 @@ impl<'a> Space<'a> {
             None => unreachable!(),
         }
     }
-}
-
-/// The links of a block's tables, where products come last.
-fn join_graph_of(
-    alloc: Global,
-    estimate: &Estimate,
-    version: Version,
-) -> Result<Option<JoinGraph>, AllocError>
-    ensures { IfOk result (λ join_graph. LinksSay (space_of (version_of version) estimate.now.database
-        (block_of estimate.now.block)) join_graph) }
-{
-    if version.has_free_products() {
-        return Ok(None);
-    }
-    let join_graph = JoinGraph::new(alloc, estimate.conjuncts(), estimate.table_count())?;
-    Ok(Some(join_graph))
 }

@@ -1,6 +1,6 @@
 //! Sums a plan up: its tables, its order and its cost, if it is a plan of the block.
 
-ghost use Rattle.std.specs.Prelude.{◌≡◌, ◌<◌, ◌^◌, true, IfSome, option_map};
+ghost use Rattle.std.specs.Prelude.{◌≡◌, ◌<◌, true, IfSome, option_map};
 ghost use Rattle.std.specs.Bool.{Decides};
 ghost use Rattle.definitions.specs.Limits.{most_from_tables};
 ghost use Rattle.definitions.specs.Plans.Path.{table_of};
@@ -12,8 +12,10 @@ ghost use Rattle.plan_space.specs.Items.{item_of};
 ghost use Rattle.plan_space.specs.Loops.{loop_of};
 ghost use Rattle.plan_space.specs.Merges.{merge_of};
 ghost use Rattle.plan_space.specs.Planned.{space_in};
+ghost use Rattle.plan_space.specs.Relation.{IsRelation};
 ghost use Rattle.plan_space.specs.Measures.{IsMeasured, Measures, IsPathFound, IsLoopFound, IsMergeFound};
 
+use crate::join_relation::JoinRelation;
 use crate::loop_joins::CostedLoop;
 use crate::merge_joins::CostedMerge;
 use crate::paths::CostedPath;
@@ -52,14 +54,14 @@ fn access_summary(space: &Space, path: &Path) -> Option<PlanSummary>
 
 /// What a loop comes to, on top of a plan.
 fn loop_summary(space: &Space, outer: PlanSummary, path: &Path) -> Option<PlanSummary>
-    requires { set_of outer.tables < 2 ^ (space_in space.now).table_count }
     ensures { (plan : trees.Plan) → IsMeasured (space_in space.now) plan outer →
         Measures (space_in space.now) (trees.Loop plan (path_of path.now)) result }
 {
-    if !follows(space, outer.tables, path.table()) {
+    let relation = space.relation(outer.tables);
+    if !follows(space, &relation, path.table()) {
         return None;
     }
-    let item = find_loop(space, outer.tables, path)?;
+    let item = find_loop(space, &relation, path)?;
     Some(PlanSummary {
         tables: outer.tables.with(path.table()),
         order: outer.order,
@@ -74,18 +76,18 @@ fn merge_summary(
     conjunct: usize,
     inner: &Inner,
 ) -> Option<PlanSummary>
-    requires { set_of outer.tables < 2 ^ (space_in space.now).table_count }
     ensures { (plan : trees.Plan) → IsMeasured (space_in space.now) plan outer →
         Measures (space_in space.now) (trees.Merge plan conjunct (inner_of inner.now)) result }
 {
+    let relation = space.relation(outer.tables);
     let table = inner.path.table();
-    if !follows(space, outer.tables, table) {
+    if !follows(space, &relation, table) {
         return None;
     }
-    if !space.goes_by(outer.tables, outer.order, conjunct, table) {
+    if !relation.goes_by(outer.order, conjunct, table) {
         return None;
     }
-    let item = find_merge(space, outer.tables, conjunct, inner)?;
+    let item = find_merge(space, &relation, conjunct, inner)?;
     Some(PlanSummary {
         tables: outer.tables.with(table),
         order: outer.order,
@@ -95,7 +97,6 @@ fn merge_summary(
 
 /// What a sort comes to, on top of a plan.
 fn sort_summary(space: &Space, input: PlanSummary, order: usize) -> Option<PlanSummary>
-    requires { set_of input.tables < 2 ^ (space_in space.now).table_count }
     ensures { (plan : trees.Plan) → IsMeasured (space_in space.now) plan input →
         Measures (space_in space.now) (trees.Sort plan order) result }
 {
@@ -111,12 +112,12 @@ fn sort_summary(space: &Space, input: PlanSummary, order: usize) -> Option<PlanS
 }
 
 /// Whether a table, whatever its number, may come next after a set of tables.
-fn follows(space: &Space, tables: TableSet, table: usize) -> bool
-    requires { set_of tables < 2 ^ (space_in space.now).table_count }
+fn follows(space: &Space, outer: &JoinRelation<'_>, table: usize) -> bool
+    requires { IsRelation (space_in space.now) outer.now }
     ensures few { result ≡ true → table < most_from_tables }
-    ensures exact { Decides result (MayFollow (space_in space.now) (set_of tables) table) }
+    ensures exact { Decides result (MayFollow (space_in space.now) (set_of outer.now.tables) table) }
 {
-    table < space.table_count() && space.can_join_next(tables, table)
+    table < space.table_count() && outer.can_join_next(table)
 }
 
 /// A path among those where the rows of a set of tables are known.
@@ -138,12 +139,17 @@ fn find_path<'s>(space: &'s Space<'_>, known: TableSet, path: &Path) -> Option<C
 }
 
 /// A loop among those on top of plans on a set of tables.
-fn find_loop<'s>(space: &'s Space<'_>, tables: TableSet, path: &Path) -> Option<CostedLoop<'s>>
-    requires set { set_of tables < 2 ^ (space_in space.now).table_count }
+fn find_loop<'s>(
+    space: &'s Space<'_>,
+    outer: &JoinRelation<'_>,
+    path: &Path,
+) -> Option<CostedLoop<'s>>
+    requires outer { IsRelation (space_in space.now) outer.now }
     requires table { table_of (path_of path.now) < (space_in space.now).table_count }
-    ensures { IsLoopFound (space_in space.now) (set_of tables) (path_of path.now) (option_map loop_of result) }
+    ensures { IsLoopFound (space_in space.now) (set_of outer.now.tables) (path_of path.now)
+        (option_map loop_of result) }
 {
-    let mut rest = space.loops(tables, path.table());
+    let mut rest = space.loops(outer, path.table());
     'loops: while let Some(item) = rest.next() {
         if are_one(item.path, path) {
             return Some(item);
@@ -155,16 +161,16 @@ fn find_loop<'s>(space: &'s Space<'_>, tables: TableSet, path: &Path) -> Option<
 /// A merge among those on top of plans on a set of tables.
 fn find_merge<'s>(
     space: &'s Space<'_>,
-    tables: TableSet,
+    outer: &JoinRelation<'_>,
     conjunct: usize,
     inner: &Inner,
 ) -> Option<CostedMerge<'s>>
-    requires set { set_of tables < 2 ^ (space_in space.now).table_count }
+    requires outer { IsRelation (space_in space.now) outer.now }
     requires table { table_of (path_of inner.now.path) < (space_in space.now).table_count }
-    ensures { IsMergeFound (space_in space.now) (set_of tables) conjunct (inner_of inner.now)
+    ensures { IsMergeFound (space_in space.now) (set_of outer.now.tables) conjunct (inner_of inner.now)
         (option_map merge_of result) }
 {
-    let mut rest = space.merges(tables, inner.path.table());
+    let mut rest = space.merges(outer, inner.path.table());
     'merges: while let Some(item) = rest.next() {
         if is_it(item, conjunct, inner) {
             return Some(item);

@@ -1,5 +1,5 @@
 -- Planned blocks, one behind the other.
-use Rattle.std.proofs.Common.{◌≡◌, ◌∙◌, refl, sym, ap, subst, ℕ, zero, suc, ◌+◌, ◌≤◌, ◌<◌, List, [], ◌∷◌, ◌++◌, length, drop, map, get_or, arith}
+use Rattle.std.proofs.Common.{◌≡◌, ◌∙◌, refl, sym, ap, subst, ℕ, zero, suc, ◌+◌, ◌≤◌, ◌<◌, List, [], ◌∷◌, ◌++◌, length, drop, get_or, arith}
 use Rattle.std.specs.List.{AllByRecursion}
 use Rattle.std.proofs.lemmas.List.{append-nil, append_assoc}
 use Rattle.definitions.specs.Limits.{most_blocks}
@@ -9,9 +9,6 @@ use Rattle.definitions.specs.Binding.Formed.{IsFormedSomewhere}
 use Rattle.definitions.specs.Certificates.Explaining.{certified, certified_from, IsExplained, AreExplained}
 use Rattle.definitions.specs.Estimates.Version.{current_version}
 use Rattle.definitions.specs.Queries.BoundBlock.{Block, Blocks}
-use Rattle.plan_tree.specs.Certificates.{certificate_of}
-use Rattle.plan_space.specs.BlockPlans.{IsLeastOf, AreLeastOf}
-use Rattle.plan_space.specs.declared.block_plan.BlockPlan.{BlockPlan}
 use Rattle.planner.specs.Planned.{IsPlanned, ArePlannedFrom}
 use Rattle.planner.specs.declared.planned_block.PlannedBlock.{PlannedBlock}
 use Rattle.planner.proofs.Explained.{next, past, ExplainsTo, next_explained, explains_all}
@@ -95,46 +92,3 @@ pub all_texts : (planned : List PlannedBlock) (number : ℕ) (text : List ℕ) �
 all_texts planned number text behind so_far db blocks valid formed few are =
     let many = as_many db 0 blocks planned are in
     explains_all db blocks number text (omega (arith, behind, many)) (so_far db blocks valid formed few are)
-
--- ---- their plans alone
-
--- of planned blocks that are left the plans are those that are left of the query, whatever query it is
-abbrev pub LeastTo : (whole rest : List PlannedBlock) → List BlockPlan → Type 0
-LeastTo whole rest plans =
-    (db : Database) (blocks : Blocks) → ArePlannedFrom db 0 blocks whole → (number : ℕ) × (left : Blocks) × ArePlannedFrom db number left rest
-    × ((more : List BlockPlan) → AreLeastOf db left more → AreLeastOf db blocks (plans ++ more))
-
-pub least_none : (whole : List PlannedBlock) → LeastTo whole whole []
-least_none whole db blocks are = (0, blocks, are, λ more least. least)
-
-one_least : (db : Database) (blocks : Blocks) (p : PlannedBlock) (rest : List PlannedBlock) (plans : List BlockPlan) (own : BlockPlan) (number : ℕ) (left : Blocks)
-    → ((k : ℕ) (block : Block) → IsPlanned db k block p → IsLeastOf db block own) → ArePlannedFrom db number left (p ∷ rest)
-    → ((more : List BlockPlan) → AreLeastOf db left more → AreLeastOf db blocks (plans ++ more))
-    → (number : ℕ) × (left : Blocks) × ArePlannedFrom db number left rest × ((more : List BlockPlan) → AreLeastOf db left more → AreLeastOf db blocks ((plans ++ own ∷ []) ++ more))
-one_least db blocks p rest plans own number [] least are so_far = absurd are
-one_least db blocks p rest plans own number (b ∷ left) least are so_far = (
-  number + 1,
-  left,
-  are.1,
-  λ more behind. subst (AreLeastOf db blocks) (sym (append_assoc plans (own ∷ []) more)) (so_far (own ∷ more) (least number b are.0, behind)),
-)
-
-pub next_least : (whole : List PlannedBlock) (p : PlannedBlock) (rest : List PlannedBlock) (plans : List BlockPlan) (own : BlockPlan)
-    → ((db : Database) (k : ℕ) (block : Block) → IsPlanned db k block p → IsLeastOf db block own) → LeastTo whole (p ∷ rest) plans → LeastTo whole rest (plans ++ own ∷ [])
-next_least whole p rest plans own least so_far db blocks are =
-    let (number, left, planned, so) = so_far db blocks are in
-    one_least db blocks p rest plans own number left (least db) planned so
-
-none_left : (db : Database) (number : ℕ) (left : Blocks) → ArePlannedFrom db number left [] → AreLeastOf db left []
-none_left db number [] h = tt
-none_left db number (b ∷ left) h = absurd h
-
-pub all_least : (whole rest : List PlannedBlock) (plans : List BlockPlan) → length rest ≡ 0 → LeastTo whole rest plans → (db : Database) (blocks : Blocks) → ArePlannedFrom db 0 blocks whole → AreLeastOf db blocks plans
-all_least whole [] plans none so_far db blocks are =
-    let (number, left, planned, so) = so_far db blocks are in
-    subst (AreLeastOf db blocks) (append-nil plans) (so [] (none_left db number left planned))
-all_least whole (p ∷ rest) plans none so_far db blocks are = absurd (omega (arith, none))
-
--- a planned block's plan is least in the space that it was made in
-pub least_alone : (p : PlannedBlock) (db : Database) (k : ℕ) (block : Block) → IsPlanned db k block p → IsLeastOf db block (record { space = p.own.space; plan = p.plan })
-least_alone p db k block is = record { space = sym is.own.space; certified = (certificate_of p.certificate, is.certified) }

@@ -10,13 +10,11 @@ ghost use Rattle.definitions.specs.Limits.{most_blocks};
 ghost use Rattle.definitions.specs.Queries.BoundBlock.{Blocks};
 ghost use Rattle.definitions.specs.Table as tables;
 ghost use Rattle.query_tree.specs.Bound.{block_of};
-ghost use Rattle.plan_space.specs.BlockPlans.{AreLeastOf};
 ghost use Rattle.planner.specs.Planned.{ArePlannedFrom};
 
 use crate::planned_block::PlannedBlock;
 use catalog::Database;
-use certificate::BlockSpace;
-use plan_space::{BlockPlan, PlanNote};
+use plan_space::PlanNote;
 use query_tree::Block;
 use std::alloc::{AllocError, Global};
 
@@ -40,7 +38,7 @@ pub fn plan_query<'a>(
 }
 
 /// What there is to know of the figures that the plans of a query rest on (own). Where memory runs out, the rest is left out.
-pub fn plan_notes(alloc: Global, planned: &[PlannedBlock<'_>]) -> Vec<PlanNote> {
+pub fn planned_notes(alloc: Global, planned: &[PlannedBlock<'_>]) -> Vec<PlanNote> {
     let mut notes = Vec::new(alloc);
     for own in planned {
         own.add_notes(alloc, &mut notes);
@@ -61,22 +59,4 @@ pub fn explain_text(alloc: Global, planned: &[PlannedBlock<'_>]) -> Result<Vec<u
         text.extend_from_slice(&own)?;
     }
     Ok(text)
-}
-
-/// The plans alone, with their spaces, for those who run them. It fails where memory runs out.
-pub fn block_plans<'a>(
-    alloc: Global,
-    planned: Vec<PlannedBlock<'a>>,
-) -> Result<Vec<BlockPlan<'a>>, AllocError>
-    ensures { (db : tables.Database) (blocks : Blocks) → ArePlannedFrom db 0 blocks planned.entry.items →
-        IfOk result (λ plans. AreLeastOf db blocks plans.items) }
-{
-    let mut plans = Vec::new(alloc);
-    let mut rest = planned.into_iter();
-    'taking: while let Some(block) = rest.next() {
-        let PlannedBlock { own, plan, .. } = block;
-        let BlockSpace { space, .. } = own;
-        plans.push(BlockPlan { space, plan })?;
-    }
-    Ok(plans)
 }

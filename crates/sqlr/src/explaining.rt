@@ -11,7 +11,7 @@ use crate::sink::Sink;
 use binder::{BindFault, bind};
 use catalog::Database;
 use diagnostics::{Cause, QueryCause};
-use planner::{explain_text, plan_notes, plan_query};
+use planner::{explain_text, plan_query, planned_notes};
 use std::alloc::Global;
 use syntax::Select;
 
@@ -37,7 +37,7 @@ pub(crate) fn explain<'q, S: Sink>(
     };
     let planned = plan_query(alloc, database, &blocks)?;
     let watch = WatchedQuery { sink, query };
-    watch.tell_plans(&plan_notes(alloc, &planned), &blocks, database);
+    watch.tell_plans(&planned_notes(alloc, &planned), &blocks, database);
     let text = explain_text(alloc, &planned)?;
     Ok(done(text))
 }

@@ -12,7 +12,7 @@ use binder::{BindFault, bind};
 use catalog::Database;
 use diagnostics::{Cause, QueryCause};
 use executor::{AnswerFault, answer_text};
-use planner::{block_plans, plan_notes, plan_query};
+use planner::{least_plans, plan_notes};
 use std::alloc::Global;
 use syntax::Select;
 
@@ -36,10 +36,9 @@ pub(crate) fn select<'q, S: Sink>(
         }
         Err(BindFault::Memory) => return Err(StepFault::Memory),
     };
-    let planned = plan_query(alloc, database, &blocks)?;
+    let plans = least_plans(alloc, database, &blocks)?;
     let watch = WatchedQuery { sink, query };
-    watch.tell_plans(&plan_notes(alloc, &planned), &blocks, database);
-    let plans = block_plans(alloc, planned)?;
+    watch.tell_plans(&plan_notes(alloc, &plans), &blocks, database);
     match answer_text(alloc, database, &blocks, plans, &watch) {
         Ok((text, work)) => Ok(Printed {
             work: Some(work),

@@ -12,7 +12,7 @@ use Rattle.cases_plans.proofs.WholeQuery.{all_ready, each_at, outermost, stands}
 use Rattle.cases_plans.proofs.selecting.add_planned.Goals as goal
 
 pub ready_blocks-requires-clause-least : goal.ready_blocks-requires-clause-least
-ready_blocks-requires-clause-least c = c.in_ok-chosen.ensures c.args.database.now (map block_of c.args.blocks.now) c.in_ok-planned.ensures
+ready_blocks-requires-clause-least c = c.in_ok-chosen.ensures
 
 pub numbers-init : goal.numbers-init
 numbers-init c = record {

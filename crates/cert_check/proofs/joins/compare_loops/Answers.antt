@@ -1,4 +1,5 @@
-use Rattle.std.proofs.Common.{◌≡◌, ◌∙◌, ◌+◌, sym}
+use Rattle.std.proofs.Common.{◌≡◌, ◌∙◌, ◌+◌, sym, subst}
+use Rattle.definitions.specs.Plans.TableSet.{TableSet}
 use Rattle.definitions.specs.Plans.Comparisons.{LoopStep}
 use Rattle.definitions.specs.Plans.Cost.{saturated}
 use Rattle.plan_space.specs.Loop.{AreLoops}
@@ -15,7 +16,7 @@ use Rattle.cert_check.proofs.joins.compare_loops.Goals as goal
 pub loops-init : goal.loops-init
 loops-init g c =
     let space = space_in c.args.space.now in
-    rw c.into_iter-item-iterator.ensures.into_iter_gives (begins g.L.Listener.hears (LoopBy space (state_of c.args.from) c.args.table (set_of c.args.to.tables) c.args.to.order c.args.bound) (AreLoops space (set_of c.args.from.tables) c.args.table) _ _ c.loops-item-items.ensures)
+    rw c.into_iter-item-iterator.ensures.into_iter_gives (begins g.L.Listener.hears (LoopBy space (state_of c.args.from) c.args.table (set_of c.args.to.tables) c.args.to.order c.args.bound) (AreLoops space (set_of c.args.from.tables) c.args.table) _ _ (subst (λ (s : TableSet). AreLoops space s c.args.table c.loops-item-items.result) c.requires.from c.loops-item-items.ensures))
 
 pub loops-preserved : goal.loops-preserved
 loops-preserved g c =

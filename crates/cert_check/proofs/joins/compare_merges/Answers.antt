@@ -1,4 +1,6 @@
-use Rattle.std.proofs.Common.{◌≡◌, ◌∙◌, ◌+◌, sym}
+use Rattle.std.proofs.Common.{◌≡◌, ◌∙◌, ◌+◌, sym, subst}
+use Rattle.definitions.specs.Plans.TableSet.{TableSet}
+use Rattle.interesting_orders.specs.Merges.{GoesBy}
 use Rattle.definitions.specs.Plans.Comparisons.{MergeStep}
 use Rattle.definitions.specs.Plans.Cost.{saturated}
 use Rattle.plan_space.proofs.Deciding.{holds, fails}
@@ -16,7 +18,7 @@ use Rattle.cert_check.proofs.joins.compare_merges.Goals as goal
 pub merges-init : goal.merges-init
 merges-init g c =
     let space = space_in c.args.space.now in
-    rw c.into_iter-item-iterator.ensures.into_iter_gives (begins g.L.Listener.hears (MergeBy space (state_of c.args.from) c.args.table (set_of c.args.to.tables) c.args.to.order c.args.bound) (AreMerges space (set_of c.args.from.tables) c.args.table) _ _ c.merges-item-items.ensures)
+    rw c.into_iter-item-iterator.ensures.into_iter_gives (begins g.L.Listener.hears (MergeBy space (state_of c.args.from) c.args.table (set_of c.args.to.tables) c.args.to.order c.args.bound) (AreMerges space (set_of c.args.from.tables) c.args.table) _ _ (subst (λ (s : TableSet). AreMerges space s c.args.table c.merges-item-items.result) c.requires.from c.merges-item-items.ensures))
 
 pub merges-preserved : goal.merges-preserved
 merges-preserved g c =
@@ -28,7 +30,7 @@ merges-preserved g c =
     let x = step_for space from table reached c.args.to.order c.args.bound (MergeStep item.conjunct item.inner) c.saturate.result in
     let cost : c.saturate.result ≡ saturated (from.cost + item.cost) = sum_is _ _ _ _ _ c.saturate.ensures.exact c.from.ensures c.from-in-merges.ensures in
     let same = same_step space from table reached c.args.to.order c.args.bound (MergeStep item.conjunct item.inner) item.cost c.saturate.result cost in
-    let goes = holds _ c.if-not-goes_by.ensures in
+    let goes = subst (λ (s : TableSet). GoesBy space s from.order item.conjunct table) c.requires.from (holds _ (c.if-not-goes_by.ensures space c.requires.outer)) in
     item_more g.L.Listener.hears (MergeBy space from table reached c.args.to.order c.args.bound) (AreMerges space from.tables table) _ _ _ _ _ item c.in-Some.ensures.steps c.merges.invariant
     (λ done are. merge_apart space from table reached c.args.to.order c.args.bound done _ item are) (goes_on g.L.Listener.hears (MergeBy space from table reached c.args.to.order c.args.bound item) _ _ x c.if-not-hear.ensures (goes, same) (λ y is. is.1 ∙ sym same))
 
@@ -40,7 +42,7 @@ merges-preserved-then-not-goes_by g c =
     let reached = set_of c.args.to.tables in
     let item = merge_of c.in-Some.item in
     item_more g.L.Listener.hears (MergeBy space from table reached c.args.to.order c.args.bound) (AreMerges space from.tables table) _ _ _ _ _ item c.in-Some.ensures.steps c.merges.invariant
-    (λ done are. merge_apart space from table reached c.args.to.order c.args.bound done _ item are) (nothing g.L.Listener.hears (MergeBy space from table reached c.args.to.order c.args.bound item) _ (λ x is. fails _ c.if-not-goes_by.ensures is.0))
+    (λ done are. merge_apart space from table reached c.args.to.order c.args.bound done _ item are) (nothing g.L.Listener.hears (MergeBy space from table reached c.args.to.order c.args.bound item) _ (λ x is. fails _ (c.if-not-goes_by.ensures space c.requires.outer) (subst (λ (s : TableSet). GoesBy space s from.order item.conjunct table) (sym c.requires.from) is.0)))
 
 pub returns-then-not-hear : goal.returns-then-not-hear
 returns-then-not-hear g c =
@@ -52,7 +54,7 @@ returns-then-not-hear g c =
     let x = step_for space from table reached c.args.to.order c.args.bound (MergeStep item.conjunct item.inner) c.saturate.result in
     let cost : c.saturate.result ≡ saturated (from.cost + item.cost) = sum_is _ _ _ _ _ c.saturate.ensures.exact c.from.ensures c.from-in-merges.ensures in
     let same = same_step space from table reached c.args.to.order c.args.bound (MergeStep item.conjunct item.inner) item.cost c.saturate.result cost in
-    let goes = holds _ c.if-not-goes_by.ensures in
+    let goes = subst (λ (s : TableSet). GoesBy space s from.order item.conjunct table) c.requires.from (holds _ (c.if-not-goes_by.ensures space c.requires.outer)) in
     item_stops g.L.Listener.hears (MergeBy space from table reached c.args.to.order c.args.bound) (AreMerges space from.tables table) _ _ _ _ _ item c.in-Some.ensures.steps c.merges.invariant
     (λ done are. merge_apart space from table reached c.args.to.order c.args.bound done _ item are) (IsMergeWith space from table reached c.args.to.order c.args.bound) x (merge_of_item space from table reached c.args.to.order c.args.bound)
     (stops g.L.Listener.hears (MergeBy space from table reached c.args.to.order c.args.bound item) _ _ x c.if-not-hear.ensures (goes, same))

@@ -1,7 +1,6 @@
 use Rattle.std.proofs.Common.{All}
 use Rattle.definitions.specs.Plans.Order.{Order}
 use Rattle.plan_tree.specs.Plans.{order_of, orders_in}
-use Rattle.plan_tree.specs.Sets.{set_of}
 use Rattle.interesting_orders.specs.Each.{AreSoFar}
 use Rattle.interesting_orders.specs.Equated.{places_in}
 use Rattle.interesting_orders.specs.Merges.{IsWithin}
@@ -12,5 +11,5 @@ use Rattle.interesting_orders.proofs.order_use.order_uses.Given as goal
 abbrev pub invariant-orders : goal.invariant-orders
 invariant-orders l = record {
   within : All (λ (u : OrderUse). IsWithin (places_in l.equated) u.lead) l.uses.items;
-  exact : AreSoFar (λ (order : Order) (u : OrderUse). IsUseOf l.equated (set_of l.whole) (order_of l.required) order u) (orders_in l.orders) l.uses.items l.order-index;
+  exact : AreSoFar (λ (order : Order) (u : OrderUse). IsUseOf l.equated l.classes (order_of l.required) order u) (orders_in l.orders) l.uses.items l.order-index;
 }

@@ -1,8 +1,6 @@
-use Rattle.std.proofs.Common.{◌≡◌, map}
+use Rattle.std.proofs.Common.{map}
 use Rattle.definitions.specs.Estimates.BlockSpace.{space_of}
-use Rattle.definitions.specs.Estimates.Cardinality.{sort_cost}
 use Rattle.definitions.specs.Estimates.Version.{Version}
-use Rattle.definitions.specs.Plans.TableSet.{only}
 use Rattle.query_tree.specs.Bound.{block_of}
 use Rattle.interesting_orders.specs.Uses.{AreUses}
 use Rattle.plan_space.specs.PathLists.{AreBlockPaths}
@@ -13,5 +11,4 @@ use Rattle.plan_space.proofs.merge_lists.table_merges.Given as goal
 abbrev pub invariant-conjuncts : goal.invariant-conjuncts
 invariant-conjuncts l = (version : Version) → AreBlockPaths version l.estimate.database (block_of l.estimate.block) l.paths
     → AreUses (space_of version l.estimate.database (block_of l.estimate.block)) l.uses
-    → l.sort_cost ≡ sort_cost l.estimate.database (block_of l.estimate.block) (only l.table)
     → AreFirst (space_of version l.estimate.database (block_of l.estimate.block)) l.table l.conjunct (map found_merge_of l.merges.items)

@@ -10,14 +10,14 @@ use Rattle.plan_space.proofs.summarising.find_loop.Goals as goal
 pub loops-init : goal.loops-init
 loops-init c =
     let space = space_in c.args.space.now in
-    let tables = set_of c.args.tables in
+    let tables = set_of c.args.outer.now.tables in
     all_loops_left space tables (path_of c.args.path.now) c.loops-rest.result (subst (λ (table : ℕ). AreLoops space tables table c.loops-rest.result) c.table.ensures c.loops-rest.ensures)
 
 pub loops-preserved : goal.loops-preserved
 loops-preserved c =
     let space = space_in c.args.space.now in
     let path = path_of c.args.path.now in
-    let tables = set_of c.args.tables in
+    let tables = set_of c.args.outer.now.tables in
     let item = loop_of c.in-Some.item in
     let rest = c.next.new.self in
     one_loop_passed space tables path item rest (subst (λ (items : List LoopItem). IsLeftLoop space tables path items) c.in-Some.ensures.steps c.loops.invariant)
@@ -27,7 +27,7 @@ pub returns-then-are_one : goal.returns-then-are_one
 returns-then-are_one c =
     let space = space_in c.args.space.now in
     let path = path_of c.args.path.now in
-    let tables = set_of c.args.tables in
+    let tables = set_of c.args.outer.now.tables in
     let item = loop_of c.in-Some.item in
     let rest = c.next.new.self in
     loop_here space tables path item rest (subst (λ (items : List LoopItem). IsLeftLoop space tables path items) c.in-Some.ensures.steps c.loops.invariant) (c.if-are_one.ensures.0 refl)

@@ -5,4 +5,4 @@ use Rattle.plan_space.proofs.Plans.{IsLeftLoop}
 use Rattle.plan_space.proofs.summarising.find_loop.Given as goal
 
 abbrev pub invariant-loops : goal.invariant-loops
-invariant-loops l = IsLeftLoop (space_in l.space) (set_of l.fn.tables) (path_of l.path) l.rest
+invariant-loops l = IsLeftLoop (space_in l.space) (set_of l.outer.tables) (path_of l.path) l.rest

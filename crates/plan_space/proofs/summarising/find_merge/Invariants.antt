@@ -5,4 +5,4 @@ use Rattle.plan_space.proofs.Plans.{IsLeftMerge}
 use Rattle.plan_space.proofs.summarising.find_merge.Given as goal
 
 abbrev pub invariant-merges : goal.invariant-merges
-invariant-merges l = IsLeftMerge (space_in l.space) (set_of l.fn.tables) l.conjunct (inner_of l.inner) l.rest
+invariant-merges l = IsLeftMerge (space_in l.space) (set_of l.outer.tables) l.conjunct (inner_of l.inner) l.rest

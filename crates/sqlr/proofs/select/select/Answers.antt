@@ -11,12 +11,12 @@ pub returns-in-Err-Refused-clause-answers : goal.returns-in-Err-Refused-clause-a
 returns-in-Err-Refused-clause-answers g c =
     fault_told _ _ _ _ (faults.query _ _ (rw c.refusal.ensures (rw c.in-Err-Refused.field-0-is at c.in-Err-Refused.ensures.refused))) c.refusal_line.ensures.text c.refusal_line.ensures.ended c.refusal_line.ensures.work
 
-pub plan_query-requires : goal.plan_query-requires
-plan_query-requires g c = record { formed = rw c.deref.ensures.value (blocks_formed c.args.database.now (select_of c.args.query.now) (map block_of c.in-Ok.blocks.items) c.tables-tables.ensures.valid (written c.args.database.now c.args.query.now) c.in-Ok.ensures.bound) }
+pub least_plans-requires : goal.least_plans-requires
+least_plans-requires g c = record { formed = rw c.deref.ensures.value (blocks_formed c.args.database.now (select_of c.args.query.now) (map block_of c.in-Ok.blocks.items) c.tables-tables.ensures.valid (written c.args.database.now c.args.query.now) c.in-Ok.ensures.bound) }
 
 pub answer_text-requires-clause-least : goal.answer_text-requires-clause-least
 answer_text-requires-clause-least g c =
-    rw c.deref-5.ensures.value (c.in_ok-plans.ensures c.args.database.now (map block_of c.in-Ok.blocks.items) (rw c.deref.ensures.value at c.in_ok-planned.ensures))
+    rw c.deref-5.ensures.value (rw c.deref.ensures.value at c.in_ok-plans.ensures)
 
 pub answer_text-requires-clause-formed : goal.answer_text-requires-clause-formed
 answer_text-requires-clause-formed g c = rw c.deref-5.ensures.value (c.in-Ok.ensures.formed (written c.args.database.now c.args.query.now))

@@ -1,4 +1,7 @@
-use Rattle.std.proofs.Common.{rules}
+use Rattle.std.proofs.Common.{◌∙◌, ◌≤◌, sym, ap, subst, length, rules}
+use Rattle.std.proofs.lemmas.List.{length-map}
+use Rattle.definitions.specs.Limits.{most_conjuncts}
+use Rattle.estimate.specs.PlanConjuncts.{condition_of_conjunct}
 use Rattle.query_tree.specs.Bound.{block_of}
 use Rattle.conjuncts.proofs.FormedBlocks.{formed_conjuncts_few, formed_few}
 use Rattle.estimate.proofs.estimate.Estimate.new.Goals as goal
@@ -19,5 +22,6 @@ invariant_of-result c =
       measured = search rules;
       planned = search rules;
       conditions = search rules;
+      counted = subst (λ n. n ≤ most_conjuncts) (ap length (sym c.in_ok-conjuncts.ensures.conditions) ∙ length-map c.in_ok-conjuncts.conjuncts.items condition_of_conjunct) formed.conjuncts;
       named = formed_conjuncts_few c.args.database.now blocks around n (block_of c.args.block.now) formed;
     }

@@ -10,22 +10,22 @@ use Rattle.interesting_orders.proofs.Going.{no_lead, goes, went}
 use Rattle.interesting_orders.proofs.interesting_orders.InterestingOrders.goes_by.Goals as goal
 
 pub returns-in_default : goal.returns-in_default
-returns-in_default c = λ space u.
+returns-in_default c = λ space u classes.
     ((λ h. absurd cc), λ by'. absurd (no_lead space c.args.self.now.equated (order_at space c.args.order) c.at.result u.equated (c.at.ensures.exact space u) c.in_default.is (set_of c.args.tables) by'.0 by'.1 c.args.conjunct by'.2 by'.5))
 
 pub returns-in_default-sides : goal.returns-in_default-sides
-returns-in_default-sides c = λ space u.
+returns-in_default-sides c = λ space u classes.
     let none = rw c.in_default-sides.is at (c.sides.ensures.exact space u.equated) in
     ((λ h. absurd cc), λ by'. absurd (none by'.0 by'.1 by'.2 by'.4))
 
 pub returns-then-has : goal.returns-then-has
-returns-then-has c = λ space u.
+returns-then-has c = λ space u classes.
     let sides = rw c.in-Some-sides.is at (c.sides.ensures.exact space u.equated) in
     let is_use = c.at.ensures.exact space u in
     let e = c.args.self.now.equated in
     let outer = column_in e c.in-Some-sides.sides.outer in
     let has : Has (set_of c.args.tables) outer.table = subst (Has (set_of c.args.tables)) c.table.ensures (has_it (set_of c.args.tables) c.table.result (sym c.has.ensures ∙ c.if-has.true)) in
-    let joined = c.are_joined.ensures space u.equated in (
+    let joined = c.are_joined.ensures space (set_of c.args.tables) classes in (
       (λ yes. (
         outer,
         column_in e c.in-Some-sides.sides.inner,

@@ -4,7 +4,6 @@ use Rattle.definitions.specs.Estimates.BlockSpace.{space_of}
 use Rattle.definitions.specs.Estimates.Version.{Version}
 use Rattle.query_tree.specs.Bound.{block_of}
 use Rattle.interesting_orders.specs.Uses.{AreUses}
-use Rattle.estimate.specs.Sets.{AreEstimates}
 use Rattle.plan_space.specs.PathLists.{AreBlockPaths}
 use Rattle.plan_space.proofs.Listing.{AreFirst}
 use Rattle.plan_space.specs.MergeListed.{found_merge_of, AreMergesOf}
@@ -16,6 +15,5 @@ invariant-tables l = record {
   len : length l.tables.items ≡ l.table;
   each : (version : Version) → AreBlockPaths version l.estimate.database (block_of l.estimate.block) l.paths
       → AreUses (space_of version l.estimate.database (block_of l.estimate.block)) l.uses
-      → AreEstimates l.estimate.database (block_of l.estimate.block) l.estimates
       → AreFirst (AreMergesOf (space_of version l.estimate.database (block_of l.estimate.block))) (λ (v : Vec MergeJoinPath). map found_merge_of v.items) l.tables.items l.table;
 }

@@ -5,4 +5,5 @@ use Rattle.plan_space.proofs.space.Space.loops.Goals as goal
 
 pub returns : goal.returns
 returns c =
-    rw c.new.ensures (are_loops (space_in c.args.self.now) (set_of c.args.tables) c.args.table c.cardinality.result c.cardinality.ensures.exact c.paths.result c.paths.ensures)
+    let outer = c.args.outer.now in
+    rw c.new.ensures (are_loops (space_in c.args.self.now) (set_of outer.tables) c.args.table outer.rows c.requires.outer.rows c.paths.result c.paths.ensures)

@@ -1,4 +1,4 @@
-use Rattle.std.proofs.Common.{◌∙◌, ◌<◌, ◌^◌, List, ap, length, refl, subst, sym, arith}
+use Rattle.std.proofs.Common.{◌∙◌, ◌<◌, List, ap, length, refl, subst, sym, arith}
 use Rattle.definitions.specs.Estimates.BlockSpace.{space_of}
 use Rattle.definitions.specs.Estimates.Orders.{required_of}
 use Rattle.definitions.specs.Plans.Order.{Order}
@@ -18,7 +18,7 @@ invariant_of-result c =
     let db = c.args.estimate.database in
     let block = block_of c.args.estimate.block in
     let space = space_of version db block in
-    let uses = c.in_ok-uses.ensures.exact space (sym c.table_count-tables.ensures.exact) (sym c.conjuncts.ensures.exact)
+    let uses = c.in_ok-uses.ensures space (sym c.table_count-tables.ensures.exact) (sym c.conjuncts.ensures.exact)
     (sym c.in_ok-orders.ensures ∙ sym c.all.ensures) (ap (λ (b : Block). required_of (block_of b)) (sym c.block.ensures) ∙ sym c.in_ok-required.ensures ∙ ap order_of (sym c.deref-2.ensures.value)) in
     record {
       complete = complete version db block c.requires;
@@ -28,11 +28,7 @@ invariant_of-result c =
       some = subst (λ (orders : List Order). 0 < length orders) (sym c.in_ok-orders.ensures) (some_orders version db block);
       paths = c.in_ok-paths.ensures.paths;
       paths_count = c.in_ok-paths.ensures.tables;
-      merges = c.in_ok-merges.ensures.merges version c.in_ok-paths.ensures.paths uses c.in_ok-estimates.ensures.exact;
+      merges = c.in_ok-merges.ensures.merges version c.in_ok-paths.ensures.paths uses;
       merges_count = c.in_ok-merges.ensures.tables;
-      estimates = c.in_ok-estimates.ensures.exact;
-      estimates_count = c.in_ok-estimates.ensures.tables;
       uses = uses;
-      uses_count = c.in_ok-uses.ensures.sets ∙ ap (λ n. 2 ^ n) c.table_count-tables.ensures.exact;
-      links = c.in_ok-join_graph.ensures;
     }

@@ -1,11 +1,8 @@
 use Rattle.std.proofs.Common.{◌∙◌, sym}
-use Rattle.query_tree.specs.Bound.{block_of}
 use Rattle.plan_tree.specs.Sets.{set_of}
 use Rattle.plan_space.specs.Inside.{planned}
 use Rattle.plan_space.proofs.Facts.{sort_cost_is}
 use Rattle.plan_space.proofs.space.Space.sort_cost.Goals as goal
 
 pub returns-clause-exact : goal.returns-clause-exact
-returns-clause-exact c =
-    let s = c.self.inside in
-    rw (← c.self.view_is) (c.sort_cost.ensures.exact s.estimate.database (block_of s.estimate.block) c.self.invariant.estimates ∙ sym (sort_cost_is (planned s) (set_of c.args.tables)))
+returns-clause-exact c = rw (← c.self.view_is) (c.sort_cost.ensures.exact ∙ sym (sort_cost_is (planned c.self.inside) (set_of c.args.tables)))

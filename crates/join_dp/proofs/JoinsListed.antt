@@ -1,0 +1,331 @@
+-- Joins that are listed.
+use Rattle.std.proofs.Common.{◌≡◌, ◌≢◌, ◌∙◌, ℕ, ◌+◌, ◌-◌, ◌*◌, ◌^◌, ◌<◌, ◌≤◌, ◌⊎◌, inl, inr, List, [], ◌∷◌, ◌++◌, Option, Some, None, length, length-append, get_or, set, if◌then◌else◌, true, false, Bool, add-one, arith, refl, sym, ap, subst}
+use Rattle.std.proofs.lemmas.Bool.{cases_lt, cases_eq}
+use Rattle.std.proofs.lemmas.List.{get_or_append_left, get_or-append_right, get_or-set_same, get_or-set_other, length-set}
+use Rattle.std.specs.List.{AllByRecursion}
+use Rattle.definitions.specs.Estimates.BlockTables.{has}
+use Rattle.definitions.specs.Plans.Path.{Path, table_of}
+use Rattle.definitions.specs.Plans.Plan.{Inner}
+use Rattle.definitions.specs.Plans.Space.{Space}
+use Rattle.definitions.specs.Plans.PlanSpace.{MayFollow, IsPath}
+use Rattle.definitions.specs.Plans.Cost.{limit, saturated, merge_cost}
+use Rattle.plan_space.specs.Item.{Item}
+use Rattle.plan_space.specs.Merge.{Merge as CostedMerge, IsMergeItem, AreMerges}
+use Rattle.plan_space.proofs.Lists.{has_each}
+use Rattle.plan_space.proofs.PathItems.{IsPathItem}
+use Rattle.plan_tree.proofs.Tests.{has_not}
+use Rattle.join_dp.specs.Counting.{AreCounts, most_joins}
+use Rattle.join_dp.specs.JoinLists.{added_at, AreAdded, Covers, AreJoinsWith, AreLoops, AreMergesBelow, AreJoins, IsLonger, AreLists, joins_in, Stand, one_if, listed_in, IsListed}
+use Rattle.join_dp.specs.Joining.{CanJoin, join_cost, IsJoin, GoesWith, IsAdded}
+use Rattle.join_dp.specs.Searched.{LowBySorts, AreSortsTaken}
+use Rattle.join_dp.specs.StatePlans.{StatePlan}
+use Rattle.join_dp.specs.Steps.{Join, Loop, Merge, table_in}
+use Rattle.join_dp.specs.Views.{Added}
+use Rattle.join_dp.specs.declared.join_lists.JoinLists.{JoinLists}
+use Rattle.join_dp.specs.declared.join_lists.Places.{Places}
+use Rattle.join_dp.proofs.LeastPaths.{loop_least, some_path}
+use Rattle.join_dp.proofs.Steps.{follows, is_join, goes_with, join_small}
+
+-- ---- one more
+
+pub longer_same : (xs : List Added) → IsLonger xs xs
+longer_same xs = record { longer = omega arith; kept = λ place lt. refl }
+
+pub longer_more : (a b c : List Added) → IsLonger a b → IsLonger b c → IsLonger a c
+longer_more a b c x y = record {
+  longer = let l = x.longer in let l' = y.longer in omega (arith, l, l');
+  kept = λ place lt. let l = x.longer in y.kept place (omega (arith, lt, l)) ∙ x.kept place lt;
+}
+
+module _ (xs : List Added) (x : Added) where
+  pub longer_push : IsLonger xs (xs ++ x ∷ [])
+  longer_push = record { longer = omega (arith, length-append xs (x ∷ [])); kept = λ place lt. get_or_append_left xs (x ∷ []) _ place lt }
+
+  pub push_size : length (xs ++ x ∷ []) ≡ length xs + 1
+  push_size = length-append xs (x ∷ [])
+
+  pub push_at : (place : ℕ) → length xs ≤ place → place < length (xs ++ x ∷ []) → added_at (xs ++ x ∷ []) place ≡ x
+  push_at place ge lt =
+      let z : place - length xs ≡ 0 = omega (arith, ge, lt, push_size) in
+      get_or-append_right xs (x ∷ []) (length xs) place _ refl ge ∙ rw z refl
+
+module _ (space : Space) (tables table : ℕ) where
+  abbrev AddedOf : Added → Type 0
+  AddedOf a = IsAdded space tables a.table a.join a.cost
+
+  -- ---- the cheapest loop
+
+  pub no_loops : (xs : List Added) (known : ℕ) → limit < known → ((path : Path) → table_of path ≡ table → IsPath space tables path → ⊥) → AreLoops space xs tables (length xs) (length xs) table known
+  no_loops xs known large none = record {
+    rising = omega arith;
+    each = λ place ge lt. absurd (omega (arith, ge, lt));
+    least = λ path is. absurd (none path is.0 is.1);
+    stands = λ le. absurd (omega (arith, large, le));
+    few = omega arith;
+  }
+
+  pub loop_is : (item : Item) (rows n cost added : ℕ) → MayFollow space tables table → IsPathItem space tables table item → n ≡ rows → rows ≡ space.cardinality tables → cost ≡ item.cost → added ≡ saturated (n * cost) → IsAdded space tables table (Loop item.path) added
+  loop_is item rows n cost added may right a b d e = record {
+    follows = may;
+    is_join = (right.0.reads, right.1);
+    cost = rw (← b, ← right.0.cost, ← d, ← a) e;
+  }
+
+  pub one_loop : (xs : List Added) (item : Item) (added : ℕ) → IsPathItem space tables table item → IsAdded space tables table (Loop item.path) added
+      → ((path : Path) → table_of path ≡ table → IsPath space tables path → item.cost ≤ space.path_cost tables path)
+      → AreLoops space (xs ++ record { table = table; join = Loop item.path; cost = added } ∷ []) tables (length xs) (length (xs ++ record { table = table; join = Loop item.path; cost = added } ∷ [])) table added
+  one_loop xs item added right is least = record {
+    rising = omega (arith, push_size xs x);
+    each = λ place ge lt. rw (push_at xs x place ge lt) is;
+    least = loop_least space tables table item added right is.cost least;
+    stands = λ le. (length xs, omega arith, omega (arith, push_size xs x), ap (λ (a : Added). a.table) here, (λ order. rw here tt), ap (λ (a : Added). a.cost) here);
+    few = let some = some_path space tables table item.path right.0.reads right.1 in omega (arith, push_size xs x, some);
+  }
+    where
+      x : Added
+      x = record { table = table; join = Loop item.path; cost = added }
+
+      here : added_at (xs ++ record { table = table; join = Loop item.path; cost = added } ∷ []) (length xs) ≡ record { table = table; join = Loop item.path; cost = added }
+      here = push_at xs (record { table = table; join = Loop item.path; cost = added }) (length xs) (omega arith) (omega (arith, push_size xs (record { table = table; join = Loop item.path; cost = added })))
+
+  -- ---- merges
+
+  module _ (known : ℕ) where
+    abbrev pub as_added : CostedMerge → Added
+    as_added item = record { table = table; join = Merge item.conjunct item.inner; cost = item.cost }
+
+    abbrev pub MergeListed : ℕ → List Added → CostedMerge → Type 0
+    MergeListed start xs item = item.cost < known → (place : ℕ) × (start ≤ place) × (place < length xs) × (added_at xs place ≡ as_added item)
+
+    abbrev pub MergesListed : ℕ → List Added → Type 0
+    MergesListed start xs = (number : ℕ) (inner : Inner) → IsJoin space tables table (Merge number inner) → join_cost space tables (Merge number inner) < known
+        → (place : ℕ) × (start ≤ place) × (place < length xs) × (added_at xs place ≡ record { table = table; join = Merge number inner; cost = join_cost space tables (Merge number inner) })
+
+    pub record Merged (old xs : List Added) (items : List CostedMerge) : Type 0 where
+      pub longer : IsLonger old xs
+      pub each : AreAdded space xs tables (length old) (length xs)
+      pub are : AllByRecursion (IsMergeItem space tables table) items
+      pub leads : (later : List Added) → IsLonger xs later → AllByRecursion (MergeListed (length old) later) items → MergesListed (length old) later
+
+    pub merges_begin : (xs : List Added) (items : List CostedMerge) → AreMerges space tables table items → Merged xs xs items
+    merges_begin xs items are = record {
+      longer = longer_same xs;
+      each = λ place ge lt. absurd (omega (arith, ge, lt));
+      are = are.each;
+      leads = λ later longer all number inner is less. has_each (MergeListed (length xs) later) items (record { conjunct = number; inner = inner; cost = merge_cost space tables number inner }) all (are.all number inner is) less;
+    }
+
+    -- a merge is passed over
+    pub merge_dear : (old xs : List Added) (items rest : List CostedMerge) (item : CostedMerge) → items ≡ item ∷ rest → known ≤ item.cost → Merged old xs items → Merged old xs rest
+    merge_dear old xs items rest item is dear m =
+        let are = rw is at m.are in
+        let leads = rw is at m.leads in
+        record { longer = m.longer; each = m.each; are = are.1; leads = λ later longer all. leads later longer ((λ less. absurd (omega (arith, less, dear))), all) }
+
+    -- or listed
+    pub merge_pushed : (old xs : List Added) (items rest : List CostedMerge) (item : CostedMerge) → items ≡ item ∷ rest → MayFollow space tables table → Merged old xs items → Merged old (xs ++ as_added item ∷ []) rest
+    merge_pushed old xs items rest item is may m = record {
+      longer = longer_more old xs (xs ++ x ∷ []) m.longer (longer_push xs x);
+      each = λ place ge lt. of_cases place ge lt (cases_lt place (length xs));
+      are = are.1;
+      leads = λ later longer all. leads later (longer_more xs (xs ++ x ∷ []) later (longer_push xs x) longer) ((λ less. here later longer), all);
+    }
+      where
+        x : Added
+        x = as_added item
+
+        are : AllByRecursion (IsMergeItem space tables table) (item ∷ rest)
+        are = rw is at m.are
+
+        leads : (later : List Added) → IsLonger xs later → AllByRecursion (MergeListed (length old) later) (item ∷ rest) → MergesListed (length old) later
+        leads = rw is at m.leads
+
+        right : IsMergeItem space tables table item
+        right = are.0
+
+        added : IsAdded space tables table (Merge item.conjunct item.inner) item.cost
+        added = record { follows = may; is_join = right.is_merge; cost = right.cost }
+
+        of_cases : (place : ℕ) → length old ≤ place → place < length (xs ++ as_added item ∷ []) → (place < length xs) ⊎ (length xs ≤ place) → AddedOf (added_at (xs ++ as_added item ∷ []) place)
+        of_cases place ge lt (inl less) = subst AddedOf (sym ((longer_push xs (as_added item)).kept place less)) (m.each place ge less)
+        of_cases place ge lt (inr ge') = subst AddedOf (sym (push_at xs (as_added item) place ge' lt)) added
+
+        here : (later : List Added) → IsLonger (xs ++ as_added item ∷ []) later → (place : ℕ) × (length old ≤ place) × (place < length later) × (added_at later place ≡ as_added item)
+        here later longer =
+            let size = push_size xs (as_added item) in
+            let l = longer.longer in
+            let from = m.longer.longer in
+            (length xs, from, omega (arith, size, l), longer.kept (length xs) (omega (arith, size)) ∙ push_at xs (as_added item) (length xs) (omega arith) (omega (arith, size)))
+
+    pub merges_end : (old xs : List Added) (items merges : List CostedMerge) → items ≡ [] → AreMerges space tables table merges → length xs + length items ≤ length old + length merges → Merged old xs items
+        → AreMergesBelow space xs tables (length old) (length xs) table known
+    merges_end old xs items merges is are few m = record {
+      rising = m.longer.longer;
+      each = m.each;
+      all = let leads = rw is at m.leads in leads xs (longer_same xs) tt;
+      few = (merges, are, omega (arith, few));
+    }
+
+  -- ---- both
+
+  module _ (known : ℕ) (old mid new : List Added) (longer : IsLonger mid new) (before : IsLonger old mid) (may : MayFollow space tables table)
+      (loops : AreLoops space mid tables (length old) (length mid) table known) (merges : AreMergesBelow space new tables (length mid) (length new) table known) where
+    lacks : has tables table ≡ false
+    lacks = of_test (has tables table) refl
+      where
+        of_test : (b : Bool) → has tables table ≡ b → b ≡ false
+        of_test true e = absurd (has_not tables table e may.1)
+        of_test false e = refl
+
+    by_loop : (order : ℕ) (join : Join) → table_in join ≡ table → known ≤ join_cost space tables join → Covers space new tables (length old) (length new) order join
+    by_loop order join at le =
+        let s = loops.stands (omega (arith, le, join_small space tables join)) in
+        let kept = longer.kept s.0 s.2 in
+        let more = longer.longer in
+        let lt = s.2 in
+        let c : (added_at new s.0).cost ≡ known = ap (λ (a : Added). a.cost) kept ∙ s.5 in
+        let t : (added_at new s.0).table ≡ table = ap (λ (a : Added). a.table) kept ∙ s.3 in
+        (s.0, s.1, omega (arith, lt, more), t ∙ sym at, rw (t, ap (λ (a : Added). a.join) kept) (s.4 order), omega (arith, c, le))
+
+    pub joins_with : AreJoinsWith space new tables (length old) (length new) table
+    joins_with = record {
+      rising = let a = before.longer in let b = longer.longer in omega (arith, a, b);
+      each = λ place ge lt. each place ge lt (cases_lt place (length mid));
+      all = all;
+      few = few;
+    }
+      where
+        each : (place : ℕ) → length old ≤ place → place < length new → (place < length mid) ⊎ (length mid ≤ place) → AddedOf (added_at new place)
+        each place ge lt (inl less) = subst AddedOf (sym (longer.kept place less)) (loops.each place ge less)
+        each place ge lt (inr ge') = merges.each place ge' lt
+
+        of_merge : (order number : ℕ) (inner : Inner) → table_in (Merge number inner) ≡ table → CanJoin space tables order (Merge number inner) → (join_cost space tables (Merge number inner) < known) ⊎ (known ≤ join_cost space tables (Merge number inner))
+            → Covers space new tables (length old) (length new) order (Merge number inner)
+        of_merge order number inner at can (inr dear) = by_loop order (Merge number inner) at dear
+        of_merge order number inner at can (inl less) =
+            let is = subst (λ t. IsJoin space tables t (Merge number inner)) at (is_join space tables order (Merge number inner) can) in
+            let m = merges.all number inner is less in
+            let goes = subst (λ t. GoesWith space tables order t (Merge number inner)) at (goes_with space tables order (Merge number inner) can) in
+            let from = before.longer in
+            let ge = m.1 in
+            let e = m.3 in
+            let c : (added_at new m.0).cost ≡ join_cost space tables (Merge number inner) = ap (λ (a : Added). a.cost) e in
+            (m.0, omega (arith, from, ge), m.2, ap (λ (a : Added). a.table) e ∙ sym at, subst (λ (a : Added). GoesWith space tables order a.table a.join) (sym e) goes, omega (arith, c))
+
+        all : (order : ℕ) (join : Join) → table_in join ≡ table → CanJoin space tables order join → Covers space new tables (length old) (length new) order join
+        all order (Loop path) at can = by_loop order (Loop path) at (loops.least path (subst (λ t. IsJoin space tables t (Loop path)) at (is_join space tables order (Loop path) can)))
+        all order (Merge number inner) at can = of_merge order number inner at can (cases_lt (join_cost space tables (Merge number inner)) known)
+
+        few : (sorts : ℕ → ℕ) (counts : ℕ → ℕ → ℕ) → AreCounts space sorts counts → length new ≤ length old + (if has tables table then 0 else counts tables table)
+        few sorts counts are =
+            let m = merges.few in
+            let c = are.of_joins tables table m.0 may m.1 in
+            let a = loops.few in
+            let b = m.2 in
+            rw lacks (omega (arith, a, b, c))
+
+  pub none_with : (xs : List Added) → (MayFollow space tables table → ⊥) → AreJoinsWith space xs tables (length xs) (length xs) table
+  none_with xs never = record {
+    rising = omega arith;
+    each = λ place ge lt. absurd (omega (arith, ge, lt));
+    all = λ order join at can. absurd (never (subst (λ t. MayFollow space tables t) at (follows space tables order join can)));
+    few = λ sorts counts are. omega arith;
+  }
+
+-- ---- table after table
+
+covers_later : (space : Space) (xs ys : List Added) (tables start end start' end' order : ℕ) (join : Join) → IsLonger xs ys → end ≤ length xs → start' ≤ start → end ≤ end' → Covers space xs tables start end order join → Covers space ys tables start' end' order join
+covers_later space xs ys tables start end start' end' order join longer within from to (place, ge, lt, table, goes, le) =
+    let kept = longer.kept place (omega (arith, lt, within)) in
+    let c : (added_at ys place).cost ≡ (added_at xs place).cost = ap (λ (a : Added). a.cost) kept in
+    (place, omega (arith, ge, from), omega (arith, lt, to), ap (λ (a : Added). a.table) kept ∙ table, subst (λ (a : Added). GoesWith space tables order a.table a.join) (sym kept) goes, omega (arith, c, le))
+
+pub joins_none : (space : Space) (xs : List Added) (tables : ℕ) → AreJoins space xs tables (length xs) (length xs) 0
+joins_none space xs tables = record {
+  rising = omega arith;
+  within = omega arith;
+  each = λ place ge lt. absurd (omega (arith, ge, lt));
+  all = λ order join lt can. absurd (omega (arith, lt));
+  few = λ sorts counts are. omega arith;
+}
+
+pub joins_more : (space : Space) (xs ys : List Added) (tables start table : ℕ) → IsLonger xs ys → AreJoins space xs tables start (length xs) table → AreJoinsWith space ys tables (length xs) (length ys) table → AreJoins space ys tables start (length ys) (table + 1)
+joins_more space xs ys tables start table longer are last = record {
+  rising = let a = are.rising in let b = longer.longer in omega (arith, a, b);
+  within = omega arith;
+  each = λ place ge lt. each place ge lt (cases_lt place (length xs));
+  all = λ order join lt can. all order join can lt (cases_lt (table_in join) table);
+  few = λ sorts counts c. let a = are.few sorts counts c in let b = last.few sorts counts c in omega (arith, a, b, more sorts counts);
+}
+  where
+    more : (sorts : ℕ → ℕ) (counts : ℕ → ℕ → ℕ) → most_joins space sorts counts tables (table + 1) ≡ most_joins space sorts counts tables table + (if has tables table then 0 else counts tables table)
+    more sorts counts = rw add-one refl
+
+    each : (place : ℕ) → start ≤ place → place < length ys → (place < length xs) ⊎ (length xs ≤ place) → IsAdded space tables (added_at ys place).table (added_at ys place).join (added_at ys place).cost
+    each place ge lt (inl less) = subst (λ (a : Added). IsAdded space tables a.table a.join a.cost) (sym (longer.kept place less)) (are.each place ge less)
+    each place ge lt (inr ge') = last.each place ge' lt
+
+    all : (order : ℕ) (join : Join) → CanJoin space tables order join → table_in join < table + 1 → (table_in join < table) ⊎ (table ≤ table_in join) → Covers space ys tables start (length ys) order join
+    all order join can lt (inl less) = covers_later space xs ys tables start (length xs) start (length ys) order join longer (omega arith) (omega arith) longer.longer (are.all order join less can)
+    all order join can lt (inr ge) =
+        let from = are.rising in
+        covers_later space ys ys tables (length xs) (length ys) start (length ys) order join (longer_same ys) (omega arith) from (omega arith) (last.all order join (omega (arith, lt, ge)) can)
+
+pub joins_later : (space : Space) (xs ys : List Added) (tables start end count : ℕ) → IsLonger xs ys → AreJoins space xs tables start end count → AreJoins space ys tables start end count
+joins_later space xs ys tables start end count longer are = record {
+  rising = are.rising;
+  within = let a = are.within in let b = longer.longer in omega (arith, a, b);
+  each = λ place ge lt. let w = are.within in subst (λ (a : Added). IsAdded space tables a.table a.join a.cost) (sym (longer.kept place (omega (arith, lt, w)))) (are.each place ge lt);
+  all = λ order join lt can. covers_later space xs ys tables start end start end order join longer are.within (omega arith) (omega arith) (are.all order join lt can);
+  few = are.few;
+}
+
+pub joins_of : (space : Space) (xs : List Added) (tables start end count start' end' count' : ℕ) → start ≡ start' → end ≡ end' → count ≡ count' → AreJoins space xs tables start end count → AreJoins space xs tables start' end' count'
+joins_of space xs tables start end count start' end' count' a b c are = rw (← a, ← b, ← c) are
+
+-- ---- set after set
+
+places_once : (row : Option Places) (a b : Places) → row ≡ Some a → row ≡ Some b → a ≡ b
+places_once None a b e f = absurd cc
+places_once (Some x) a b e f = cc
+
+module _ (old items : List (Option Places)) (tables : ℕ) (places : Places) (inside : tables < length old) (is : items ≡ set old tables (Some places)) where
+  pub listed_here : get_or items tables None ≡ Some places
+  listed_here = rw is (get_or-set_same old tables (Some places) None inside)
+
+  pub listed_others : (other : ℕ) → other ≢ tables → get_or items other None ≡ get_or old other None
+  listed_others other ne = rw is (get_or-set_other old tables other (Some places) None ne)
+
+module _ (space : Space) (old new : JoinLists) (tables : ℕ) (places : Places) (lists : AreLists space old) (inside : tables < 2 ^ space.table_count) (longer : IsLonger (joins_in old) (joins_in new))
+    (are : AreJoins space (joins_in new) tables places.start places.end space.table_count) (is : new.places.items ≡ set old.places.items tables (Some places)) where
+  within : tables < length old.places.items
+  within = let s = lists.sets in omega (arith, inside, s)
+
+  pub more_lists : AreLists space new
+  more_lists = record {
+    sets = ap length is ∙ length-set old.places.items tables (Some places) ∙ lists.sets;
+    each = λ t p stand. of_cases t p stand (cases_eq t tables);
+  }
+    where
+      of_cases : (t : ℕ) (p : Places) → Stand new t p → (t ≡ tables) ⊎ (t ≢ tables) → AreJoins space (joins_in new) t p.start p.end space.table_count
+      of_cases t p stand (inl e) =
+          let same : places ≡ p = places_once (get_or new.places.items tables None) places p (listed_here old.places.items new.places.items tables places within is) (subst (λ n. get_or new.places.items n None ≡ Some p) e stand) in
+          rw e (subst (λ (q : Places). AreJoins space (joins_in new) tables q.start q.end space.table_count) same are)
+      of_cases t p stand (inr ne) = joins_later space (joins_in old) (joins_in new) t p.start p.end space.table_count longer (lists.each t p (sym (listed_others old.places.items new.places.items tables places within is t ne) ∙ stand))
+
+-- ---- sorts of the set that is listed
+
+pub sorts_taken : (space : Space) (state : StatePlan) (old new : JoinLists) (tables : ℕ) (cost : ℕ → ℕ → ℕ) → tables ≡ state.tables → ((other : ℕ) → other ≢ tables → get_or new.places.items other None ≡ get_or old.places.items other None)
+    → LowBySorts space cost state.tables state.found.cost → AreSortsTaken space state (IsListed old) (IsListed new) cost
+sorts_taken space state old new tables cost e others low t (p, stand) = of_cases (cases_eq t tables)
+  where
+    of_cases : (t ≡ tables) ⊎ (t ≢ tables) → IsListed old t ⊎ ((t ≡ state.tables) × LowBySorts space cost t state.found.cost)
+    of_cases (inl is) = let same : t ≡ state.tables = is ∙ e in inr (same, subst (λ n. LowBySorts space cost n state.found.cost) (sym same) low)
+    of_cases (inr ne) = inl (p, sym (others t ne) ∙ stand)
+
+pub listed_one : (lists : JoinLists) (tables : ℕ) → listed_in lists tables ≤ 1
+listed_one lists tables = of_row (get_or lists.places.items tables None)
+  where
+    of_row : (row : Option Places) → one_if row ≤ 1
+    of_row None = omega arith
+    of_row (Some places) = omega arith

@@ -1,8 +1,0 @@
-use Rattle.std.proofs.Common.{◌≡◌, ℕ, ◌<◌, map, length, None}
-use Rattle.std.specs.Prelude.{option_map}
-use Rattle.join_dp.specs.Rows.{found_at}
-use Rattle.join_dp.specs.Views.{candidate_of}
-use Rattle.join_dp.proofs.set_candidates.SetCandidates.clear.Given as goal
-
-abbrev pub invariant-orders : goal.invariant-orders
-invariant-orders l = ((k : ℕ) → k < l.order → found_at (map (option_map candidate_of) l.self-inside.found.items) k ≡ None) × (length l.self-inside.found.items ≡ length l.fn.self.found)

@@ -1,0 +1,160 @@
+//! The joins on top of the plans of each set of tables.
+
+ghost use Rattle.std.specs.Prelude.{ℕ, ◌≡◌, ◌≢◌, ◌<◌, ◌≤◌, ◌^◌, None, IfOk, length, get_or, map};
+ghost use Rattle.definitions.specs.Limits.{most_from_tables};
+ghost use Rattle.definitions.specs.Plans.Path.{Path};
+ghost use Rattle.definitions.specs.Plans.PlanSpace.{MayFollow};
+ghost use Rattle.plan_tree.specs.Sets.{set_of};
+ghost use Rattle.join_dp.specs.JoinLists.{AreJoinsWith, AreLoops, AreMergesBelow, AreLists, IsLonger, Stand};
+ghost use Rattle.join_dp.specs.Joining.{join_cost, IsJoin};
+ghost use Rattle.join_dp.specs.Steps as steps;
+ghost use Rattle.join_dp.specs.Views.{added_of};
+ghost use Rattle.plan_space.specs.Planned.{space_in};
+ghost use Rattle.plan_space.specs.Relation.{IsRelation};
+
+use crate::cheapest_path::cheapest_path;
+use crate::step::{AddedJoin, Join};
+use plan_space::{JoinRelation, Space};
+use plan_tree::{TableSet, saturate};
+use std::alloc::{AllocError, Global};
+
+/// Where the joins on top of the plans of a set stand.
+#[derive(Clone, Copy)]
+pub(crate) struct Places {
+    pub start: usize,
+    pub end: usize,
+}
+
+/// The joins on top of the plans of sets of tables, of each set those that one of its plans may need.
+#[derive(Drop)]
+pub(crate) struct JoinLists<'a> {
+    pub joins: Vec<AddedJoin<'a>>,
+    pub places: Vec<Option<Places>>,
+}
+
+impl<'a> JoinLists<'a> {
+    /// No joins, for so many sets of tables.
+    pub fn new(alloc: Global, sets: usize) -> Result<JoinLists<'a>, AllocError>
+        ensures sets { IfOk result (λ lists. length lists.places.items ≡ sets) }
+        ensures none { IfOk result (λ lists. (tables : ℕ) → get_or lists.places.items tables None ≡ None) }
+    {
+        let mut places: Vec<Option<Places>> = Vec::new(alloc);
+        'sets: for _ in 0..sets {
+            places.push(None)?;
+        }
+        Ok(JoinLists {
+            joins: Vec::new(alloc),
+            places,
+        })
+    }
+
+    /// Where the joins on top of the plans of a set stand, if they are listed.
+    pub fn places(&self, tables: TableSet) -> Option<Places>
+        requires { set_of tables < length self.now.places.items }
+        ensures { result ≡ get_or self.now.places.items (set_of tables) None }
+    {
+        self.places[tables.place()]
+    }
+
+    /// Lists the joins on top of the plans of a set.
+    pub fn list(&mut self, space: &'a Space<'_>, tables: TableSet) -> Result<Places, AllocError>
+        requires set { set_of tables < 2 ^ (space_in space.now).table_count }
+        requires lists { AreLists (space_in space.now) self.old }
+        requires none { get_or self.old.places.items (set_of tables) None ≡ None }
+        ensures lists { IfOk result (λ _. AreLists (space_in space.now) self.new) }
+        ensures here { IfOk result (λ places. Stand self.new (set_of tables) places) }
+        ensures others { IfOk result (λ _. (other : ℕ) → other ≢ set_of tables →
+            get_or self.new.places.items other None ≡ get_or self.old.places.items other None) }
+    {
+        let start = self.joins.len();
+        let outer = space.relation(tables);
+        'tables: for table in 0..space.table_count() {
+            push_last(space, &outer, table, &mut self.joins)?;
+        }
+        let places = Places {
+            start,
+            end: self.joins.len(),
+        };
+        self.places[tables.place()] = Some(places);
+        Ok(places)
+    }
+}
+
+/// Lists the joins by which a table comes last.
+fn push_last<'a>(
+    space: &'a Space<'_>,
+    outer: &JoinRelation<'_>,
+    table: usize,
+    joins: &mut Vec<AddedJoin<'a>>,
+) -> Result<(), AllocError>
+    requires outer { IsRelation (space_in space.now) outer.now }
+    requires table { table < (space_in space.now).table_count }
+    ensures longer { IfOk result (λ _. IsLonger (map added_of joins.old.items) (map added_of joins.new.items)) }
+    ensures joins { IfOk result (λ _. AreJoinsWith (space_in space.now) (map added_of joins.new.items)
+        (set_of outer.now.tables)
+        (length joins.old.items) (length joins.new.items) table) }
+{
+    if !outer.can_join_next(table) {
+        return Ok(());
+    }
+    let known = push_loop(space, outer, table, joins)?;
+    push_merges(space, outer, table, known, joins)
+}
+
+/// Lists the loop over a table that costs least, and tells what it adds to the cost of a plan. The other loops go with the same plans and
+/// add no less.
+fn push_loop<'a>(
+    space: &'a Space<'_>,
+    outer: &JoinRelation<'_>,
+    table: usize,
+    joins: &mut Vec<AddedJoin<'a>>,
+) -> Result<u64, AllocError>
+    requires outer { IsRelation (space_in space.now) outer.now }
+    requires follows { MayFollow (space_in space.now) (set_of outer.now.tables) table }
+    ensures longer { IfOk result (λ _. IsLonger (map added_of joins.old.items) (map added_of joins.new.items)) }
+    ensures loops { IfOk result (λ known. AreLoops (space_in space.now) (map added_of joins.new.items)
+        (set_of outer.now.tables)
+        (length joins.old.items) (length joins.new.items) table known) }
+{
+    let Some(item) = cheapest_path(space, outer.tables, table) else {
+        return Ok(u64::MAX);
+    };
+    let cost = saturate(u128::from(outer.rows) * u128::from(item.cost));
+    joins.push(AddedJoin {
+        table,
+        join: Join::Loop { path: item.path },
+        cost,
+    })?;
+    Ok(cost)
+}
+
+/// Lists the merges with a table that add less to the cost of a plan than a join that goes with all plans.
+fn push_merges<'a>(
+    space: &'a Space<'_>,
+    outer: &JoinRelation<'_>,
+    table: usize,
+    known: u64,
+    joins: &mut Vec<AddedJoin<'a>>,
+) -> Result<(), AllocError>
+    requires outer { IsRelation (space_in space.now) outer.now }
+    requires follows { MayFollow (space_in space.now) (set_of outer.now.tables) table }
+    ensures longer { IfOk result (λ _. IsLonger (map added_of joins.old.items) (map added_of joins.new.items)) }
+    ensures merges { IfOk result (λ _. AreMergesBelow (space_in space.now) (map added_of joins.new.items)
+        (set_of outer.now.tables)
+        (length joins.old.items) (length joins.new.items) table known) }
+{
+    'merges: for item in space.merges(outer, table) {
+        if item.cost < known {
+            joins.push(AddedJoin {
+                table,
+                join: Join::Merge {
+                    conjunct: item.conjunct,
+                    path: item.path,
+                    sorted: item.sorted,
+                },
+                cost: item.cost,
+            })?;
+        }
+    }
+    Ok(())
+}
