@@ -8,9 +8,11 @@ pub mod GroupFacts
 pub mod GroupTelling
 pub mod GroupTaking
 pub mod GroupEnding
+pub mod Counted
 pub mod BlockTaking
 pub mod Blind
 pub mod Taking
+pub mod BatchTaking
 pub mod Meaning
 pub mod GroupMeaning
 pub mod Ending

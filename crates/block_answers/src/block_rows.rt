@@ -1,13 +1,14 @@
 //! The rows that a block makes of the combinations that its WHERE keeps.
 
-ghost use Rattle.std.specs.Prelude.{◌≡◌, ◌++◌, ◌∷◌, [], List, IfErr, IfOk, OnOk, is_some, not, true};
+ghost use Rattle.std.specs.Prelude.{◌≡◌, ◌++◌, ◌∷◌, [], List, IfErr, IfOk, OnOk, is_some, length, map, not, true};
 ghost use Rattle.std.specs.List.{list_all};
 ghost use Rattle.definitions.specs.Estimates.Orders.{sort_key};
 ghost use Rattle.definitions.specs.Queries.Evaluation.{Combination};
+ghost use Rattle.definitions_execution.specs.OfBlock.{combination_of};
 ghost use Rattle.query_tree.specs.Bound.{block_of, key_of};
 ghost use Rattle.result_rows.specs.Faults.{IfRaised};
 ghost use Rattle.result_rows.specs.RowAt.{items_of};
-ghost use Rattle.scans.specs.Sources.{BlockSource as Source};
+ghost use Rattle.scans.specs.Sources.{block_in, BlockSource as Source};
 ghost use Rattle.block_answers.specs.BlockRows.{comes_in_order, store_in, HasRowsOf, IsWellFor, MayRaiseOn, TellsOf};
 ghost use Rattle.block_answers.specs.Groups.{seen, AreTyped};
 ghost use Rattle.block_answers.specs.Ready.{CanAnswer};
@@ -15,7 +16,9 @@ ghost use Rattle.result_rows.specs.Stores.{keeping, kind_of, printing, Holds};
 ghost use Rattle.block_answers.specs.Telling.{names_of};
 
 use crate::block_row::row_at;
+use crate::counting::counts_rows;
 use crate::group_rows::GroupRows;
+use batches::Batch;
 use conjuncts::column_of;
 use interesting_orders::is_grouped;
 use query_tree::{Block, Item, Key};
@@ -101,6 +104,60 @@ impl<'s> BlockRows<'s> {
             }
             BlockRows::Grouped(groups) => groups.add(alloc, source, block, composite, around),
         }
+    }
+
+    /// Takes the combinations of a batch, which WHERE keeps.
+    pub fn add_batch<A: OuterRows>(
+        &mut self,
+        alloc: Global,
+        source: &BlockSource<'_>,
+        block: &'s Block,
+        batch: &Batch,
+        around: &A,
+    ) -> Result<(), AllocError>
+        requires block { block.now ≡ source.now.block }
+        requires can { CanAnswer source.now (A.combinations around.now) }
+        requires well { IsWellFor source.now (A.combinations around.now) self.old }
+        requires wide { batch.now.width ≡ length (block_in source.now).tables }
+        ensures well { OnOk result (IsWellFor source.now (A.combinations around.now) self.new) }
+        ensures told { OnOk result ((cs : List Combination) → AreTyped source.now (A.combinations around.now) cs →
+            TellsOf source.now (A.combinations around.now) cs self.old →
+            TellsOf source.now (A.combinations around.now) (cs ++ map (combination_of source.now.database
+            (block_in source.now)) batch.now.items) self.new) }
+        ensures kind { kind_of (store_in self.new) ≡ kind_of (store_in self.old) }
+    {
+        match self {
+            BlockRows::Grouped(groups) if counts_rows(block) => {
+                groups.count_rows(batch.len() as u64)
+            }
+            _ => self.add_each(alloc, source, block, batch, around),
+        }
+    }
+
+    /// Takes them one after another.
+    fn add_each<A: OuterRows>(
+        &mut self,
+        alloc: Global,
+        source: &BlockSource<'_>,
+        block: &'s Block,
+        batch: &Batch,
+        around: &A,
+    ) -> Result<(), AllocError>
+        requires block { block.now ≡ source.now.block }
+        requires can { CanAnswer source.now (A.combinations around.now) }
+        requires well { IsWellFor source.now (A.combinations around.now) self.old }
+        requires wide { batch.now.width ≡ length (block_in source.now).tables }
+        ensures well { OnOk result (IsWellFor source.now (A.combinations around.now) self.new) }
+        ensures told { OnOk result ((cs : List Combination) → AreTyped source.now (A.combinations around.now) cs →
+            TellsOf source.now (A.combinations around.now) cs self.old →
+            TellsOf source.now (A.combinations around.now) (cs ++ map (combination_of source.now.database
+            (block_in source.now)) batch.now.items) self.new) }
+        ensures kind { kind_of (store_in self.new) ≡ kind_of (store_in self.old) }
+    {
+        'places: for place in 0..batch.len() {
+            self.add(alloc, source, block, &batch.get(place), around)?;
+        }
+        Ok(())
     }
 
     /// All rows, once no combination comes any more; or an exception.

@@ -4,6 +4,7 @@
 
 mod block_row;
 mod block_rows;
+mod counting;
 mod group_rows;
 mod having;
 mod kept_rows;

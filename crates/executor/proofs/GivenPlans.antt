@@ -1,5 +1,5 @@
 -- The plans that are left are of the blocks that are left.
-use Rattle.std.proofs.Common.{◌≡◌, ◌∙◌, refl, sym, subst, ℕ, zero, suc, ◌≤◌, ◌<◌, List, [], ◌∷◌, Some, length, drop, arith}
+use Rattle.std.proofs.Common.{◌≡◌, sym, subst, ℕ, zero, suc, ◌≤◌, ◌<◌, List, [], ◌∷◌, Some, length, drop, arith}
 use Rattle.std.specs.Prelude.{slice_get}
 use Rattle.definitions.specs.Table.{Database}
 use Rattle.definitions.specs.Queries.BoundBlock.{Block, Blocks}

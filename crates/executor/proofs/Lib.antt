@@ -5,5 +5,6 @@ mod InnerBlocks
 mod InnerRows
 mod InnerTelling
 mod Outermost
+mod Batched
 mod WholeQuery
 mod GivenPlans

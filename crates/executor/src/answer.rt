@@ -15,16 +15,16 @@ ghost use Rattle.query_tree.specs.Bound.{block_of};
 ghost use Rattle.plan_space.specs.BlockPlans.{AreLeastOf};
 ghost use Rattle.executor.specs.ReadyBlocks.{blocks_in, database_in, total_at, AreReady, AreRight};
 
-use crate::nested::{sum_of, try_late};
+use crate::nested::sum_of;
 use crate::ready_block::{ReadyBlock, ready_blocks};
 use crate::running::run_plan;
+use crate::taking::take_rows;
 use crate::watch::{QueryWatch, WorkCount};
 use block_answers::BlockRows;
 use catalog::Database;
 use plan_space::BlockPlan;
 use query_tree::Block;
 use result_rows::AnswerFault;
-use scans::TupleSource;
 use std::alloc::{AllocError, Global};
 use subqueries::{Frames, KeptResults};
 
@@ -83,15 +83,15 @@ pub fn run_select<'s, W: QueryWatch>(
         &frames,
     )?;
     let mut rows = BlockRows::to_print(alloc, first.block)?;
-    let mut inner = 0;
-    'composites: while let Some(composite) = pipeline.next(&frames) {
-        let (late, work) = try_late(alloc, query, 0, &composite, &mut frames, results)?;
-        inner = sum_of(inner, work);
-        frames.watch().deliver();
-        if late? {
-            rows.add(alloc, &first.source, first.block, &composite, &frames)?;
-        }
-    }
+    let inner = take_rows(
+        alloc,
+        query,
+        first,
+        &mut pipeline,
+        &mut rows,
+        &mut frames,
+        results,
+    )?;
     let store = rows.finish(alloc, &first.source, first.block, &frames)?;
     let text = store.end(&first.block.order)?;
     Ok((text, sum_of(pipeline.opened_rows(), inner)))

@@ -5,6 +5,7 @@ mod answer;
 mod nested;
 mod ready_block;
 mod running;
+mod taking;
 mod watch;
 
 pub use answer::{answer_text, run_select};

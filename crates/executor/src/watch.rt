@@ -30,20 +30,26 @@ impl<'w, W: QueryWatch> WorkCount<'w, W> {
         }
     }
 
-    /// Notes that one more combination is delivered.
-    pub(crate) fn deliver(&self) {
+    /// Notes that so many more combinations are delivered.
+    pub(crate) fn deliver(&self, count: u64) {
         self.combinations
-            .set(self.combinations.get().wrapping_add(1));
-        self.note_work();
+            .set(self.combinations.get().wrapping_add(count));
+        self.note_steps(count);
+    }
+
+    /// Notes so many more steps, and tells the watch once in `TOLD_EACH`.
+    fn note_steps(&self, count: u64) {
+        let steps = self.steps.get();
+        let more = steps.wrapping_add(count);
+        self.steps.set(more);
+        if more / TOLD_EACH != steps / TOLD_EACH {
+            self.watch.passed(self.combinations.get());
+        }
     }
 }
 
 impl<W: QueryWatch> WorkWatch for WorkCount<'_, W> {
     fn note_work(&self) {
-        let steps = self.steps.get().wrapping_add(1);
-        self.steps.set(steps);
-        if steps % TOLD_EACH == 0 {
-            self.watch.passed(self.combinations.get());
-        }
+        self.note_steps(1);
     }
 }

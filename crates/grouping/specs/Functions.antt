@@ -34,6 +34,10 @@ abbrev pub CanTake : Environment → b.Aggregate → Type 0
 CanTake env b.CountRows = ⊤
 CanTake env (b.OfValues kind distinct argument) = FitsTypes env argument × IsTyped argument
 
+-- it is COUNT(*)
+abbrev pub CountsRows : b.Aggregate → Type 0
+CountsRows f = f ≡ b.CountRows
+
 -- what arguments raise in a row
 abbrev pub argument_raises : Environment → List b.Aggregate → List Raise
 argument_raises env fs = flat_map (λ f. raises_of (argument_in env f)) fs

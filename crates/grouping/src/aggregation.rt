@@ -1,11 +1,13 @@
 //! Set functions of the values of a group, each taken once under DISTINCT.
 
-ghost use Rattle.std.specs.Prelude.{◌≡◌, ◌++◌, [], ◌∷◌, List, false, is_some, IfOk, OnOk};
+ghost use Rattle.std.specs.Prelude.{◌≡◌, ◌++◌, [], ◌∷◌, List, false, is_some, length, IfOk, OnOk};
 ghost use Rattle.std.specs.List.{AllByRecursion};
+ghost use Rattle.definitions.specs.Statement.{Count};
 ghost use Rattle.definitions.specs.Value as spec;
 ghost use Rattle.definitions.specs.Queries.Grouping.{aggregate, taken};
 ghost use Rattle.sqlvalue.specs.Meaning.{value_of};
 ghost use Rattle.parse_tree.specs.Trees.{function_of};
+ghost use Rattle.definitions_answers.specs.Lines.{IsInBounds};
 ghost use Rattle.definitions_answers.specs.Shapes.{HasShape, IsThere, Shape, Sums};
 ghost use Rattle.grouping.specs.Accumulating.{MayEnd};
 ghost use Rattle.grouping.specs.Aggregating.{chosen, Aggregates, IsNoted};
@@ -55,6 +57,17 @@ impl Aggregation {
             self.running.take(alloc, value)?;
         }
         Ok(())
+    }
+
+    /// Takes in so many values that are not null, where they are counted, repeats too.
+    pub fn count_more(&mut self, count: u64) -> Result<(), AllocError>
+        ensures function { self.new.running.function ≡ self.old.running.function }
+        ensures distinct { is_some self.new.seen ≡ is_some self.old.seen }
+        ensures taken { OnOk result ((shape : Shape) (vs more : List spec.Value) →
+            function_of self.old.running.function ≡ Count → is_some self.old.seen ≡ false → length more ≡ count →
+            AllByRecursion IsInBounds more → Aggregates shape vs self.old → Aggregates shape (vs ++ more) self.new) }
+    {
+        self.running.count_more(count)
     }
 
     /// Notes a value that is not null, and tells whether it did not come before; without DISTINCT each counts as new.

@@ -9,4 +9,5 @@ pub mod Comparing
 pub mod Coming
 pub mod Listed
 pub mod Tests
+pub mod Told
 pub mod Scanning

@@ -10,5 +10,6 @@ pub mod Truths
 pub mod Comparisons
 pub mod Words
 pub mod JoinFilters
+pub mod SearchArguments
 pub mod Scans
 pub mod Laws

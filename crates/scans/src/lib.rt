@@ -14,6 +14,7 @@ mod row_context;
 mod scan;
 mod scan_key;
 mod scan_rows;
+mod search_argument;
 mod testing;
 mod tuple_source;
 

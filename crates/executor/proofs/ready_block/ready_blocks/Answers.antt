@@ -1,4 +1,4 @@
-use Rattle.std.proofs.Common.{◌≡◌, ◌∙◌, sym, ap, ap₂, subst, ℕ, zero, suc, ◌+◌, ◌<◌, List, [], ◌∷◌, ◌++◌, Some, length, map, take, drop, get_or, arith, rules}
+use Rattle.std.proofs.Common.{◌≡◌, ◌∙◌, sym, ap, ap₂, subst, ℕ, zero, suc, ◌<◌, List, [], ◌∷◌, ◌++◌, Some, length, map, take, drop, get_or, arith, rules}
 use Rattle.std.specs.Prelude.{slice_get}
 use Rattle.std.specs.List.{AllByRecursion}
 use Rattle.std.proofs.Math.Seq.{take-suc}
@@ -17,8 +17,7 @@ use Rattle.definitions_answers.proofs.Taken.{all_joined}
 use Rattle.query_tree.specs.Bound.{block_of}
 use Rattle.query_tree.specs.declared.block.Block.{Block}
 use Rattle.scans.specs.Sources.{block_in}
-use Rattle.plan_space.specs.BlockPlans.{AreLeastOf, IsLeastOf}
-use Rattle.plan_space.specs.declared.block_plan.BlockPlan.{BlockPlan}
+use Rattle.plan_space.specs.BlockPlans.{AreLeastOf}
 use Rattle.subqueries.specs.OuterColumns.{columns_of_option, outer_columns_of}
 use Rattle.executor.specs.ReadyBlocks.{blocks_in, HasLeast, IsReadyIn}
 use Rattle.executor.specs.declared.ready_block.ReadyBlock.{ReadyBlock}
