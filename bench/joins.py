@@ -254,7 +254,9 @@ def started(command, folder, out, script=os.devnull):
 
 def usage_of(command, folder, out, script=os.devnull):
     """The processor seconds of a command that prints into a file; `None` where it takes too long."""
-    _, status, usage = os.wait4(started(command, folder, out, script).pid, 0)
+    child = started(command, folder, out, script)
+    _, status, usage = os.wait4(child.pid, 0)
+    child.returncode = os.waitstatus_to_exitcode(status)
     took = usage.ru_utime + usage.ru_stime
     if os.WIFSIGNALED(status) and took >= PATIENCE - 1:
         return None
