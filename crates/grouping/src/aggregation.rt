@@ -1,19 +1,24 @@
 //! Set functions of the values of a group, each taken once under DISTINCT.
 
-ghost use Rattle.std.specs.Prelude.{◌≡◌, ◌++◌, [], ◌∷◌, List, false, is_some, length, IfOk, OnOk};
+ghost use Rattle.std.specs.Prelude.{◌≡◌, ◌++◌, [], ◌∷◌, List, false, ◌<◌, is_some, length, map, IfOk, OnOk};
 ghost use Rattle.std.specs.List.{AllByRecursion};
 ghost use Rattle.definitions.specs.Statement.{Count};
 ghost use Rattle.definitions.specs.Value as spec;
 ghost use Rattle.definitions.specs.Queries.Grouping.{aggregate, taken};
 ghost use Rattle.sqlvalue.specs.Meaning.{value_of};
 ghost use Rattle.parse_tree.specs.Trees.{function_of};
+ghost use Rattle.query_tree.specs.Bound.{column_of};
+ghost use Rattle.grouping.specs.Batches.{column_values, AreHeld};
 ghost use Rattle.definitions_answers.specs.Lines.{IsInBounds};
 ghost use Rattle.definitions_answers.specs.Shapes.{HasShape, IsThere, Shape, Sums};
 ghost use Rattle.grouping.specs.Accumulating.{MayEnd};
 ghost use Rattle.grouping.specs.Aggregating.{chosen, Aggregates, IsNoted};
 
 use crate::accumulator::{Accumulator, is_null};
+use crate::column_units::ColumnUnits;
+use crate::row_batch::RowBatch;
 use parse_tree::SetFunction;
+use query_tree::BlockColumn;
 use result_rows::DistinctLines;
 use sqlvalue::{Raise, Value, write_value};
 use std::alloc::{AllocError, Global};
@@ -55,6 +60,57 @@ impl Aggregation {
         }
         if self.is_new(alloc, value)? {
             self.running.take(alloc, value)?;
+        }
+        Ok(())
+    }
+
+    /// Takes the values of a column in, nulls left out: by their units where they are numbers, and else one after another.
+    pub fn take_column<B: RowBatch>(
+        &mut self,
+        alloc: Global,
+        batch: &B,
+        column: BlockColumn,
+        scale: u8,
+        units: &mut ColumnUnits,
+    ) -> Result<(), AllocError>
+        requires table { column.table < B.width batch.now }
+        requires held { AreHeld (B.environments batch.now) units.old }
+        ensures held { OnOk result (AreHeld (B.environments batch.now) units.new) }
+        ensures function { self.new.running.function ≡ self.old.running.function }
+        ensures distinct { is_some self.new.seen ≡ is_some self.old.seen }
+        ensures taken { OnOk result ((shape : Shape) (vs : List spec.Value) →
+            Sums (function_of self.old.running.function) shape →
+            AllByRecursion (HasShape shape) (column_values (B.environments batch.now) (column_of column)) →
+            AllByRecursion (IsThere shape) vs → Aggregates shape vs self.old → Aggregates shape
+            (vs ++ taken false (column_values (B.environments batch.now) (column_of column))) self.new) }
+    {
+        if self.seen.is_some() {
+            return self.take_cells(alloc, batch, column, batch.rows(column.table));
+        }
+        if !units.read(batch, column, scale)? {
+            return self.take_cells(alloc, batch, column, batch.rows(column.table));
+        }
+        self.running.take_units(units.units(), scale)
+    }
+
+    /// Takes the values of a column in some rows in, one after another.
+    fn take_cells<B: RowBatch>(
+        &mut self,
+        alloc: Global,
+        batch: &B,
+        column: BlockColumn,
+        rows: &[u32],
+    ) -> Result<(), AllocError>
+        ensures function { self.new.running.function ≡ self.old.running.function }
+        ensures distinct { is_some self.new.seen ≡ is_some self.old.seen }
+        ensures taken { OnOk result ((shape : Shape) (vs : List spec.Value) →
+            Sums (function_of self.old.running.function) shape →
+            AllByRecursion (HasShape shape) (map (B.value_in batch.now (column_of column)) rows.now) →
+            AllByRecursion (IsThere shape) vs → Aggregates shape vs self.old → Aggregates shape
+            (vs ++ taken false (map (B.value_in batch.now (column_of column)) rows.now)) self.new) }
+    {
+        'rows: for row in rows {
+            self.take(alloc, &batch.cell(column, *row as usize))?;
         }
         Ok(())
     }
