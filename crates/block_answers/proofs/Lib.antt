@@ -8,7 +8,7 @@ pub mod GroupFacts
 pub mod GroupTelling
 pub mod GroupTaking
 pub mod GroupEnding
-pub mod Counted
+pub mod RunTaking
 pub mod BlockTaking
 pub mod Blind
 pub mod Taking

@@ -4,7 +4,7 @@ pub mod Telling
 pub mod Ready
 pub mod Having
 pub mod Cut
-pub mod Counting
+pub mod Runs
 pub mod Groups
 pub mod BlockRows
 pub mod KeptRows

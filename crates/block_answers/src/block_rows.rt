@@ -16,7 +16,7 @@ ghost use Rattle.result_rows.specs.Stores.{keeping, kind_of, printing, Holds};
 ghost use Rattle.block_answers.specs.Telling.{names_of};
 
 use crate::block_row::row_at;
-use crate::counting::counts_rows;
+use crate::column_functions::are_of_columns;
 use crate::group_rows::GroupRows;
 use batches::Batch;
 use conjuncts::column_of;
@@ -127,8 +127,8 @@ impl<'s> BlockRows<'s> {
         ensures kind { kind_of (store_in self.new) ≡ kind_of (store_in self.old) }
     {
         match self {
-            BlockRows::Grouped(groups) if counts_rows(block) => {
-                groups.count_rows(batch.len() as u64)
+            BlockRows::Grouped(groups) if are_of_columns(&block.functions, batch.width()) => {
+                groups.add_batch(alloc, source, block, batch, around)
             }
             _ => self.add_each(alloc, source, block, batch, around),
         }

@@ -2,13 +2,15 @@
 //! them with HAVING, and where rows are kept.
 #![tactic(auto)]
 
+mod batch_rows;
 mod block_row;
 mod block_rows;
-mod counting;
+mod column_functions;
 mod group_rows;
 mod having;
 mod kept_rows;
 mod late;
+mod run_end;
 
 pub use block_row::row_at;
 pub use block_rows::BlockRows;
