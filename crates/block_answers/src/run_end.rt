@@ -66,9 +66,19 @@ fn value_end(
         column.number Null)) ≡ true }
 {
     'places: for at in place..end {
-        if rank(value, &source.cell(column, rows[at] as usize)) != Ordering::Equal {
+        if order_of(value, &source.cell(column, rows[at] as usize)) != Ordering::Equal {
             return at;
         }
     }
     end
+}
+
+/// How two values rank; numbers of one scale, as those of a column are, by their units.
+fn order_of(a: &Value, b: &Value) -> Ordering
+    ensures { result ≡ rank (value_of a.now) (value_of b.now) }
+{
+    match (a, b) {
+        (Value::Num(x), Value::Num(y)) if x.scale == y.scale => x.units.cmp(&y.units),
+        _ => rank(a, b),
+    }
 }
