@@ -2,3 +2,8 @@ pub mod Sorts
 pub mod PackedRows
 pub mod SortedLists
 pub mod KeyedRows
+pub mod RowKeyed
+pub mod PutBack
+pub mod Bits
+pub mod KeyRanks
+pub mod SortedPlaces

@@ -4,4 +4,7 @@ pub mod CompositeLists
 pub mod Packing
 pub mod Keeping
 pub mod Keys
+pub mod RowKeys
+pub mod KeyRanges
+pub mod PlaceKeys
 pub mod Inside

@@ -1,13 +1,19 @@
 //! Rows of a table, and composites of rows, put in an order.
 #![tactic(auto)]
 
+mod key_range;
+mod key_sort;
 mod list;
 mod packing;
+mod place_keys;
+mod range_keys;
 mod ranking;
+mod row_keys;
 mod rows;
 mod sort_buffer;
 mod sort_tuple;
 mod sorting;
 
 pub use list::Composites;
-pub use rows::sort_rows;
+pub use row_keys::{RowKeys, keys_of_rows};
+pub use rows::{sort_rows, sort_rows_with_keys};
