@@ -2,6 +2,7 @@ pub mod Sorts
 pub mod PackedRows
 pub mod SortedLists
 pub mod KeyedRows
+pub mod Singles
 pub mod RowKeyed
 pub mod PutBack
 pub mod Bits

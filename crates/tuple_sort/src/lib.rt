@@ -10,6 +10,7 @@ mod range_keys;
 mod ranking;
 mod row_keys;
 mod rows;
+mod single;
 mod sort_buffer;
 mod sort_tuple;
 mod sorting;

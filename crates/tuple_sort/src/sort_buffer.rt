@@ -9,16 +9,17 @@ ghost use Rattle.tuple_sort.specs.Packing.{packed};
 ghost use Rattle.tuple_sort.specs.Values.{value_in_packed};
 
 use crate::packing::pack;
+use crate::single::sort_single;
 use crate::sort_tuple::SortTuple;
 use crate::sorting::sort_packed;
 use plan_tree::{MAX_FROM_TABLES, SortKey};
 use scans::BlockSource;
 use std::alloc::{AllocError, Global};
 
-/// The rows of so many tables, or fewer, of each composite. With their keys those of one table or two take 16 bytes.
+/// The rows of so many tables, or fewer, of each composite: of one table 4 bytes, and of two 16 with their keys.
 #[derive(Drop)]
 pub(crate) enum SortBuffer {
-    One(Vec<SortTuple<1>>),
+    One(Vec<u32>),
     Two(Vec<SortTuple<2>>),
     Four(Vec<SortTuple<4>>),
     Eight(Vec<SortTuple<8>>),
@@ -58,7 +59,7 @@ impl SortBuffer {
         ensures { result.now ≡ get_or (rows_of self.now) place [] }
     {
         match self {
-            SortBuffer::One(rows) => rows[place].rows.as_slice(),
+            SortBuffer::One(rows) => &rows[place..place + 1],
             SortBuffer::Two(rows) => rows[place].rows.as_slice(),
             SortBuffer::Four(rows) => rows[place].rows.as_slice(),
             SortBuffer::Eight(rows) => rows[place].rows.as_slice(),
@@ -75,7 +76,7 @@ impl SortBuffer {
         ensures err { OnErr result (rows_of self.new ≡ rows_of self.old) }
     {
         match self {
-            SortBuffer::One(rows) => rows.push(SortTuple::new(pack(members, composite)))?,
+            SortBuffer::One(rows) => rows.push(pack::<1>(members, composite)[0])?,
             SortBuffer::Two(rows) => rows.push(SortTuple::new(pack(members, composite)))?,
             SortBuffer::Four(rows) => rows.push(SortTuple::new(pack(members, composite)))?,
             SortBuffer::Eight(rows) => rows.push(SortTuple::new(pack(members, composite)))?,
@@ -92,7 +93,7 @@ impl SortBuffer {
             (rows_of self.new) }
     {
         match self {
-            SortBuffer::One(rows) => sort_packed(rows, source, order, members),
+            SortBuffer::One(rows) => sort_single(rows, source, order, members),
             SortBuffer::Two(rows) => sort_packed(rows, source, order, members),
             SortBuffer::Four(rows) => sort_packed(rows, source, order, members),
             SortBuffer::Eight(rows) => sort_packed(rows, source, order, members),
