@@ -1,6 +1,6 @@
-# Sourced by the commands at the top: `program NAME` gives the path of a program of crates/ that is of the sources as they stand. It is
-# what was built here, or else the release, if it is of these sources; or else it is built first. Which one it was is kept in the user's
-# cache, so that sums are made again only where a file has changed since.
+# Sourced by the commands at the top: `program CRATE NAME` gives the path of the program of a crate that is of the sources as they stand. It
+# is what was built here, or else the release of the name, if it is of these sources; or else it is built first. Which one it was is kept in
+# the user's cache, so that sums are made again only where a file has changed since.
 . "${BASH_SOURCE[0]%/*}/sources.sh"
 
 program() {
@@ -11,7 +11,7 @@ program() {
   if ! { [ -n "$kept" ] && read -r path < "$kept" && is_as_it_was "$kept" "$path"; } 2>/dev/null; then
     local begun=''
     [ -n "$kept" ] && mkdir -p "${kept%/*}" 2>/dev/null && begun=$(mktemp "$kept.XXXXXX" 2>/dev/null)
-    path=$(program_by_sums "$1") || { rm -f "$begun"; return 2; }
+    path=$(program_by_sums "$1" "$2") || { rm -f "$begun"; return 2; }
     [ -n "$begun" ] && keep "$kept" "$begun" "$path" 2>/dev/null
   fi
   echo "$path"
@@ -29,11 +29,11 @@ keep() {
 }
 
 program_by_sums() {
-  local built=$root/crates/$1/out/$1 release=$root/release/sqlr sum
+  local built=$root/crates/$1/out/$1 release=$root/release/$2 sum
   sum=$(sources "$1")
   if [ -x "$built" ] && [ "$(cat "$built.sources" 2>/dev/null)" = "$sum" ]; then
     echo "$built"
-  elif [ "$1" = sqlr_cli ] && [ -x "$release" ] && [ "$(cat "$release.sources" 2>/dev/null)" = "$sum" ]; then
+  elif [ -x "$release" ] && [ "$(cat "$release.sources" 2>/dev/null)" = "$sum" ]; then
     echo "$release"
   else
     python3 "$root/tools/build.py" "$1" >&2 || return 2

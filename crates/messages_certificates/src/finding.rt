@@ -7,13 +7,16 @@ ghost use Rattle.plan_tree.specs.Certificates.{certificate_of};
 ghost use Rattle.plan_space.specs.Planned.{space_in};
 
 use crate::lacking::{missing_found, state_found};
+use crate::naming::Naming;
 use crate::places::{Spot, offset_of};
 use crate::reason::{Ending, Reason};
 use crate::steps::{low_step, state_at};
 use crate::target::target_missed;
 use catalog::Database;
 use certificate::{BlockSpace, Spelled, Version, read_text};
-use certificate_files::{Expected, FileTold, Rule, StateKey, TextFault, Told, first_below};
+use certificate_files::{Expected, FileTold, Rule, StateKey, TextFault, Told, Word, first_below};
+use parse_tree::Select;
+use plan_names::BlockNames;
 use plan_tree::Certificate;
 use query_tree::Block;
 use std::alloc::{AllocError, Global};
@@ -26,6 +29,15 @@ pub(crate) struct Message {
     /// The byte of the file that the message is about.
     pub offset: usize,
     pub reason: Reason,
+    /// What is told of it by the names of the script, if it is of a step or of a plan.
+    pub named: Option<String>,
+}
+
+/// A query, as it is written and bound.
+#[derive(Clone, Copy)]
+pub(crate) struct Query<'a> {
+    pub tree: &'a Select,
+    pub blocks: &'a [Block],
 }
 
 /// A text that is refused, of the block of a number, from 0.
@@ -41,12 +53,15 @@ pub(crate) struct Refused<'a> {
 pub(crate) struct Found {
     pub at: usize,
     pub reason: Reason,
+    /// The same by the names of the script.
+    pub named: Option<String>,
 }
 
 /// What is told of the block of a number, if its text is refused.
 pub(crate) fn block_message(
     alloc: Global,
     database: &Database,
+    query: Query<'_>,
     block: &Block,
     number: usize,
     file: &[u8],
@@ -62,11 +77,12 @@ pub(crate) fn block_message(
             .get(own.start..end_of(file, told, number))
             .unwrap_or(&[]),
     };
-    let found = refusal(alloc, database, block, refused, own.told)?;
+    let found = refusal(alloc, database, query, block, refused, own.told)?;
     Some(Message {
         block: number,
         offset: own.start.saturating_add(found.at),
         reason: found.reason,
+        named: found.named,
     })
 }
 
@@ -82,6 +98,7 @@ fn end_of(file: &[u8], told: &FileTold, number: usize) -> usize {
 fn refusal(
     alloc: Global,
     database: &Database,
+    query: Query<'_>,
     block: &Block,
     refused: Refused<'_>,
     told: Told,
@@ -97,7 +114,7 @@ fn refusal(
         Told::Faulty(TextFault::States(bad)) => Some(state_found(alloc, refused, bad)),
         Told::Faulty(TextFault::Memory) => Some(plain(told)),
         Told::Fails { rule, place } => {
-            match rule_found(alloc, database, block, refused, rule, place) {
+            match rule_found(alloc, database, query, block, refused, rule, place) {
                 Ok(Some(found)) => Some(found),
                 Ok(None) | Err(_) => Some(plain(told)),
             }
@@ -110,6 +127,7 @@ fn plain(told: Told) -> Found {
     Found {
         at: 0,
         reason: Reason::Plain(told),
+        named: None,
     }
 }
 
@@ -121,6 +139,7 @@ fn form_found(refused: Refused<'_>, at: usize, expected: Expected) -> Found {
             expected,
             ending: ending_of(left, expected),
         },
+        named: None,
     }
 }
 
@@ -132,7 +151,20 @@ fn ending_of(left: &[u8], expected: Expected) -> Ending {
     match behind_last_word(left, expected) {
         Some([]) => Ending::Open,
         Some([b'\r', b'\n', ..]) => Ending::CarriageReturn,
+        _ if is_other_version(left, expected) => Ending::OtherVersion,
         _ => Ending::Unremarkable,
+    }
+}
+
+/// Whether a text begins with the number of a version that there isn't.
+fn is_other_version(left: &[u8], expected: Expected) -> bool {
+    let Expected::Word(Word::Certificate(_)) = expected else {
+        return false;
+    };
+    match left.strip_prefix(b"CERTIFICATE ") {
+        Some([b'1' | b'2' | b'3', b'\n' | b'\r', ..]) => false,
+        Some([b'0'..=b'9', ..]) => true,
+        _ => false,
     }
 }
 
@@ -148,6 +180,7 @@ fn behind_last_word(left: &[u8], expected: Expected) -> Option<&[u8]> {
 fn rule_found(
     alloc: Global,
     database: &Database,
+    query: Query<'_>,
     block: &Block,
     refused: Refused<'_>,
     rule: Rule,
@@ -156,14 +189,26 @@ fn rule_found(
     requires { IsFormedSomewhere database.now (block_of block.now) }
 {
     let own = BlockSpace::new(alloc, database, block, refused.number, refused.version)?;
+    let names = BlockNames::new(
+        alloc,
+        database,
+        query.tree,
+        query.blocks,
+        refused.number as usize,
+    )?;
+    let naming = Naming {
+        alloc,
+        names: &names,
+    };
     match read_text(alloc, &own.certified_block(), refused.text) {
-        Ok(spelled) => Ok(rule_failing(&own, &spelled, refused.text, rule, place)),
+        Ok(spelled) => Ok(rule_failing(naming, &own, &spelled, refused.text, rule, place)),
         Err(_) => Ok(None),
     }
 }
 
 /// What makes a rule fail of what a text spells.
 fn rule_failing(
+    naming: Naming<'_, '_>,
     own: &BlockSpace<'_>,
     spelled: &Spelled,
     text: &[u8],
@@ -173,15 +218,20 @@ fn rule_failing(
     requires { IsCertificate (space_in own.now.space) (certificate_of spelled.now.certificate) }
 {
     match rule {
-        Rule::Target => Some(target_missed(own, spelled, text, place)),
+        Rule::Target => Some(target_missed(naming, own, spelled, text, place)),
         Rule::Accesses | Rule::Joins | Rule::Sorts => {
-            step_failing(own, &spelled.certificate, text)
+            step_failing(naming, own, &spelled.certificate, text)
         }
     }
 }
 
 /// The step that the check of a certificate fails by.
-fn step_failing(own: &BlockSpace<'_>, certificate: &Certificate, text: &[u8]) -> Option<Found>
+fn step_failing(
+    naming: Naming<'_, '_>,
+    own: &BlockSpace<'_>,
+    certificate: &Certificate,
+    text: &[u8],
+) -> Option<Found>
     requires { IsCertificate (space_in own.now.space) (certificate_of certificate.now) }
 {
     let failing = first_below(&own.space, certificate)?;
@@ -193,5 +243,6 @@ fn step_failing(own: &BlockSpace<'_>, certificate: &Certificate, text: &[u8]) ->
     Some(Found {
         at: offset_of(text, spot),
         reason: Reason::Step(low_step(own, &failing, certificate.target)?),
+        named: naming.step(own, &failing),
     })
 }

@@ -36,6 +36,7 @@ pub(crate) fn missing_found(
             version: refused.version,
             count,
         }),
+        named: None,
     }
 }
 
@@ -63,6 +64,7 @@ pub(crate) fn state_found(alloc: Global, refused: Refused<'_>, bad: BadState) ->
     Found {
         at: offset_of(refused.text, spot_of_state(bad)),
         reason: reason.unwrap_or(Reason::Plain(Told::Faulty(TextFault::States(bad)))),
+        named: None,
     }
 }
 

@@ -1,6 +1,5 @@
 //! Why texts are refused, with the numbers that messages tell.
 
-use crate::form_words::hint;
 use crate::spelling::{SpelledPath, StateName};
 use crate::words::write_reason;
 use certificate_files::{Expected, Missing, Told, Version};
@@ -33,9 +32,18 @@ impl Display for Reason {
 }
 
 impl Reason {
-    /// A hint on how the line ends, as a line, or nothing.
+    /// A hint on what no editor shows, or on whose text it is, as a line, or nothing.
     pub fn hint(&self) -> &'static str {
-        hint(self)
+        match self {
+            Reason::Form { ending, .. } => ending.hint(),
+            Reason::Missing(lack) => match lack.missing {
+                Missing::Block(_) => "",
+                _ => {
+                    "hint: this text names what the query doesn't have: EXPLAIN of this query prints its own text\n"
+                }
+            },
+            _ => "",
+        }
     }
 }
 
@@ -50,6 +58,22 @@ pub enum Ending {
     Open,
     /// Nothing is left of the text.
     Nothing,
+    /// The line has the number of a version that there isn't.
+    OtherVersion,
+}
+
+impl Ending {
+    /// A hint on the line, as a line, or nothing.
+    fn hint(self) -> &'static str {
+        match self {
+            Ending::CarriageReturn => {
+                "hint: lines end with a line feed alone, and this one with a carriage return before it\n"
+            }
+            Ending::Open => "hint: each line ends with a line feed, and this one has none\n",
+            Ending::OtherVersion => "hint: the versions of certificates are 1, 2 and 3\n",
+            Ending::Unremarkable | Ending::Nothing => "",
+        }
+    }
 }
 
 /// A number that isn't there.

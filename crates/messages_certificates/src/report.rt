@@ -5,11 +5,12 @@ ghost use Rattle.std.specs.List.{AllByRecursion};
 ghost use Rattle.definitions.specs.Binding.Formed.{IsFormedSomewhere};
 ghost use Rattle.query_tree.specs.Bound.{block_of};
 
-use crate::finding::{Message, block_message};
+use crate::finding::{Message, Query, block_message};
 use crate::page::Page;
 use catalog::Database;
 use certificate_files::FileTold;
 use messages_excerpts::LineColumn;
+use parse_tree::Select;
 use query_tree::Block;
 use std::alloc::Global;
 use std::fmt::{self, Display, Formatter};
@@ -32,6 +33,7 @@ impl<'r> FileReport<'r> {
         name: &'r str,
         file: &'r [u8],
         database: &Database,
+        query: &Select,
         blocks: &[Block],
         told: &FileTold,
     ) -> FileReport<'r>
@@ -40,7 +42,7 @@ impl<'r> FileReport<'r> {
         FileReport {
             name,
             file,
-            messages: messages(alloc, file, database, blocks, told),
+            messages: messages(alloc, file, database, query, blocks, told),
             rest: told.rest,
             block_count: blocks.len(),
         }
@@ -62,9 +64,12 @@ impl<'r> FileReport<'r> {
         let number = message.block.saturating_add(1);
         writeln!(f, "block {number}: {}", message.reason)?;
         page.write_line(f, message.offset)?;
+        if let Some(named) = &message.named {
+            writeln!(f, "by names: {named}")?;
+        }
         f.write_str(message.reason.hint())?;
         if message.offset == 0 {
-            f.write_str(head_hint(self.file))?;
+            write_head_hint(f, self.file)?;
         }
         Ok(())
     }
@@ -104,16 +109,32 @@ impl Display for FileReport<'_> {
     }
 }
 
-/// A hint on what stands before the first text of a file, as a line, or nothing.
-fn head_hint(file: &[u8]) -> &'static str {
+/// A first line of at most so many bytes is shown whole.
+const SHORT: usize = 40;
+
+/// Writes a hint on what stands before the first text of a file, as a line, if anything does.
+fn write_head_hint<W: fmt::Write>(f: &mut Formatter<W>, file: &[u8]) -> fmt::Result {
     let text = str::from_utf8(file).unwrap_or("");
     if text.starts_with("\u{feff}") {
-        "hint: save the file without a byte order mark\n"
-    } else if text.split_once("\nCERTIFICATE ").is_some() && !text.starts_with("CERTIFICATE ") {
-        "hint: leave out the lines before CERTIFICATE: they are what other statements print\n"
-    } else {
-        ""
+        return f.write_str("hint: save the file without a byte order mark\n");
     }
+    if text.starts_with("CERTIFICATE ") {
+        return Ok(());
+    }
+    let Some((before, _)) = text.split_once("\nCERTIFICATE ") else {
+        return Ok(());
+    };
+    let line = before.lines().count().saturating_add(1);
+    let first = before.lines().next().unwrap_or("");
+    if first.len() <= SHORT {
+        write!(f, "hint: its first line is {first}: ")?;
+    } else {
+        f.write_str("hint: ")?;
+    }
+    writeln!(
+        f,
+        "the certificate begins at line {line}, and the lines before it are what other statements print"
+    )
 }
 
 /// What is told of each block whose text is refused.
@@ -121,15 +142,17 @@ fn messages(
     alloc: Global,
     file: &[u8],
     database: &Database,
+    tree: &Select,
     blocks: &[Block],
     told: &FileTold,
 ) -> Vec<Message>
     requires { AllByRecursion (IsFormedSomewhere database.now) (map block_of blocks.now) }
 {
+    let query = Query { tree, blocks };
     let mut messages = Vec::new(alloc);
     let mut number: usize = 0;
     'texts: for block in blocks {
-        if let Some(message) = block_message(alloc, database, block, number, file, told) {
+        if let Some(message) = block_message(alloc, database, query, block, number, file, told) {
             // no room: one message fewer
             let _ = messages.push(message);
         }

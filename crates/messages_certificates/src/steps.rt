@@ -36,7 +36,7 @@ pub(crate) fn low_step(
 }
 
 /// A step with its path as texts spell it; none where memory runs out.
-fn spelled_step(own: &BlockSpace<'_>, step: PlanStep<'_>) -> Option<Step> {
+pub(crate) fn spelled_step(own: &BlockSpace<'_>, step: PlanStep<'_>) -> Option<Step> {
     match step {
         PlanStep::Access(path) => Some(Step::Access(spell_path(own, path)?)),
         PlanStep::Loop(path) => Some(Step::Loop(spell_path(own, path)?)),

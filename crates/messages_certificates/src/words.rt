@@ -1,10 +1,10 @@
 //! Why texts are refused, in words.
 
-use crate::form_words::problem;
 use crate::reason::{Ending, Lack, PlanFault, Reason};
 use crate::spelling::{StateName, TableNames};
 use crate::step_words::{write_step, write_wrong};
 use certificate_files::{BadState, Missing, Rule, TextFault, Told, Version};
+use plan_texts::form_problem;
 use plan_tree::MAX_MATCHED;
 use std::fmt::{self, Formatter};
 
@@ -12,7 +12,7 @@ use std::fmt::{self, Formatter};
 pub(crate) fn write_reason<W: fmt::Write>(f: &mut Formatter<W>, reason: &Reason) -> fmt::Result {
     match reason {
         Reason::Form { expected, ending } => {
-            f.write_str(problem(*expected))?;
+            f.write_str(form_problem(*expected))?;
             f.write_str(match ending {
                 Ending::Nothing => ", found the end of the file",
                 _ => "",

@@ -124,6 +124,7 @@ impl<'a> Reporter<'a> {
             name,
             checked.file,
             database,
+            checked.query,
             &checked.blocks,
             &checked.told,
         )

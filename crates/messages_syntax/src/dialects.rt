@@ -140,7 +140,12 @@ const TRANSACTION: &str =
 
 const THE_END: &str = "a script ends where its text does";
 
-static STATEMENTS: [(&str, &str); 22] = [
+/// Of a file of certificates that is given as a script.
+const CERTIFICATES: &str =
+    "this is a certificate: check takes the script first, and then its certificates";
+
+static STATEMENTS: [(&str, &str); 23] = [
+    ("CERTIFICATE", CERTIFICATES),
     ("INSERT", ROWS),
     ("COPY", ROWS),
     ("VALUES", ROWS),

@@ -42,7 +42,12 @@ pub(crate) fn check_query<'a>(
         Err(BindFault::Memory) => return Err(StepFault::Memory),
     };
     let told = check_file(alloc, database, &blocks, file)?;
-    Ok(Checked::Told(CheckedFile { file, blocks, told }))
+    Ok(Checked::Told(CheckedFile {
+        file,
+        query,
+        blocks,
+        told,
+    }))
 }
 
 /// The query of a SELECT or of an EXPLAIN, whose blocks can be checked (own).

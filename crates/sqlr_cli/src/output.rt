@@ -1,11 +1,10 @@
 //! Standard output as a sink.
 
-use crate::folder::has_file;
-use crate::standard_error::StandardError;
 use answer_forms::{Answer, csv_text, json_text, table_text};
 use catalog::Database;
 use command_line::requests::{AnswerForm, RunOptions};
 use messages_statements::Reporter;
+use program_devices::{StandardError, tell_beside};
 use sqlr::{
     CheckedFile, Failures, LoadProgress, Name, Planned, Progress, Refused, Sink, SinkFault,
 };
@@ -77,7 +76,7 @@ impl<L: Ledger, R: Runtime + AllocGlobal, W: Write + Drop> Sink for Output<'_, '
             let missing = report.missing_file();
             self.standard_error.print(report);
             if let Some(file) = missing {
-                self.tell_beside(file);
+                tell_beside(self.rt, self.standard_error, self.script_name, file);
             }
         }
     }
@@ -139,18 +138,6 @@ impl<L: Ledger, R: Runtime + AllocGlobal, W: Write + Drop> Output<'_, '_, L, R, 
     fn may_tell(&self) -> bool {
         self.messages.set(self.messages.get().saturating_add(1));
         self.messages.get() <= MAX_MESSAGES
-    }
-
-    /// Says where a file that isn't there is, if it lies beside the script.
-    fn tell_beside(&self, file: &str) {
-        let Some((folder, _)) = self.script_name.rsplit_once('/') else {
-            return;
-        };
-        if has_file(self.rt, folder, file) {
-            self.standard_error.print(format_args!(
-                "hint: {folder}/{file} is there: files are looked for from where one stands, so run the script in {folder}\n"
-            ));
-        }
     }
 
     /// How many messages were left out.

@@ -14,6 +14,8 @@ const CLEAR_LINE: &str = "\r\x1b[K";
 #[derive(Drop)]
 pub struct StandardError<'a, R: Runtime + AllocGlobal> {
     rt: &'a R,
+    /// What lines begin with.
+    program: &'a str,
     is_terminal: bool,
     has_notice: Cell<bool>,
     /// When the statement began that runs, where a clock tells it.
@@ -23,9 +25,11 @@ pub struct StandardError<'a, R: Runtime + AllocGlobal> {
 }
 
 impl<'a, R: Runtime + AllocGlobal> StandardError<'a, R> {
-    pub fn new(rt: &'a R, is_terminal: bool) -> StandardError<'a, R> {
+    /// Standard error of a program of a name, and whether it is a terminal.
+    pub fn new(rt: &'a R, program: &'a str, is_terminal: bool) -> StandardError<'a, R> {
         StandardError {
             rt,
+            program,
             is_terminal,
             has_notice: Cell::new(false),
             began: Cell::new(Instant::now(rt).ok()),
@@ -82,12 +86,14 @@ impl<'a, R: Runtime + AllocGlobal> StandardError<'a, R> {
         }
     }
 
+    /// Takes a notice away, if one stands there.
     pub fn clear_notice(&self) {
         if self.has_notice.replace(false) {
             let _ = self.rt.eprint(CLEAR_LINE);
         }
     }
 
+    /// Prints words, in place of a notice.
     pub fn print<D: Display + Drop>(&self, words: D) {
         self.clear_notice();
         let _ = self.rt.eprint(words);
@@ -95,7 +101,8 @@ impl<'a, R: Runtime + AllocGlobal> StandardError<'a, R> {
 
     /// Prints a line that begins with the program's name.
     pub fn tell<D: Display + Drop>(&self, words: D) {
-        self.print(format_args!("sqlr: {words}\n"));
+        let program = self.program;
+        self.print(format_args!("{program}: {words}\n"));
     }
 
     /// Prints such a line where someone looks on.

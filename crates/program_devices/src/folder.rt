@@ -73,8 +73,25 @@ impl<L: Ledger, R: Runtime + AllocGlobal> Folder<'_, L, R> {
     }
 }
 
+/// Says where a file that isn't there is, if it lies beside the script.
+pub fn tell_beside<R: Runtime + AllocGlobal>(
+    rt: &R,
+    standard_error: &StandardError<R>,
+    script_name: &str,
+    file: &str,
+) {
+    let Some((folder, _)) = script_name.rsplit_once('/') else {
+        return;
+    };
+    if has_file(rt, folder, file) {
+        standard_error.print(format_args!(
+            "hint: {folder}/{file} is there: files are looked for from where one stands, so run the script in {folder}\n"
+        ));
+    }
+}
+
 /// Whether a folder has a file of a name that can be opened.
-pub(crate) fn has_file<R: Runtime + AllocGlobal>(rt: &R, folder: &str, name: &str) -> bool {
+fn has_file<R: Runtime + AllocGlobal>(rt: &R, folder: &str, name: &str) -> bool {
     match format!(in rt.alloc(); "{folder}/{name}") {
         Ok(path) => File::open(rt, path.as_str()).is_ok(),
         Err(_) => false,

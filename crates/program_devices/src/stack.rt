@@ -12,10 +12,7 @@ const NEEDED: u64 = 512;
 const LIMITS: &str = "/proc/self/limits";
 
 /// Whether the stack is large enough. Where it isn't, words say so; where the system doesn't say how large it is, it is taken to be.
-pub(crate) fn is_enough<R: Runtime + AllocGlobal>(
-    rt: &R,
-    standard_error: &StandardError<R>,
-) -> bool {
+pub fn is_enough<R: Runtime + AllocGlobal>(rt: &R, standard_error: &StandardError<R>) -> bool {
     match stack_size(rt) {
         Some(size) if size < NEEDED => {
             standard_error.tell(format_args!(

@@ -1,10 +1,9 @@
-//! What a text is to go on with, in words.
+//! What a text in EXPLAIN's spelling is to go on with, in words.
 
-use crate::reason::{Ending, Reason};
-use certificate_files::{Expected, Version, Word};
+use certificate::{Expected, Version, Word};
 
 /// What is amiss where reading didn't go on.
-pub(crate) fn problem(expected: Expected) -> &'static str {
+pub fn form_problem(expected: Expected) -> &'static str {
     match expected {
         Expected::Word(word) => word_problem(word),
         Expected::Path => "expected SEG, IDX or MATCH",
@@ -45,19 +44,5 @@ fn word_problem(word: Word) -> &'static str {
         Word::Point => "expected \".\"",
         Word::Slash => "expected \"/\"",
         Word::Back => "expected a space and BACK",
-    }
-}
-
-/// A hint on how the line ends, which no editor shows.
-pub(crate) fn hint(reason: &Reason) -> &'static str {
-    match reason {
-        Reason::Form { ending, .. } => match ending {
-            Ending::CarriageReturn => {
-                "hint: lines end with a line feed alone, and this one with a carriage return before it\n"
-            }
-            Ending::Open => "hint: each line ends with a line feed, and this one has none\n",
-            Ending::Unremarkable | Ending::Nothing => "",
-        },
-        _ => "",
     }
 }

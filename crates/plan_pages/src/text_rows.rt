@@ -1,0 +1,106 @@
+//! Rows of a table as texts.
+
+use crate::column_widths::columns_of;
+use crate::drawing::Drawing;
+use crate::tables::{Cell, Row, Table};
+use std::alloc::{AllocError, Global};
+
+/// How many columns a row of a tree stands behind the one that it belongs to.
+const STEP: usize = 2;
+
+/// A row as texts.
+#[derive(Drop)]
+pub(crate) struct TextRow {
+    pub lead: Lead,
+    pub texts: Vec<String>,
+}
+
+/// What stands before the first text of a row.
+#[derive(Clone, Copy)]
+pub(crate) struct Lead {
+    pub blanks: usize,
+    pub branch: &'static str,
+}
+
+impl Lead {
+    const NOTHING: Lead = Lead {
+        blanks: 0,
+        branch: "",
+    };
+
+    fn of_depth(depth: usize, drawing: Drawing) -> Lead {
+        if depth == 0 {
+            return Lead::NOTHING;
+        }
+        Lead {
+            blanks: STEP.saturating_mul(depth.saturating_sub(1)),
+            branch: drawing.branch(),
+        }
+    }
+
+    /// What stands before the lines in which the text goes on.
+    pub fn of_rest(self) -> Lead {
+        Lead {
+            blanks: self.width(),
+            branch: "",
+        }
+    }
+
+    pub fn width(self) -> usize {
+        self.blanks.saturating_add(columns_of(self.branch))
+    }
+}
+
+impl TextRow {
+    /// The titles of a table's columns; a tree's own stands above its first column.
+    pub fn of_titles(alloc: Global, table: &Table) -> Result<TextRow, AllocError> {
+        let mut own = if table.is_tree() {
+            Some(table.title.as_str())
+        } else {
+            None
+        };
+        let mut texts = Vec::new(alloc);
+        for column in &table.columns {
+            let title = own.take().unwrap_or(column.title);
+            let text = String::from_str(alloc, title)?;
+            texts.push(text)?;
+        }
+        Ok(TextRow {
+            lead: Lead::NOTHING,
+            texts,
+        })
+    }
+
+    pub fn of_cells(alloc: Global, row: &Row, drawing: Drawing) -> Result<TextRow, AllocError> {
+        let mut texts = Vec::new(alloc);
+        for cell in &row.cells {
+            let text = cell_text(alloc, cell)?;
+            texts.push(text)?;
+        }
+        Ok(TextRow {
+            lead: Lead::of_depth(row.depth, drawing),
+            texts,
+        })
+    }
+
+    /// How many columns the text of a number takes, with what stands before it.
+    pub fn width(&self, number: usize) -> usize {
+        let width = match self.texts.get(number) {
+            Some(text) => columns_of(text),
+            None => 0,
+        };
+        if number == 0 {
+            width.saturating_add(self.lead.width())
+        } else {
+            width
+        }
+    }
+}
+
+fn cell_text(alloc: Global, cell: &Cell) -> Result<String, AllocError> {
+    match cell {
+        Cell::Nothing => Ok(String::new(alloc)),
+        Cell::Number(number) => number.to_string(alloc),
+        Cell::Text(text) => text.clone(),
+    }
+}

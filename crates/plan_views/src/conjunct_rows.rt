@@ -1,0 +1,126 @@
+//! The conjuncts of a block, and what they are taken to leave.
+
+use crate::block_views::BlockView;
+use crate::tables::{add_row, number, table, word_cell, words};
+use catalog::Table as StoredTable;
+use estimate::PlanConjunct;
+use plan_pages::{Cell, Table};
+use query_tree::{BlockColumn, Condition, ValueExpr};
+use std::alloc::{AllocError, Global};
+
+/// A table of the conjuncts: number, words, share of rows in millionths, where the share comes from, and whether plans apply it.
+pub(crate) fn conjunct_table(alloc: Global, block: &BlockView<'_>) -> Result<Table, AllocError> {
+    let mut rows = table(
+        alloc,
+        "conjuncts",
+        "conjuncts",
+        &[
+            number("number", "conjunct"),
+            words("condition", "condition"),
+            number("share", "millionths"),
+            words("source", "keeps"),
+            words("applied", "applied"),
+        ],
+    )?;
+    let mut place: u64 = 0;
+    for conjunct in block.estimate.conjuncts() {
+        place = place.saturating_add(1);
+        let condition = format!(in alloc; "{}", block.names.condition(conjunct.condition))?;
+        let source = source_words(alloc, block, conjunct)?;
+        let applied = word_cell(alloc, applied_word(conjunct))?;
+        let cells = [
+            Cell::Number(place),
+            Cell::Text(condition),
+            Cell::Number(u64::from(conjunct.selectivity)),
+            Cell::Text(source),
+            applied,
+        ];
+        add_row(alloc, &mut rows, 0, false, cells)?;
+    }
+    Ok(rows)
+}
+
+fn applied_word(conjunct: &PlanConjunct<'_>) -> &'static str {
+    if conjunct.early {
+        "as soon as its tables are there"
+    } else {
+        "last, outside the plan"
+    }
+}
+
+/// What share a conjunct keeps and what that rests on: `one in 500 (keys of C (CNO))`, `a third (nothing known of I.QTY)`.
+fn source_words(
+    alloc: Global,
+    block: &BlockView<'_>,
+    conjunct: &PlanConjunct<'_>,
+) -> Result<String, AllocError> {
+    let share = share_words(alloc, u64::from(conjunct.selectivity))?;
+    let (left, right) = columns_of(conjunct);
+    for column in [left, right] {
+        if let Some(column) = column
+            && let Some(keys) = own_keys(block, column)
+        {
+            return format!(in alloc; "{share} ({keys} keys of {})", block.names.column(column));
+        }
+    }
+    match left {
+        Some(column) => format!(in alloc;
+            "{share} (no index on {} alone)",
+            block.names.column(column)
+        ),
+        None => format!(in alloc; "{share} (by its form)"),
+    }
+}
+
+/// `one in 500` where the share is that of a whole number, else `.. of a million`.
+fn share_words(alloc: Global, millionths: u64) -> Result<String, AllocError> {
+    match millionths {
+        0 => format!(in alloc; "none"),
+        333_333 | 333_334 => format!(in alloc; "a third"),
+        1_000_000 => format!(in alloc; "all"),
+        share => {
+            let parts = 1_000_000_u64.checked_div(share).unwrap_or(1);
+            if parts.saturating_mul(share) > 999_000 && parts > 1 {
+                format!(in alloc; "one in {parts}")
+            } else {
+                format!(in alloc; "{share} of a million")
+            }
+        }
+    }
+}
+
+/// How many keys the index on a column alone has, where there is one.
+fn own_keys(block: &BlockView<'_>, column: BlockColumn) -> Option<u64> {
+    let stored: &StoredTable = block.names.stored_table(column.table)?;
+    for number in 0..stored.index_count() {
+        let index = stored.index(number);
+        if index.is_on(&[column.number]) {
+            return Some(index.statistics().keys);
+        }
+    }
+    None
+}
+
+/// The columns that a conjunct's share rests on: both sides of `column = column`, else the column that is compared.
+pub(crate) fn columns_of(
+    conjunct: &PlanConjunct<'_>,
+) -> (Option<BlockColumn>, Option<BlockColumn>) {
+    if let Some((left, right)) = conjunct.equated {
+        return (Some(left), Some(right));
+    }
+    match conjunct.condition {
+        Condition::Compare { left, right, .. } => (plain_column(left), plain_column(right)),
+        Condition::Between { value, .. }
+        | Condition::InList { value, .. }
+        | Condition::IsNull { value, .. }
+        | Condition::Like { value, .. } => (plain_column(value), None),
+        _ => (None, None),
+    }
+}
+
+fn plain_column(value: &ValueExpr) -> Option<BlockColumn> {
+    match value {
+        ValueExpr::Column { column, .. } => Some(*column),
+        _ => None,
+    }
+}

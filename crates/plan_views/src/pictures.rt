@@ -1,0 +1,147 @@
+//! The search as a graph: states in layers by their number of tables, and the steps that reached them.
+
+use crate::block_views::BlockView;
+use crate::listening::{Kept, MANY_STATES};
+use crate::searches::size_of;
+use crate::ways::{Way, key_of, state_of};
+use cert_check::{PlanStep, StateKey};
+use indexmap::IndexSet;
+use plan_pages::{Edge, Graph, Node, NodeKind};
+use std::alloc::{AllocError, Global};
+
+/// The states of a block's certificate, its plan's last one, and those that aren't listed and are told of comparisons, with the steps that
+/// lead to each at its least cost, and those that come near on the plan's way.
+pub(crate) fn picture(alloc: Global, block: &BlockView<'_>) -> Result<Graph, AllocError> {
+    let way = Way::of(alloc, block.space(), block.plan())?;
+    let mut graph = Graph {
+        key: "search",
+        title: format!(in alloc; "The search of block {}", block.shown_number())?,
+        nodes: Vec::new(alloc),
+        edges: Vec::new(alloc),
+    };
+    let keys = add_nodes(alloc, &mut graph, block, &way)?;
+    for kept in &block.ledger.kept {
+        if let Some((from, to)) = ends_of(kept, &keys)
+            && (kept.above() == 0 || way.has(kept.to))
+        {
+            let label = label_of(alloc, kept)?;
+            let marked = kept.above() == 0 && way.has(kept.to) && is_from(kept, &way);
+            graph.edges.push(Edge {
+                from,
+                to,
+                label,
+                marked,
+            })?;
+        }
+    }
+    Ok(graph)
+}
+
+/// A state by the numbers of its tables and its order.
+type StateNumbers = (usize, usize);
+
+fn numbers_of(key: StateKey) -> StateNumbers {
+    (key.tables.place(), key.order)
+}
+
+/// Adds the nodes, and gives the state of each: of many states those that a comparison is told of, and the plan's way.
+fn add_nodes(
+    alloc: Global,
+    graph: &mut Graph,
+    block: &BlockView<'_>,
+    way: &Way,
+) -> Result<IndexSet<StateNumbers>, AllocError> {
+    let told = told_states(alloc, block)?;
+    let states = &block.certificate().states;
+    let mut keys = IndexSet::new(alloc);
+    for state in states {
+        let key = key_of(state);
+        if states.len() <= MANY_STATES || way.has(key) || told.contains(&numbers_of(key)) {
+            let _ = keys.insert(numbers_of(key))?;
+            add_node(alloc, graph, block, key, state.cost, kind_of(way, key))?;
+        }
+    }
+    let target = block.certificate().target;
+    if let Some(found) = block.space().summary(block.plan()) {
+        let last = state_of(block.space(), found);
+        let _ = keys.insert(numbers_of(last))?;
+        add_node(alloc, graph, block, last, target, NodeKind::Chosen)?;
+    }
+    for kept in &block.ledger.kept {
+        if keys.insert(numbers_of(kept.to))? {
+            add_node(alloc, graph, block, kept.to, target, NodeKind::Bounded)?;
+        }
+    }
+    Ok(keys)
+}
+
+/// The states from which comparisons are told.
+fn told_states(alloc: Global, block: &BlockView<'_>) -> Result<IndexSet<StateNumbers>, AllocError> {
+    let mut told = IndexSet::new(alloc);
+    for kept in &block.ledger.kept {
+        if let Some(from) = &kept.from {
+            let _ = told.insert(numbers_of(key_of(from)))?;
+        }
+    }
+    Ok(told)
+}
+
+fn kind_of(way: &Way, key: StateKey) -> NodeKind {
+    if way.has(key) {
+        NodeKind::Chosen
+    } else {
+        NodeKind::Listed
+    }
+}
+
+fn add_node(
+    alloc: Global,
+    graph: &mut Graph,
+    block: &BlockView<'_>,
+    key: StateKey,
+    cost: u64,
+    kind: NodeKind,
+) -> Result<(), AllocError> {
+    let orders = block.space().orders();
+    let title = format!(in alloc; "{}", block.names.state(orders, key.tables, key.order))?;
+    graph.nodes.push(Node {
+        layer: size_of(key.tables.place()).saturating_sub(1),
+        title,
+        cost,
+        kind,
+    })?;
+    Ok(())
+}
+
+fn is_from(kept: &Kept, way: &Way) -> bool {
+    match &kept.from {
+        Some(from) => way.has(key_of(from)),
+        None => false,
+    }
+}
+
+/// The places of the two states of a step, if it is no access.
+fn ends_of(kept: &Kept, keys: &IndexSet<StateNumbers>) -> Option<(usize, usize)> {
+    let from = keys.get_index_of(&numbers_of(key_of(kept.from.as_ref()?)))?;
+    Some((from, keys.get_index_of(&numbers_of(kept.to))?))
+}
+
+/// `loop +1000`, or `sort +947: 287 too much`.
+fn label_of(alloc: Global, kept: &Kept) -> Result<String, AllocError> {
+    let word = match kept.step() {
+        PlanStep::Access(_) => "access",
+        PlanStep::Loop(_) => "loop",
+        PlanStep::Merge { .. } => "merge",
+        PlanStep::Sort { .. } => "sort",
+    };
+    let before = match &kept.from {
+        Some(from) => from.cost,
+        None => 0,
+    };
+    let (own, above) = (kept.cost.saturating_sub(before), kept.above());
+    if above == 0 {
+        format!(in alloc; "{word} +{own}")
+    } else {
+        format!(in alloc; "{word} +{own}: {above} too much")
+    }
+}

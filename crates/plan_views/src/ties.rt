@@ -1,0 +1,120 @@
+//! Steps that cost the same as the plan's own.
+
+use crate::block_views::BlockView;
+use crate::listening::Kept;
+use crate::searches::kept_words;
+use crate::steps::{PlanSteps, is_same_path};
+use crate::tables::{add_row, number, table, words};
+use crate::ways::{are_one_state, key_of, state_of};
+use cert_check::PlanStep;
+use plan_pages::{Cell, Part, Table};
+use std::alloc::{AllocError, Global};
+
+/// So many of them are shown.
+const SHOWN: usize = 16;
+
+/// Adds the steps that lead to a state of the least plan's way at its cost there, without being the plan's, if there are any: the first of
+/// them, and how many more there are.
+pub(crate) fn push_ties(
+    alloc: Global,
+    block: &BlockView<'_>,
+    parts: &mut Vec<Part>,
+) -> Result<(), AllocError> {
+    let steps = PlanSteps::of(alloc, block.space(), block.plan())?;
+    let mut rows = tie_table(alloc)?;
+    let mut left_out: usize = 0;
+    for kept in &block.ledger.kept {
+        if kept.above() == 0 && is_tie(block, &steps, kept) {
+            if rows.rows.len() < SHOWN {
+                add_tie(alloc, &mut rows, block, kept)?;
+            } else {
+                left_out = left_out.saturating_add(1);
+            }
+        }
+    }
+    if !rows.rows.is_empty() {
+        parts.push(Part::Table(rows))?;
+    }
+    if left_out > 0 {
+        let text = format!(in alloc; "{left_out} more steps cost the same as the plan's own.")?;
+        parts.push(Part::Line { key: "more", text })?;
+    }
+    Ok(())
+}
+
+fn tie_table(alloc: Global) -> Result<Table, AllocError> {
+    table(
+        alloc,
+        "ties",
+        "steps that cost the same as the plan's own",
+        &[
+            words("step", "step"),
+            words("to", "leads to"),
+            number("cost", "cost"),
+        ],
+    )
+}
+
+fn add_tie(
+    alloc: Global,
+    rows: &mut Table,
+    block: &BlockView<'_>,
+    kept: &Kept,
+) -> Result<(), AllocError> {
+    let step = kept_words(alloc, block, kept)?;
+    let orders = block.space().orders();
+    let to = block.names.state(orders, kept.to.tables, kept.to.order);
+    let to = format!(in alloc; "{to}")?;
+    let cells = [Cell::Text(step), Cell::Text(to), Cell::Number(kept.cost)];
+    add_row(alloc, rows, 0, false, cells)
+}
+
+/// Whether a step leads to a state of the plan's way, and isn't the plan's own.
+fn is_tie(block: &BlockView<'_>, steps: &PlanSteps<'_>, kept: &Kept) -> bool {
+    for place in 0..steps.len() {
+        if let Some(shown) = steps.shown(place)
+            && are_one_state(state_of(block.space(), shown.summary), kept.to)
+        {
+            return !is_own(block, steps, place, kept);
+        }
+    }
+    false
+}
+
+/// Whether a step is that of the plan at a place, from the same state on.
+fn is_own(block: &BlockView<'_>, steps: &PlanSteps<'_>, place: usize, kept: &Kept) -> bool {
+    let is_step = match steps.shown(place) {
+        Some(shown) => are_one_step(shown.step, kept.step()),
+        None => false,
+    };
+    let is_from = match (&kept.from, steps.shown(place.saturating_add(1))) {
+        (Some(from), Some(below)) => are_one_state(
+            state_of(block.space(), below.summary),
+            key_of(from),
+        ),
+        (None, None) => true,
+        _ => false,
+    };
+    is_step && is_from
+}
+
+fn are_one_step(one: PlanStep<'_>, other: PlanStep<'_>) -> bool {
+    match (one, other) {
+        (PlanStep::Access(path), PlanStep::Access(wanted))
+        | (PlanStep::Loop(path), PlanStep::Loop(wanted)) => is_same_path(path, wanted),
+        (
+            PlanStep::Merge {
+                conjunct,
+                path,
+                sorted,
+            },
+            PlanStep::Merge {
+                conjunct: by,
+                path: wanted,
+                sorted: as_well,
+            },
+        ) => conjunct == by && sorted == as_well && is_same_path(path, wanted),
+        (PlanStep::Sort { order }, PlanStep::Sort { order: wanted }) => order == wanted,
+        _ => false,
+    }
+}
