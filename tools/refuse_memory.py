@@ -1,7 +1,7 @@
 #!/usr/bin/env python3
 """Refuses each allocation of the program in turn, and looks at what such a run prints.
 
-usage: refuse_memory.py PROGRAM [--words | --sessions] [SCRIPT ..]
+usage: refuse_memory.py PROGRAM [--words | --sessions | --views] [SCRIPT ..]
 
 The scripts are those of memory, or the named ones: a statement a line, and files beside them that they load. Each is run under a
 library that refuses one call of malloc or realloc: the first, then the second, and on to the last. Where its last statement is an EXPLAIN,
@@ -12,6 +12,8 @@ script and command; the status is 1 where a run is not so. A C compiler is neede
 
 With --sessions PROGRAM is crates/cases_memory, which runs the statements of a script one by one in one session, and a second time where memory was
 wanting for one. Behind what it reads first, each refused allocation has to leave all that is printed as it is.
+
+With --views PROGRAM is sqlr-plan, and its views of examples/join.sql are asked so: each prints what it prints, or nothing.
 """
 import concurrent.futures
 import os
@@ -23,6 +25,12 @@ import tempfile
 from dataclasses import dataclass
 
 SCRIPTS = pathlib.Path(__file__).resolve().parent.parent / "memory"
+EXAMPLES = SCRIPTS.parent / "examples"
+# What sqlr-plan is asked of the join.
+VIEWS = [
+    ["tree"], ["tree", "join.certificates"], ["why", "A loop B"], ["why", "MERGE(ACCESS(SEG 1),1,SEG 2)"], ["sweep", "B ROWS", "10", "1000"], ["indexes"], ["diff", "join.sql"],
+    ["search", "--all"], ["statistics"], ["page"], ["tree", "--json"],
+]
 LIBRARY = r"""
 #include <errno.h>
 #include <stddef.h>
@@ -164,17 +172,32 @@ def look_at_sessions(room, scripts, pool):
     return refused, failed
 
 
+def look_at_views(room, pool):
+    """Asks the views of the join, and gives the same."""
+    for name in ("join.sql", "join.certificates"):
+        room.written(name, (EXAMPLES / name).read_bytes())
+    failed = refused = 0
+    for view, *more in VIEWS:
+        ends, wrong, _ = room.judged([view, "join.sql", *more], [b""], pool)
+        failed += len(wrong)
+        refused += sum(ends.values()) + len(wrong)
+        print(f"{view} {' '.join(more)}: {ends['cut']} cut, {ends['whole']} done without{told_wrong(wrong)}")
+    return refused, failed
+
+
 def told_wrong(wrong):
     return f", {len(wrong)} wrong, the first {wrong[:9]}" if wrong else ""
 
 
 def main():
-    program, *named = [it for it in sys.argv[1:] if it not in ("--words", "--sessions")]
+    program, *named = [it for it in sys.argv[1:] if it not in ("--words", "--sessions", "--views")]
     scripts = sorted(map(pathlib.Path, named)) or sorted(SCRIPTS.glob("*.sql"))
     with tempfile.TemporaryDirectory() as folder, concurrent.futures.ThreadPoolExecutor(os.cpu_count()) as pool:
         room = Room(str(pathlib.Path(program).resolve()), folder)
         if "--sessions" in sys.argv:
             refused, failed = look_at_sessions(room, scripts, pool)
+        elif "--views" in sys.argv:
+            refused, failed = look_at_views(room, pool)
         else:
             refused, failed = look_at_programs(room, scripts, pool, "--words" in sys.argv)
     print(f"{refused} allocations refused in turn, {failed} answered wrongly")
