@@ -1,18 +1,26 @@
 #!/usr/bin/env python3
-"""Times the works that a data team asks of an engine: ours, sqlite3's and PostgreSQL's in the same run, best of three.
+"""Times the works that a data team asks of an engine: ours, sqlite3's, PostgreSQL's, ClickHouse's and data.table's in the same run, best of
+three.
 
 usage: all.py [PROGRAM] [WORKLOAD ..]
 
-Peers, settings and the way of timing are those of joins.py, and rows are compared as groups.py does. FACT has 1,000,000 rows, DIM 100,000,
-SCAN 5,000,000, or the shares of them that ALL_SCALE says; D1, D2 and D3 have 1,000 rows each, OUTER_ROWS 2,000 and INNER_ROWS 20,000. A goal is
-a ratio to PostgreSQL in the same run: what is aimed at divided by what PostgreSQL took where the aim was set. LOAD is that of a file of some 50 MB.
+Settings and the way of timing are those of joins.py and of columnar.py, and rows are compared as groups.py does. FACT has 1,000,000 rows, DIM
+100,000, SCAN 5,000,000, or the shares of them that ALL_SCALE says; D1, D2 and D3 have 1,000 rows each, OUTER_ROWS 2,000 and INNER_ROWS 20,000. A
+goal is a ratio to PostgreSQL in the same run: what is aimed at divided by what PostgreSQL took where the aim was set. LOAD is that of a file of some
+50 MB. A peer that isn't there is left out, and so is a work that can't be asked of it.
 """
+import contextlib
 import os
+import pathlib
 import random
 import re
+import shutil
+import sys
+import tempfile
 
-from groups import Postgres, Workload, main, rows_of, timed
-from joins import ROUNDS, SQLITE, usage_of
+import columnar
+from groups import BUILT, NAMES, Postgres, Workload, rows_of, run, timed
+from joins import ROUNDS, SERVER, SQLITE, usage_of
 
 SCALE = float(os.environ.get("ALL_SCALE", "1"))
 FACTS, DIMENSIONS, SCANNED = (max(1000, int(count * SCALE)) for count in (1_000_000, 100_000, 5_000_000))
@@ -59,6 +67,42 @@ WORKLOADS = [
     asked("like", "SELECT COUNT(*) FROM FACT WHERE C LIKE '%ab%'", (12, 269)),
     asked("load", "", (450, 1960), 1),
 ]
+
+PEERS = (*NAMES, "ClickHouse", "data.table")
+# Where ClickHouse wants other words: None where it can't be asked.
+CLICKHOUSE = {
+    "join": "SELECT COUNT(*) FROM FACT ALL INNER JOIN DIM ON D = ID",
+    "join-unique": "SELECT COUNT(*) FROM FACT ALL INNER JOIN KEYED ON D = ID",
+    "star": None,
+    "aggregates": "SELECT AVG(toFloat64(V)), MIN(V), MAX(V) FROM FACT",
+    "exists-index": None,
+    "exists": None,
+    "above-average": "SELECT COUNT(*) FROM FACT WHERE toFloat64(V) > (SELECT AVG(toFloat64(V)) FROM FACT)",
+}
+DATA_TABLE = {
+    "scan-0.1": f"SCAN[N < {SCANNED // 1000}, .N]",
+    "scan-10": f"SCAN[N < {SCANNED // 10}, .N]",
+    "scan-90": f"SCAN[N < {SCANNED // 10 * 9}, .N]",
+    "join": "DIM[FACT, on = .(ID = D), nomatch = NULL, .N]",
+    "join-unique": "KEYED[FACT, on = .(ID = D), nomatch = NULL, .N]",
+    "star": "D3[D2[D1[W < 500][FACT, on = .(ID = A1), nomatch = NULL], on = .(ID = A2), nomatch = NULL], on = .(ID = A3), nomatch = NULL, .N]",
+    "group-10": "FACT[, .(sum(V), .N), by = K10]",
+    "group-1000": "FACT[, .(sum(V), .N), by = K1000]",
+    "group-100000": "FACT[, .(sum(V), .N), by = K100000]",
+    "aggregates": "FACT[, .(mean(V), min(V), max(V))]",
+    "distinct-1000": "unique(FACT[, .(K1000)])",
+    "distinct-100000": "unique(FACT[, .(K100000)])",
+    "count-distinct": "FACT[, uniqueN(D)]",
+    "order-number": "FACT[order(D), .(D)]",
+    "order-text": "FACT[order(C, decreasing = TRUE), .(C)]",
+    "exists-index": "DIM[W %in% KEYED$ID, .N]",
+    "exists": "OUTER_ROWS[K %in% INNER_ROWS$K, .N]",
+    "in-list": "FACT[D %in% D1$W, .N]",
+    "above-average": "FACT[V > mean(V), .N]",
+    "or": "FACT[K10 == 3 | K1000 < 100, .N]",
+    "arithmetic": "FACT[K10 * 2 + K1000 < 500, .N]",
+    "like": "FACT[grepl('ab', C, fixed = TRUE), .N]",
+}
 
 
 def write_table(folder, name, records):
@@ -121,8 +165,8 @@ def load_script(tables, for_sqlite):
     return created(tables) + "".join(f"LOAD {it} FROM '{it}.csv';\n" for it in tables)
 
 
-def loads_of_all(program, folder, cluster, tables):
-    """What a run takes that loads and asks nothing; PostgreSQL's COPY alone."""
+def loads_of_all(program, folder, cluster, house, tables):
+    """What a run takes that loads and asks nothing; of PostgreSQL its COPY alone, of ClickHouse its INSERT, of data.table its fread."""
     told = {}
     for name, command, with_script in (("sqlr", [program, "run"], False), ("sqlite3", [SQLITE, ":memory:"], True)):
         if command[0]:
@@ -132,14 +176,18 @@ def loads_of_all(program, folder, cluster, tables):
             told[name] = (min(usage_of(words, folder, "load.txt", given) for _ in range(ROUNDS)), [])
     if cluster:
         told["PostgreSQL"] = (min(cluster.loaded() for _ in range(ROUNDS)), [])
+    if house:
+        told["ClickHouse"] = (house.loaded("FACT"), [])
+    if columnar.has_data_table():
+        told["data.table"] = (columnar.data_table_loaded(folder, "FACT"), [])
     return told
 
 
-def asked_of_all(program, folder, cluster, workload):
+def asked_of_all(program, folder, cluster, house, workload):
     """Of each program that is there what one SELECT takes, and its rows."""
     tables = used(workload)
     if not workload.query:
-        return loads_of_all(program, folder, cluster, tables)
+        return loads_of_all(program, folder, cluster, house, tables)
     told = {}
     if program:
         told["sqlr"] = (timed([program, "run"], "sqlr", folder, load_script(tables, False), workload, False), rows_of(folder / "sqlr_once.txt", True))
@@ -148,8 +196,33 @@ def asked_of_all(program, folder, cluster, workload):
         told["sqlite3"] = (seconds, rows_of(folder / "sqlite_once.txt", False))
     if cluster:
         told["PostgreSQL"] = (cluster.asked(workload), rows_of(folder / "postgres.txt", False))
+    if house and CLICKHOUSE.get(workload.name, workload.query):
+        seconds, rows = house.asked(CLICKHOUSE.get(workload.name, workload.query))
+        told["ClickHouse"] = (seconds, rows_of(rows, False))
+    if workload.name in DATA_TABLE and columnar.has_data_table():
+        seconds, rows = columnar.data_table_asked(folder, tables, DATA_TABLE[workload.name], workload.times)
+        told["data.table"] = (seconds, rows_of(rows, False))
     return told
 
 
+def main():
+    """Writes the records, fills the servers that there are, and ends with status 0 where all printed the same rows."""
+    program = pathlib.Path(sys.argv[1]).resolve() if len(sys.argv) > 1 else BUILT
+    folder = pathlib.Path(tempfile.mkdtemp())
+    with contextlib.ExitStack() as peers:
+        peers.callback(shutil.rmtree, folder, ignore_errors=True)
+        write_records(folder)
+        cluster = house = None
+        if SERVER:
+            if os.geteuid() == 0:
+                shutil.chown(folder, "postgres")
+            cluster = peers.enter_context(Server(folder))
+            cluster.fill()
+        if columnar.SERVER and columnar.CLIENT:
+            house = peers.enter_context(columnar.ClickHouse(folder, TABLES))
+        same = run(WORKLOADS, sys.argv[2:], lambda it: asked_of_all(program, folder, cluster, house, it), PEERS)
+    sys.exit(not same)
+
+
 if __name__ == "__main__":
-    main(WORKLOADS, write_records, asked_of_all, Server)
+    main()

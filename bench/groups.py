@@ -115,9 +115,11 @@ def asked_of_all(program, folder, cluster, workload):
     return told
 
 
-def line_of(workload, told):
+NAMES = ("sqlr", "sqlite3", "PostgreSQL")
+
+
+def line_of(workload, told, names):
     """A line of what a workload takes; and whether all printed the same rows."""
-    names = ("sqlr", "sqlite3", "PostgreSQL")
     words = [workload.name, str(len(next(iter(told.values()))[1]))]
     words += [f"{told[name][0] * 1e3:.1f}" if name in told else "-" for name in names]
     ratios = [told["sqlr"][0] / told[peer][0] if "sqlr" in told and peer in told else None for peer in names[1:]]
@@ -127,13 +129,13 @@ def line_of(workload, told):
     return " ".join(words + ["MISSED" if missed else "holds"] + [] if same else words + ["OTHER ROWS"]), same
 
 
-def run(workloads, words, ask):
+def run(workloads, words, ask, names=NAMES):
     """Asks all whose names begin with one of the words, or all, and tells a line of each; gives whether all printed the same rows."""
     same = True
-    print("workload  rows  sqlr/ms  sqlite3/ms  PostgreSQL/ms  ratios to them  target")
+    print("workload  rows ", *(f"{name}/ms " for name in names), "ratios to them  target")
     for workload in workloads:
         if not words or workload.name.startswith(tuple(words)):
-            line, is_same = line_of(workload, ask(workload))
+            line, is_same = line_of(workload, ask(workload), names)
             print(line, flush=True)
             same = same and is_same
     return same

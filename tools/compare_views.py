@@ -3,7 +3,7 @@
 
 usage: compare_views.py SQLR SQLR_PLAN [--count N] [--seed N]
 
-Of each made script: the steps of `tree` sum to EXPLAIN's target, and its last line is EXPLAIN's; `why` of EXPLAIN's own plan loses nothing, and its
+Of each made script: EXPLAIN's certificates pass the check; the steps of `tree` sum to EXPLAIN's target, and its last line is EXPLAIN's; `why` of EXPLAIN's own plan loses nothing, and its
 plan by names reads as that plan; `sweep` at today's value and `indexes` with nothing changed give the target; the script of `statistics`
 explains as the script itself. A script with a difference is printed; the status is 1 where there is one.
 """
@@ -58,6 +58,16 @@ def parts(section, kind, key, default=None):
     return section.get(kind, {}).get(key, default)
 
 
+def passes(sqlr, name, text):
+    """Whether the certificates that a script's EXPLAIN printed, behind the lines of its other statements, pass the check."""
+    lines = text.splitlines(keepends=True)
+    behind = max((place for place, it in enumerate(lines, 1) if it == "OK\n"), default=0)
+    with tempfile.NamedTemporaryFile("w", suffix=".certificates") as file:
+        file.writelines(lines[behind:])
+        file.flush()
+        return subprocess.run([sqlr, "check", name, file.name], capture_output=True).returncode == 0
+
+
 def faults(sqlr, viewer, script, swept):
     """What is not as it should be of a script."""
     with tempfile.NamedTemporaryFile("w", suffix=".sql") as file:
@@ -79,8 +89,10 @@ def faults_of(sqlr, viewer, name, swept):
             yield f"the steps of block {section['number']} don't sum to {target}"
         if parts(section, "lines", "spelling") != plan:
             yield f"tree ends with {parts(section, 'lines', 'spelling')} for {plan}"
-        if "passes" not in parts(section, "lines", "certificate", ""):
-            yield "a certificate doesn't pass"
+        if "proved to pass" not in parts(section, "lines", "certificate", ""):
+            yield "tree says nothing of a certificate"
+    if not passes(sqlr, name, text):
+        yield "EXPLAIN's certificates don't pass"
     yield from why_faults(viewer, name, plans[0][5:])
     sweep = json.loads(run(viewer, "sweep", name, swept[0], str(swept[1]), "--json") or '{"sections": []}')
     for section, target in zip(sweep["sections"], targets):

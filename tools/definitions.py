@@ -99,11 +99,25 @@ def read_uses(texts, names, aliases):
     for text in texts:
         if found := USE.match(text):
             module, listed, alias = found.groups()
+            module = home(module)
             if alias:
                 aliases[alias] = module
             for word in (listed or "").split(", "):
                 name, _, other = word.strip().partition(" as ")
                 names[other or name] = (module, name)
+
+
+@functools.cache
+def home(name):
+    """Where a module stands that a crate may hand on from one below by a `pub use` line."""
+    root, crate, *rest = name.split(".")
+    folder = CRATES / crate
+    if len(rest) < 2 or not folder.is_dir() or folder.joinpath(*rest).with_suffix(".antt").is_file():
+        return name
+    handing = folder.joinpath(*(rest[:-1] if len(rest) > 2 else [*rest[:-1], "Lib"])).with_suffix(".antt")
+    given = re.compile(rf"^pub use (Rattle\.[\w.+-]+\.{re.escape(rest[-1])})$", re.M)
+    found = handing.is_file() and given.search(handing.read_text())
+    return home(found[1]) if found else name
 
 
 @functools.cache

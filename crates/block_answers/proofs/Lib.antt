@@ -17,3 +17,4 @@ pub mod Meaning
 pub mod GroupMeaning
 pub mod Ending
 pub mod KeptTaking
+mod PlainBatch

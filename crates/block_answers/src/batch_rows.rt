@@ -8,8 +8,8 @@ ghost use Rattle.block_answers.specs.Groups.{environments};
 ghost use Rattle.block_answers.specs.Runs.{between, combinations_at};
 
 use batches::Batch;
-use grouping::RowBatch;
 use query_tree::BlockColumn;
+use result_rows::RowBatch;
 use scans::{BlockSource, OuterRows};
 use sqlvalue::Value;
 

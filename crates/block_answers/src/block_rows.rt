@@ -1,6 +1,6 @@
 //! The rows that a block makes of the combinations that its WHERE keeps.
 
-ghost use Rattle.std.specs.Prelude.{◌≡◌, ◌++◌, ◌∷◌, [], List, IfErr, IfOk, OnOk, is_some, length, map, not, true};
+ghost use Rattle.std.specs.Prelude.{◌≡◌, ◌++◌, ◌∷◌, [], List, IfErr, IfOk, OnOk, false, is_some, length, map, not, true};
 ghost use Rattle.std.specs.List.{list_all};
 ghost use Rattle.definitions.specs.Estimates.Orders.{sort_key};
 ghost use Rattle.definitions.specs.Queries.Evaluation.{Combination};
@@ -15,6 +15,7 @@ ghost use Rattle.block_answers.specs.Ready.{CanAnswer};
 ghost use Rattle.result_rows.specs.Stores.{keeping, kind_of, printing, Holds};
 ghost use Rattle.block_answers.specs.Telling.{names_of};
 
+use crate::batch_rows::BatchRows;
 use crate::block_row::row_at;
 use crate::column_functions::are_of_columns;
 use crate::group_rows::GroupRows;
@@ -22,7 +23,7 @@ use batches::Batch;
 use conjuncts::column_of;
 use interesting_orders::is_grouped;
 use query_tree::{Block, Item, Key};
-use result_rows::{AnswerFault, ResultRows, RowStore};
+use result_rows::{AnswerFault, ResultRows, RowStore, are_columns_of};
 use scans::{BlockSource, Composite, OuterRows};
 use std::alloc::{AllocError, Global};
 
@@ -126,11 +127,49 @@ impl<'s> BlockRows<'s> {
             (block_in source.now)) batch.now.items) self.new) }
         ensures kind { kind_of (store_in self.new) ≡ kind_of (store_in self.old) }
     {
+        if self.add_columns(alloc, source, block, batch, around)? {
+            return Ok(());
+        }
         match self {
             BlockRows::Grouped(groups) if are_of_columns(&block.functions, batch.width()) => {
                 groups.add_batch(alloc, source, block, batch, around)
             }
             _ => self.add_each(alloc, source, block, batch, around),
+        }
+    }
+
+    /// Takes them at once where rows are printed as they come and their result columns are columns of tables; or tells that it takes none.
+    fn add_columns<A: OuterRows>(
+        &mut self,
+        alloc: Global,
+        source: &BlockSource<'_>,
+        block: &'s Block,
+        batch: &Batch,
+        around: &A,
+    ) -> Result<bool, AllocError>
+        requires block { block.now ≡ source.now.block }
+        requires well { IsWellFor source.now (A.combinations around.now) self.old }
+        requires wide { batch.now.width ≡ length (block_in source.now).tables }
+        ensures well { OnOk result (IsWellFor source.now (A.combinations around.now) self.new) }
+        ensures told { IfOk result (λ taken. taken ≡ true → (cs : List Combination) →
+            TellsOf source.now (A.combinations around.now) cs self.old →
+            TellsOf source.now (A.combinations around.now) (cs ++ map (combination_of source.now.database
+            (block_in source.now)) batch.now.items) self.new) }
+        ensures left { IfOk result (λ taken. taken ≡ false → self.new ≡ self.old) }
+        ensures kind { kind_of (store_in self.new) ≡ kind_of (store_in self.old) }
+    {
+        match self {
+            BlockRows::Plain(rows) if are_columns_of(&block.items, batch.width()) => {
+                let read = BatchRows {
+                    source,
+                    batch,
+                    first: 0,
+                    end: batch.len(),
+                    around,
+                };
+                rows.add_batch(alloc, &block.items, &read)
+            }
+            _ => Ok(false),
         }
     }
 

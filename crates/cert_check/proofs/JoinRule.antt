@@ -15,7 +15,7 @@ use Rattle.definitions.specs.Plans.Checking.{Joins, rule_of_step}
 use Rattle.definitions.proofs.PlanTheory.Orders.{folds_once}
 use Rattle.plan_space.specs.Loop.{LoopItem, IsLoopItem, AreLoops}
 use Rattle.plan_space.specs.Merge.{Merge, IsMerge, IsMergeItem, AreMerges}
-use Rattle.interesting_orders.specs.Merges.{GoesBy}
+use Rattle.plan_space.specs.InterestingOrders.Merges.{GoesBy}
 use Rattle.plan_space.proofs.Merging.{can_merge, is_merge, goes_by}
 use Rattle.cert_check.specs.Checks.{step_from, IsLoopOver, IsMergeWith, IsJoinWith, IsJoinFrom}
 use Rattle.cert_check.specs.Compared.{Compared, compared, IsCompared}

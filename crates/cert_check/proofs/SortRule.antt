@@ -12,7 +12,7 @@ use Rattle.definitions.specs.Plans.Certificate.{Certificate, StateCost, IsListed
 use Rattle.definitions.specs.Plans.Comparisons.{PlanStep, SortStep, Compares, by_access, by_loop, by_merge, by_sort}
 use Rattle.definitions.specs.Plans.Checking.{Sorts, rule_of_step}
 use Rattle.definitions.proofs.PlanTheory.Orders.{folds_once}
-use Rattle.interesting_orders.specs.Sorts.{AreSorts}
+use Rattle.plan_space.specs.InterestingOrders.Sorts.{AreSorts}
 use Rattle.cert_check.specs.Checks.{step_from, IsSortFrom}
 use Rattle.cert_check.specs.Compared.{Compared, compared, IsCompared}
 use Rattle.cert_check.proofs.Handing.{each_has}

@@ -12,7 +12,7 @@ use Rattle.definitions.specs.Plans.Folding.{Folds}
 use Rattle.definitions.specs.Plans.Certificate.{Certificate, StateCost, bound, IsListed}
 use Rattle.definitions.specs.Plans.Comparisons.{PlanStep, AccessStep, LoopStep, MergeStep, SortStep}
 use Rattle.plan_space.specs.Merge.{IsMerge}
-use Rattle.interesting_orders.specs.Merges.{GoesBy}
+use Rattle.plan_space.specs.InterestingOrders.Merges.{GoesBy}
 use Rattle.cert_check.specs.Compared.{Compared, compared}
 
 -- a step from a state to another of a bound, with what it adds

@@ -1,4 +1,5 @@
 pub use Rattle.definitions.specs.Plans.Checking
+pub use Rattle.plan_space.specs.Planned
 pub mod Handing
 pub mod Compared
 pub mod Comparisons

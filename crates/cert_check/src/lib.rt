@@ -16,6 +16,7 @@ pub use comparison::{Comparison, PlanStep};
 pub use failing::first_below;
 pub use joins::compare_joins;
 pub use listener::Listener;
+pub use plan_space::{PlanSummary, Space};
 pub use rules::{check, check_outside};
 pub use sorts::compare_sorts;
 pub use verdict::{Rule, StateKey, Verdict};

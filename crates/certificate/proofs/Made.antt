@@ -17,8 +17,8 @@ use Rattle.certificate.specs.Blocks.{columns_in}
 use Rattle.estimate.specs.Estimated.{Estimated}
 use Rattle.estimate.specs.PlanConjuncts.{conjunct_of}
 use Rattle.estimate.specs.declared.plan_conjunct.PlanConjunct.{PlanConjunct}
-use Rattle.interesting_orders.specs.Versions.{version_of}
-use Rattle.interesting_orders.specs.declared.version.Version.{Version}
+use Rattle.plan_space.specs.InterestingOrders.Versions.{version_of}
+use Rattle.plan_space.specs.InterestingOrders.Version.{Version}
 use Rattle.plan_space.specs.Planned.{Planned, space_in}
 use Rattle.certificate.specs.Spaces.{IsBlockSpace}
 

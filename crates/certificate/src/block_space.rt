@@ -7,7 +7,7 @@ ghost use Rattle.definitions.specs.Certificates.Explaining.{certified, index_col
 ghost use Rattle.definitions.specs.Certificates.Explaining.{columns_of_indexes};
 ghost use Rattle.query_tree.specs.Bound.{block_of};
 ghost use Rattle.certificate.specs.Blocks.{IsOf, columns_in};
-ghost use Rattle.interesting_orders.specs.Versions.{version_of};
+ghost use Rattle.plan_space.specs.InterestingOrders.Versions.{version_of};
 ghost use Rattle.certificate.specs.Spaces.{IsBlockSpace};
 
 use crate::certified::CertifiedBlock;

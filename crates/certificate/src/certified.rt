@@ -3,10 +3,10 @@
 ghost use Rattle.std.specs.Prelude.{◌≡◌, ◌+◌, ◌-◌};
 ghost use Rattle.definitions.specs.Certificates.CertifiedBlock.{indexes_of};
 ghost use Rattle.definitions.specs.Certificates.Writing as spec;
-ghost use Rattle.interesting_orders.specs.Versions.{version_of};
+ghost use Rattle.plan_space.specs.InterestingOrders.Versions.{version_of};
 ghost use Rattle.certificate.specs.Blocks.{block_in, columns_at, columns_of};
 
-use interesting_orders::Version;
+use plan_space::Version;
 use plan_tree::SortKey;
 
 /// What the text of a certificate refers to, which is of a block of a query.

@@ -16,6 +16,6 @@ pub use block_space::BlockSpace;
 pub use certificate_syntax::{Expected, Word};
 pub use certified::CertifiedBlock;
 pub use fault::{BadState, Missing, TextFault};
-pub use plan_space::{Space, Version};
+pub use plan_space::{CostedMerge, PlanNote, PlanNoteKind, PlanSummary, Space, Version};
 pub use reading::{Spelled, read_text};
 pub use writing::write_text;

@@ -7,7 +7,7 @@ ghost use Rattle.definitions.specs.Certificates.CertifiedBlock.{indexes_of};
 ghost use Rattle.definitions.specs.Certificates.Spelling as spec;
 ghost use Rattle.certificate_syntax.specs.Said.{path_said, plan_said};
 ghost use Rattle.plan_tree.specs.Plans.{inner_of, plan_of};
-ghost use Rattle.interesting_orders.specs.Versions.{version_of};
+ghost use Rattle.plan_space.specs.InterestingOrders.Versions.{version_of};
 ghost use Rattle.certificate.specs.Blocks.{block_in};
 ghost use Rattle.certificate.specs.Reads.{PathIsMeant, InnerIsMeant, PlanIsMeant};
 
@@ -15,7 +15,7 @@ use crate::certified::{CertifiedBlock, from_zero};
 use crate::one_column::place_on_column;
 use arrayvec::ArrayVec;
 use certificate_syntax::{WrittenPath, WrittenPlan};
-use interesting_orders::Version;
+use plan_space::Version;
 use plan_tree::{Inner, MAX_MATCHED, Path, Plan};
 use std::alloc::{AllocError, Global};
 

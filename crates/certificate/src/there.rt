@@ -5,14 +5,14 @@ ghost use Rattle.std.specs.Bool.{Decides};
 ghost use Rattle.definitions.specs.Certificates.CertifiedBlock.{indexes_of};
 ghost use Rattle.definitions.specs.Certificates.Spelling.{IsOneOf, IndexIsThere, TableIsThere, ConjunctIsThere, OrderIsThere, PathIsThere, PlanIsThere};
 ghost use Rattle.certificate_syntax.specs.Said.{path_said, plan_said};
-ghost use Rattle.interesting_orders.specs.Versions.{version_of};
+ghost use Rattle.plan_space.specs.InterestingOrders.Versions.{version_of};
 ghost use Rattle.certificate.specs.Blocks.{block_in, columns_of};
 
 use crate::certified::{CertifiedBlock, from_zero};
 use crate::fault::Missing;
 use crate::one_column::place_on_column;
 use certificate_syntax::{WrittenPath, WrittenPlan};
-use interesting_orders::Version;
+use plan_space::Version;
 
 /// Whether the numbers of a plan are there, or one that isn't.
 pub(crate) fn plan_there(block: &CertifiedBlock<'_>, plan: &WrittenPlan) -> Result<(), Missing>

@@ -17,8 +17,7 @@ use crate::cutting::{text_end, version_in};
 use crate::lines::{write_block, write_rest};
 use crate::telling::{Told, block_told};
 use catalog::Database;
-use interesting_orders::Version;
-use plan_space::PlanNote;
+use certificate::{PlanNote, Version};
 use query_tree::Block;
 use std::alloc::{AllocError, Global};
 

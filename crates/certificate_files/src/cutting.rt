@@ -5,11 +5,10 @@ ghost use Rattle.definitions.specs.Certificates.File as spec;
 ghost use Rattle.definitions.specs.Certificates.File.{lines_of, own_text, lines_behind, earlier, version_among};
 ghost use Rattle.definitions.specs.Certificates.Text.{end_line};
 ghost use Rattle.definitions.specs.Estimates.Version.{current_version};
-ghost use Rattle.interesting_orders.specs.Versions.{version_of};
+ghost use Rattle.certificate.specs.Versions.{version_of};
 ghost use Rattle.certificate_files.specs.FirstLine.{IsFirstLine};
 
-use certificate::Word;
-use interesting_orders::Version;
+use certificate::{Version, Word};
 
 /// Where the text that the bytes begin with ends (own): behind the next line END, or with the bytes.
 pub(crate) fn text_end(bytes: &[u8]) -> usize

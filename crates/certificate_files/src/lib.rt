@@ -7,7 +7,8 @@ mod lines;
 mod telling;
 
 pub use cert_check::{Comparison, PlanStep, Rule, StateKey, first_below};
-pub use certificate::{BadState, Expected, Missing, TextFault, Word};
+pub use certificate::{
+    BadState, Expected, Missing, PlanNote, PlanNoteKind, TextFault, Version, Word,
+};
 pub use checking::{BlockTold, FileEnded, FileTold, check_file};
-pub use interesting_orders::Version;
 pub use telling::Told;

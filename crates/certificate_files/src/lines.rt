@@ -6,14 +6,13 @@ ghost use Rattle.definitions.specs.Certificates.File.{lines_of};
 ghost use Rattle.definitions.specs.Certificates.Verdicts.{verdict_text, rest_text, space_text};
 ghost use Rattle.definitions.specs.Certificates.Verdicts as verdicts;
 ghost use Rattle.cert_check.specs.Verdicts.{rule_of};
-ghost use Rattle.interesting_orders.specs.Versions.{version_of};
+ghost use Rattle.certificate.specs.Versions.{version_of};
 ghost use Rattle.certificate_files.specs.BlockLine.{told_line};
 ghost use Rattle.certificate_files.specs.Telling.{told_of, fault_of};
 
 use crate::telling::Told;
 use cert_check::Rule;
-use certificate::TextFault;
-use interesting_orders::Version;
+use certificate::{TextFault, Version};
 use itoa::Buffer;
 use std::alloc::AllocError;
 

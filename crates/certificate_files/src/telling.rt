@@ -13,15 +13,13 @@ ghost use Rattle.query_tree.specs.Bound.{block_of};
 ghost use Rattle.plan_tree.specs.Certificates.{certificate_of};
 ghost use Rattle.certificate.specs.Reads.{HasTextFault};
 ghost use Rattle.cert_check.specs.Verdicts.{verdict_of};
-ghost use Rattle.interesting_orders.specs.Versions.{version_of};
-ghost use Rattle.plan_space.specs.Planned.{space_in};
+ghost use Rattle.certificate.specs.Versions.{version_of};
+ghost use Rattle.certificate.specs.Planned.{space_in};
 ghost use Rattle.certificate_files.specs.Telling.{StandsFor, IsToldBy, IsOfText, told_of};
 
 use catalog::Database;
 use cert_check::{Rule, StateKey, Verdict, check, check_outside};
-use certificate::{BlockSpace, Spelled, TextFault, read_text};
-use interesting_orders::Version;
-use plan_space::{PlanNote, Space};
+use certificate::{BlockSpace, PlanNote, Space, Spelled, TextFault, Version, read_text};
 use query_tree::Block;
 use std::alloc::{AllocError, Global};
 

@@ -10,8 +10,7 @@ pub use catalog::LoadProgress;
 pub use cause::{
     Cause, ColumnList, FileLoad, QueryCause, Refused, StatisticsCause, TableStatisticsCause,
 };
-pub use certificate_files::FileTold;
+pub use certificate_files::{FileTold, PlanNote, PlanNoteKind};
 pub use checked_file::CheckedFile;
-pub use plan_space::{PlanNote, PlanNoteKind};
 pub use plan_tree::TableSet;
 pub use progress::{Planned, Progress};

@@ -1,8 +1,8 @@
 //! How far a statement is, and what its plans rest on.
 
 use catalog::LoadProgress;
+use certificate_files::PlanNote;
 use parse_tree::Select;
-use plan_space::PlanNote;
 use query_tree::Block;
 
 /// How far a statement is (own).

@@ -178,8 +178,16 @@ impl<'a> Estimate<'a> {
         width
     }
 
+    /// How many pages the rows of a set of tables fill.
+    pub fn pages(&self, tables: TableSet) -> u64
+        ensures exact { result ≡ spec.pages self.now.database (block_of self.now.block) (set_of tables) }
+        ensures below { result ≤ limit }
+    {
+        self.pages_of(tables, self.cardinality(tables))
+    }
+
     /// How many pages the rows of a set of tables fill, where it is known how many they are.
-    fn pages(&self, tables: TableSet, rows: u64) -> u64
+    fn pages_of(&self, tables: TableSet, rows: u64) -> u64
         requires { rows ≡ spec.cardinality self.now.database (block_of self.now.block) (set_of tables) }
         ensures exact { result ≡ spec.pages self.now.database (block_of self.now.block) (set_of tables) }
         ensures below { result ≤ limit }
@@ -202,7 +210,7 @@ impl<'a> Estimate<'a> {
         ensures exact { result ≡ spec.sort_cost self.now.database (block_of self.now.block) (set_of tables) }
         ensures below { result ≤ limit }
     {
-        saturate(20 * u128::from(self.pages(tables, rows)) + u128::from(rows))
+        saturate(20 * u128::from(self.pages_of(tables, rows)) + u128::from(rows))
     }
 }
 

@@ -10,11 +10,11 @@ use Rattle.grouping.specs.Accumulating.{Accumulates}
 use Rattle.grouping.specs.Aggregating.{chosen, Aggregates, AreSeen}
 use Rattle.grouping.specs.declared.accumulator.Accumulator.{Accumulator}
 use Rattle.grouping.specs.declared.aggregation.Aggregation.{Aggregation}
-use Rattle.result_rows.specs.declared.lines.DistinctLines.{DistinctLines}
+use Rattle.grouping.specs.declared.distinct_values.DistinctValues.{DistinctValues}
 
-nothing_seen : (seen : Option DistinctLines) (vs : List Value) → is_some seen ≡ false → AreSeen seen vs
+nothing_seen : (seen : Option DistinctValues) (vs : List Value) → is_some seen ≡ false → AreSeen seen vs
 nothing_seen None vs e = tt
-nothing_seen (Some lines) vs e = absurd cc
+nothing_seen (Some values) vs e = absurd cc
 
 pub more_counted : (shape : Shape) (vs more : List Value) (a : Aggregation) (running : Accumulator) → is_some a.seen ≡ false → AllByRecursion IsInBounds more → (Accumulates shape vs a.running → Accumulates shape (vs ++ more) running)
     → Aggregates shape vs a → Aggregates shape (vs ++ more) (record a { running = running })

@@ -7,12 +7,9 @@ use Rattle.definitions.specs.Queries.BoundBlock as b
 use Rattle.definitions.specs.Queries.Evaluation.{Environment, cell}
 use Rattle.definitions.specs.Queries.Grouping.{taken}
 use Rattle.query_tree.specs.Bound.{column_of}
+use Rattle.result_rows.specs.Batches.{column_values}
 use Rattle.grouping.specs.Units.{numbers_at}
 use Rattle.grouping.specs.declared.column_units.ColumnUnits.{ColumnUnits}
-
--- the values in a column
-abbrev pub column_values : List Environment → BlockColumn → List Value
-column_values envs column = map (λ (env : Environment). cell env.combination column) envs
 
 -- a set function of a column of one of so many tables, or COUNT(*)
 abbrev pub IsOfColumn : ℕ → b.Aggregate → Type 0

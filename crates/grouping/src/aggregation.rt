@@ -8,28 +8,27 @@ ghost use Rattle.definitions.specs.Queries.Grouping.{aggregate, taken};
 ghost use Rattle.sqlvalue.specs.Meaning.{value_of};
 ghost use Rattle.parse_tree.specs.Trees.{function_of};
 ghost use Rattle.query_tree.specs.Bound.{column_of};
-ghost use Rattle.grouping.specs.Batches.{column_values, AreHeld};
+ghost use Rattle.result_rows.specs.Batches.{column_values};
+ghost use Rattle.grouping.specs.Batches.{AreHeld};
 ghost use Rattle.definitions_answers.specs.Lines.{IsInBounds};
 ghost use Rattle.definitions_answers.specs.Shapes.{HasShape, IsThere, Shape, Sums};
 ghost use Rattle.grouping.specs.Accumulating.{MayEnd};
-ghost use Rattle.grouping.specs.Aggregating.{chosen, Aggregates, IsNoted};
+ghost use Rattle.grouping.specs.Aggregating.{chosen, Aggregates, MayBeNoted};
 
 use crate::accumulator::{Accumulator, is_null};
 use crate::column_units::ColumnUnits;
-use crate::row_batch::RowBatch;
+use crate::distinct_values::DistinctValues;
 use parse_tree::SetFunction;
 use query_tree::BlockColumn;
-use result_rows::DistinctLines;
-use sqlvalue::{Raise, Value, write_value};
+use result_rows::RowBatch;
+use sqlvalue::{Raise, Value};
 use std::alloc::{AllocError, Global};
 
-/// A set function of the values so far (ISO/IEC 9075:1992, 6.5). Under DISTINCT it has the printed values that came before: values of one
-/// column are equal where they are printed alike.
+/// A set function of the values so far (ISO/IEC 9075:1992, 6.5). Under DISTINCT it has those that came before.
 #[derive(Drop)]
 pub struct Aggregation {
     running: Accumulator,
-    seen: Option<DistinctLines>,
-    line: Vec<u8>,
+    seen: Option<DistinctValues>,
 }
 
 impl Aggregation {
@@ -41,8 +40,7 @@ impl Aggregation {
     {
         Aggregation {
             running: Accumulator::new(function),
-            seen: DistinctLines::if_distinct(alloc, distinct),
-            line: Vec::new(alloc),
+            seen: DistinctValues::if_distinct(alloc, distinct),
         }
     }
 
@@ -129,17 +127,12 @@ impl Aggregation {
     /// Notes a value that is not null, and tells whether it did not come before; without DISTINCT each counts as new.
     fn is_new(&mut self, alloc: Global, value: &Value) -> Result<bool, AllocError>
         ensures running { self.new.running ≡ self.old.running }
-        ensures noted { IfOk result (λ new. IsNoted self.old.seen self.new.seen new (value_of value.now)) }
+        ensures noted { IfOk result (λ new. MayBeNoted self.old.seen self.new.seen new (value_of value.now)) }
         ensures distinct { is_some self.new.seen ≡ is_some self.old.seen }
     {
         match &mut self.seen {
             None => Ok(true),
-            Some(seen) => {
-                self.line.clear();
-                write_value(&mut self.line, value)?;
-                self.line.push(b'\n')?;
-                seen.add(alloc, &self.line)
-            }
+            Some(seen) => seen.add(alloc, value),
         }
     }
 

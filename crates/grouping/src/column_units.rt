@@ -11,8 +11,8 @@ ghost use Rattle.grouping.specs.Batches.{AreHeld, AreUnitsOf};
 ghost use Rattle.grouping.specs.Units.{numbers_at};
 
 use crate::accumulator::is_null;
-use crate::row_batch::RowBatch;
 use query_tree::BlockColumn;
+use result_rows::RowBatch;
 use sqlvalue::Value;
 use std::alloc::{AllocError, Global};
 

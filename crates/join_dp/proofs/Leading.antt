@@ -9,7 +9,7 @@ use Rattle.definitions.specs.Plans.PlanSpace.{CanSort}
 use Rattle.definitions.specs.Plans.Folding.{Folds}
 use Rattle.definitions.specs.Plans.Cost.{limit, saturated}
 use Rattle.definitions.proofs.PlanTheory.Orders.{folds_once}
-use Rattle.interesting_orders.specs.Sorts.{AreSorts}
+use Rattle.plan_space.specs.InterestingOrders.Sorts.{AreSorts}
 use Rattle.plan_space.specs.Item.{Item, AreItems}
 use Rattle.plan_space.proofs.Lists.{has_each, head_has, both}
 use Rattle.plan_space.proofs.PathItems.{IsPathItem, each_path, found_item}

@@ -6,7 +6,7 @@ use Rattle.definitions.specs.Plans.Order.{OrderNumber}
 use Rattle.definitions.specs.Plans.Space.{Space, whole}
 use Rattle.definitions.specs.Plans.PlanSpace.{MayFollow}
 use Rattle.plan_space.specs.Merge.{Merge as CostedMerge, AreMerges}
-use Rattle.interesting_orders.specs.Sorts.{AreSorts}
+use Rattle.plan_space.specs.InterestingOrders.Sorts.{AreSorts}
 
 -- the accesses of the first tables
 abbrev pub most_accesses : Space → ℕ → ℕ

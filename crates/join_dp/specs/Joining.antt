@@ -7,7 +7,7 @@ use Rattle.definitions.specs.Plans.Space.{Space}
 use Rattle.definitions.specs.Plans.PlanSpace.{MayFollow, IsPath, CanLoop, CanMerge}
 use Rattle.definitions.specs.Plans.Cost.{loop_cost, merge_cost}
 use Rattle.plan_space.specs.Merge.{IsMerge}
-use Rattle.interesting_orders.specs.Merges.{GoesBy}
+use Rattle.plan_space.specs.InterestingOrders.Merges.{GoesBy}
 use Rattle.join_dp.specs.Steps.{Join, Loop, Merge}
 
 module _ (space : Space) where

@@ -4,7 +4,7 @@ ghost use Rattle.std.specs.Prelude.{ℕ, ◌≡◌, ◌+◌, ◌*◌, ◌<◌, �
 ghost use Rattle.std.specs.Bool.{Decides};
 ghost use Rattle.definitions.specs.Limits.{most_from_tables};
 ghost use Rattle.plan_tree.specs.Sets.{set_of};
-ghost use Rattle.interesting_orders.specs.Sorts.{AreSorts};
+ghost use Rattle.plan_space.specs.InterestingOrders.Sorts.{AreSorts};
 ghost use Rattle.join_dp.specs.Counting.{AreCounts, most_joins};
 ghost use Rattle.join_dp.specs.Final.{IsFinal};
 ghost use Rattle.join_dp.specs.JoinLists.{joins_in, listed_in, AreJoins, AreLists, IsListed, Stand};

@@ -4,7 +4,7 @@ ghost use Rattle.definitions.specs.Binding.Formed.{IsFormedSomewhere};
 ghost use Rattle.definitions.specs.Plans.Certificate.{IsCertificate};
 ghost use Rattle.query_tree.specs.Bound.{block_of};
 ghost use Rattle.plan_tree.specs.Certificates.{certificate_of};
-ghost use Rattle.plan_space.specs.Planned.{space_in};
+ghost use Rattle.certificate.specs.Planned.{space_in};
 
 use crate::lacking::{missing_found, state_found};
 use crate::naming::Naming;
@@ -16,7 +16,7 @@ use catalog::Database;
 use certificate::{BlockSpace, Spelled, Version, read_text};
 use certificate_files::{Expected, FileTold, Rule, StateKey, TextFault, Told, Word, first_below};
 use parse_tree::Select;
-use plan_names::BlockNames;
+use plan_texts::BlockNames;
 use plan_tree::Certificate;
 use query_tree::Block;
 use std::alloc::{AllocError, Global};

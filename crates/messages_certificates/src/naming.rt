@@ -2,8 +2,7 @@
 
 use certificate::BlockSpace;
 use certificate_files::{Comparison, StateKey};
-use plan_names::BlockNames;
-use plan_texts::outside;
+use plan_texts::{BlockNames, outside};
 use plan_tree::Plan;
 use std::alloc::Global;
 

@@ -8,8 +8,7 @@ use crate::spelling::state_name;
 use crate::steps::{spelled_step, state_at};
 use certificate::{BlockSpace, Spelled};
 use certificate_files::StateKey;
-use plan_names::{last_step, plan_below};
-use plan_texts::outside;
+use plan_texts::{last_step, outside, plan_below};
 use plan_tree::Plan;
 
 /// What makes the rule of the target fail at a state of all tables.

@@ -144,7 +144,7 @@ const THE_END: &str = "a script ends where its text does";
 const CERTIFICATES: &str =
     "this is a certificate: check takes the script first, and then its certificates";
 
-static STATEMENTS: [(&str, &str); 23] = [
+static STATEMENTS: [(&str, &str); 22] = [
     ("CERTIFICATE", CERTIFICATES),
     ("INSERT", ROWS),
     ("COPY", ROWS),
@@ -169,10 +169,6 @@ static STATEMENTS: [(&str, &str); 23] = [
     ("WITH", "there is no WITH: a query is one SELECT"),
     ("ANALYZE", "LOAD counts the statistics of its table"),
     ("HELP", "sqlr --help tells the commands"),
-    (
-        "CERTIFICATE",
-        "this is a file of certificates, and here a script is read",
-    ),
     (
         "OK",
         "this is what a script prints, and here a script is read",

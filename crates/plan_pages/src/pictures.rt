@@ -4,7 +4,7 @@ use crate::column_widths::split_fitting;
 use crate::escapes::Escaped;
 use crate::graphs::{Edge, Graph, Node, NodeKind};
 use crate::shown::{shown_count, shown_nodes};
-use crate::spots::{BOX_HEIGHT, CHARACTER, Layout, Spot};
+use crate::spots::{BOX_HEIGHT, CHARACTER, Layout, ROOM, Spot};
 use std::alloc::{AllocError, Global};
 use std::fmt::Write;
 
@@ -87,23 +87,42 @@ fn middle(first: usize, second: usize) -> usize {
     first.saturating_add(second) / 2
 }
 
-/// Adds what an edge says, in its middle.
+/// Adds what an edge says.
 fn put_label(out: &mut String, layout: &Layout, edge: &Edge) -> Result<(), AllocError> {
     let (Some(from), Some(to)) = (layout.spot(edge.from), layout.spot(edge.to)) else {
         return Ok(());
     };
-    let x = middle(from.x, to.x);
-    let y = if from.y == to.y {
-        from.y.saturating_sub(ARCH / 2 + 4)
-    } else {
-        let (first, second) = facing_sides(from.y, to.y);
-        middle(first, second)
-    };
+    let Spot { x, y } = label_spot(from, to);
     let label = Escaped(&edge.label);
     writeln!(
         out,
         "<text class=\"label\" x=\"{x}\" y=\"{y}\">{label}</text>"
     )
+}
+
+/// Where the label of an edge stands: on it in the free room next to the box that it begins at, and so over no box between, and apart from
+/// others that lead to the same box.
+fn label_spot(from: Spot, to: Spot) -> Spot {
+    if from.y == to.y {
+        return Spot {
+            x: middle(from.x, to.x),
+            y: from.y.saturating_sub(ARCH / 2 + 4),
+        };
+    }
+    let (start, end) = facing_sides(from.y, to.y);
+    let (length, near) = (start.abs_diff(end), ROOM / 2);
+    let along = from
+        .x
+        .saturating_mul(length.saturating_sub(near))
+        .saturating_add(to.x.saturating_mul(near));
+    Spot {
+        x: along.checked_div(length).unwrap_or(from.x),
+        y: if start > end {
+            start.saturating_sub(near)
+        } else {
+            start.saturating_add(near)
+        },
+    }
 }
 
 /// Adds the box of a node, if it is drawn.

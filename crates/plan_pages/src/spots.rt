@@ -13,10 +13,13 @@ const MARGIN: usize = 10;
 /// What it leaves free above its highest boxes, for edges between them.
 const HEAD: usize = 60;
 
-/// How high a box is, and how far the next row lies below.
+/// How high a box is, and how much is left free below it.
 pub(crate) const BOX_HEIGHT: usize = 44;
 
-const ROW_HEIGHT: usize = 124;
+pub(crate) const ROOM: usize = 80;
+
+/// How far the next row lies below.
+const ROW_HEIGHT: usize = BOX_HEIGHT + ROOM;
 
 /// What is left free between two boxes.
 const GAP: usize = 30;
@@ -58,7 +61,7 @@ impl Layout {
             width: row_width(longest(&rows), box_width).saturating_add(MARGIN * 2),
             height: ROW_HEIGHT
                 .saturating_mul(rows.len())
-                .saturating_sub(ROW_HEIGHT - BOX_HEIGHT)
+                .saturating_sub(ROOM)
                 .saturating_add(HEAD + MARGIN),
             box_width,
             spots: nowhere(alloc, graph.nodes.len())?,

@@ -1,30 +1,32 @@
 //! Two queries' least plans, step by step.
 
+use crate::answers::QueryPlanner;
 use crate::sweeps::outlines_of;
 use plan_pages::{Part, Section, Table};
 use plan_views::{
-    BlockOutline, StepOutline, ViewFault, add_row, number, number_cell, table, word_cell, words,
+    BlockOutline, PlanningScript, StepOutline, ViewFault, add_row, number, number_cell, table,
+    word_cell, words,
 };
-use planning_scripts::PlanningScript;
 use std::alloc::{AllocError, Global};
 
 /// A section for each pair of blocks of one number.
-pub(crate) fn difference_sections(
+pub(crate) fn difference_sections<P: QueryPlanner>(
     alloc: Global,
+    planner: &P,
     first: &PlanningScript,
     second: &PlanningScript,
 ) -> Result<Vec<Section>, ViewFault> {
-    let before = outlines_of(alloc, first, &[])?;
-    let after = outlines_of(alloc, second, &[])?;
+    let before = outlines_of(alloc, planner, first, &[])?;
+    let after = outlines_of(alloc, planner, second, &[])?;
     let mut sections = Vec::new(alloc);
     for (number, (one, other)) in before.iter().zip(after.iter()).enumerate() {
         sections.push(difference_section(alloc, number, one, other)?)?;
     }
     if before.len() != after.len() {
+        let (first, second) = (before.len(), after.len());
+        let plural = if first == 1 { "" } else { "s" };
         return Err(ViewFault::Refused(format!(in alloc;
-            "the first query has {} blocks, and the second {}",
-            before.len(),
-            after.len()
+            "the first query has {first} block{plural}, and the second {second}"
         )?));
     }
     Ok(sections)

@@ -1,8 +1,7 @@
 //! Statistics by name, and their values.
 
 use catalog::{IndexStatistics, KeyRange};
-use plan_views::ViewFault;
-use planning_scripts::{PlannedIndex, PlannedTable, PlanningScript};
+use plan_views::{PlannedIndex, PlannedTable, PlanningScript, ViewFault};
 use std::alloc::{AllocError, Global};
 use std::mem;
 
@@ -104,16 +103,29 @@ pub(crate) fn read_value(
 ) -> Result<i128, ViewFault> {
     match units_of(text, figure.scale) {
         Some(units) if units >= 0 || figure.kind.is_bound() => Ok(units),
-        _ => {
-            let name = match script.tables.get(figure.table) {
-                Some(table) => table.name.as_str(),
-                None => "",
-            };
-            let digits = figure.scale;
-            Err(ViewFault::Refused(format!(in alloc;
-                "{text}: of {name} this statistic is a number with at most {digits} digits behind its point"
-            )?))
+        _ => Err(ViewFault::Refused(value_words(alloc, script, figure, text)?)),
+    }
+}
+
+/// What a value of a statistic has to be, in place of a text that is none.
+fn value_words(
+    alloc: Global,
+    script: &PlanningScript,
+    figure: Figure,
+    text: &str,
+) -> Result<String, AllocError> {
+    let name = match script.tables.get(figure.table) {
+        Some(table) => table.name.as_str(),
+        None => "",
+    };
+    match (figure.kind.is_bound(), figure.scale) {
+        (false, _) => {
+            format!(in alloc; "{text}: of {name} this statistic is a whole number from 0 on")
         }
+        (true, 0) => format!(in alloc; "{text}: of {name} this statistic is a whole number"),
+        (true, digits) => format!(in alloc;
+            "{text}: of {name} this statistic is a number with at most {digits} digits behind its point"
+        ),
     }
 }
 

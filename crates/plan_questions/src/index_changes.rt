@@ -1,9 +1,12 @@
 //! What each index is worth, and each one more.
 
+use crate::answers::QueryPlanner;
 use crate::sweeps::outlines_of;
 use plan_pages::{Cell, Part, Section, Table};
-use plan_views::{BlockOutline, Priced, ViewFault, add_row, number, table, word_cell, words};
-use planning_scripts::{PlannedIndex, PlanningScript};
+use plan_views::{
+    BlockOutline, PlannedIndex, PlanningScript, Priced, ViewFault, add_row, number, table,
+    word_cell, words,
+};
 use std::alloc::{AllocError, Global};
 
 /// An index that is there and is left out, or one that is proposed and is put in.
@@ -23,23 +26,24 @@ struct Place {
 }
 
 /// A section for each block: what each index is worth to it, and what each proposed one, which is left out now, would be.
-pub(crate) fn index_sections(
+pub(crate) fn index_sections<P: QueryPlanner>(
     alloc: Global,
+    planner: &P,
     script: &mut PlanningScript,
 ) -> Result<Vec<Section>, ViewFault> {
-    let today = outlines_of(alloc, script, &[])?;
+    let today = outlines_of(alloc, planner, script, &[])?;
     let plans = plans_of(alloc, &today)?;
     let mut changes = Vec::new(alloc);
     for place in places(alloc, script)? {
-        if let Some(change) = change_at(alloc, script, place, &plans)? {
+        if let Some(change) = change_at(alloc, planner, script, place, &plans)? {
             changes.push(change)?;
         }
     }
-    if let Some(change) = change_of_all(alloc, script, &plans)? {
+    if let Some(change) = change_of_all(alloc, planner, script, &plans)? {
         changes.push(change)?;
     }
     let priced = plans_of_all(alloc, &changes)?;
-    let prices = outlines_of(alloc, script, &priced)?;
+    let prices = outlines_of(alloc, planner, script, &priced)?;
     let mut sections = Vec::new(alloc);
     for (block, own) in prices.iter().enumerate() {
         sections.push(index_section(alloc, script, &changes, own, block)?)?;
@@ -78,8 +82,9 @@ fn plans_of_all(alloc: Global, changes: &[Change]) -> Result<Vec<Priced>, AllocE
 }
 
 /// The least plans with an index left out, or put in where it is proposed; it is as before behind that.
-fn change_at(
+fn change_at<P: QueryPlanner>(
     alloc: Global,
+    planner: &P,
     script: &mut PlanningScript,
     place: Place,
     plans: &[Priced],
@@ -88,7 +93,7 @@ fn change_at(
         return Ok(None);
     };
     let is_proposed = turn(script, place);
-    let outlines = outlines_of(alloc, script, plans);
+    let outlines = outlines_of(alloc, planner, script, plans);
     let _ = turn(script, place);
     Ok(Some(Change {
         name,
@@ -98,8 +103,9 @@ fn change_at(
 }
 
 /// The least plans without all indexes that are there, if there are several; they are as before behind that.
-fn change_of_all(
+fn change_of_all<P: QueryPlanner>(
     alloc: Global,
+    planner: &P,
     script: &mut PlanningScript,
     plans: &[Priced],
 ) -> Result<Option<Change>, ViewFault> {
@@ -114,7 +120,7 @@ fn change_of_all(
     }
     let name = String::from_str(alloc, "all of them")?;
     turn_all(script, &present);
-    let outlines = outlines_of(alloc, script, plans);
+    let outlines = outlines_of(alloc, planner, script, plans);
     turn_all(script, &present);
     Ok(Some(Change {
         name,

@@ -1,8 +1,7 @@
 //! Indexes that a query could use.
 
-use crate::asking::{Answer, Question, ask};
-use plan_views::{UsedColumn, ViewFault};
-use planning_scripts::{PlannedTable, PlanningScript};
+use crate::answers::{Answer, QueryPlanner, Question};
+use plan_views::{PlannedTable, PlanningScript, UsedColumn, ViewFault};
 use std::alloc::{AllocError, Global};
 
 /// So many indexes a table may have (own).
@@ -13,9 +12,13 @@ const MAX_INDEXES: usize = 16;
 ///
 /// # Errors
 /// Why the query can't be planned, or that memory ran out.
-pub fn proposals(alloc: Global, script: &PlanningScript) -> Result<String, ViewFault> {
+pub fn proposals<P: QueryPlanner>(
+    alloc: Global,
+    planner: &P,
+    script: &PlanningScript,
+) -> Result<String, ViewFault> {
     let mut used = Vec::new(alloc);
-    for answer in ask(alloc, script, Question::Columns)? {
+    for answer in planner.ask(script, Question::Columns)? {
         if let Answer::Columns(columns) = answer {
             for column in columns {
                 used.push(column)?;

@@ -1,10 +1,11 @@
 //! One statistic varied.
 
-use crate::asking::{Answer, Question, ask};
+use crate::answers::{Answer, QueryPlanner, Question};
 use crate::figures::{Figure, read_figure, read_value};
 use plan_pages::{Cell, Part, Section, Table};
-use plan_views::{BlockOutline, Priced, ViewFault, add_row, number, table, word_cell, words};
-use planning_scripts::PlanningScript;
+use plan_views::{
+    BlockOutline, PlanningScript, Priced, ViewFault, add_row, number, table, word_cell, words,
+};
 use std::alloc::{AllocError, Global};
 
 /// What the blocks of a query answer with one value of a statistic, as it was given.
@@ -15,8 +16,9 @@ struct Turn<'a> {
 }
 
 /// A section for each block: for each value the least cost and plan.
-pub(crate) fn sweep_sections(
+pub(crate) fn sweep_sections<P: QueryPlanner>(
     alloc: Global,
+    planner: &P,
     script: &mut PlanningScript,
     named: &str,
     values: &[String],
@@ -26,7 +28,7 @@ pub(crate) fn sweep_sections(
     for value in values {
         let value = value.as_str();
         let units = read_value(alloc, script, figure, value)?;
-        let outlines = match outlines_with(alloc, script, figure, units) {
+        let outlines = match outlines_with(alloc, planner, script, figure, units) {
             Err(ViewFault::Refused(words)) => {
                 return Err(ViewFault::Refused(format!(in alloc; "{value}: {words}")?));
             }
@@ -46,26 +48,28 @@ pub(crate) fn sweep_sections(
 }
 
 /// The least plans where a statistic has a value; it is put back behind that.
-fn outlines_with(
+fn outlines_with<P: QueryPlanner>(
     alloc: Global,
+    planner: &P,
     script: &mut PlanningScript,
     figure: Figure,
     value: i128,
 ) -> Result<Vec<BlockOutline>, ViewFault> {
     let before = figure.exchange(script, value);
-    let found = outlines_of(alloc, script, &[]);
+    let found = outlines_of(alloc, planner, script, &[]);
     let _ = figure.exchange(script, before);
     found
 }
 
 /// The least plans of a script's blocks in short, and what other plans cost there.
-pub(crate) fn outlines_of(
+pub(crate) fn outlines_of<P: QueryPlanner>(
     alloc: Global,
+    planner: &P,
     script: &PlanningScript,
     priced: &[Priced],
 ) -> Result<Vec<BlockOutline>, ViewFault> {
     let mut outlines = Vec::new(alloc);
-    for answer in ask(alloc, script, Question::Outline { priced })? {
+    for answer in planner.ask(script, Question::Outline { priced })? {
         if let Answer::Outline(outline) = answer {
             outlines.push(outline)?;
         }

@@ -2,6 +2,7 @@ pub use Rattle.definitions.specs.Plans.PlanSpace
 pub use Rattle.definitions.specs.Estimates
 pub use Rattle.definitions.specs.Plans.Cost
 pub use Rattle.definitions.specs.Plans.Search
+pub mod InterestingOrders
 pub mod Linked
 pub mod Item
 pub mod Items

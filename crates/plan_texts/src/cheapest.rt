@@ -1,7 +1,7 @@
 //! The cheapest steps of a plan space that are as a text has them: of those that cost as much, the first.
 
 use crate::wanted::WantedAccess;
-use plan_space::{CostedMerge, Space};
+use certificate::{CostedMerge, Space};
 use plan_tree::{Path, TableSet};
 
 /// The cheapest path of a table where the rows of no other are known.

@@ -16,5 +16,6 @@ pub use broken_rules::{BrokenRule, OutsideText, outside};
 pub use fault::{Expectation, NameProblem, PlanTextFault};
 pub use form_words::form_problem;
 pub use paths_apart::PathFault;
+pub use plan_names::{BlockNames, last_step, plan_below};
 pub use reading::read_plan;
 pub use wanted::are_same;

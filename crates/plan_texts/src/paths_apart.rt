@@ -1,7 +1,7 @@
 //! Why a path is none of a table's.
 
 use crate::wanted::are_same;
-use plan_space::Space;
+use certificate::Space;
 use plan_tree::{MAX_FROM_TABLES, Path, TableSet};
 
 /// Why a path is none of a table's, where the rows of a set of tables are known.

@@ -1,10 +1,10 @@
 //! The conjuncts of a block, and what they are taken to leave.
 
-use crate::block_views::BlockView;
 use crate::tables::{add_row, number, table, word_cell, words};
 use catalog::Table as StoredTable;
 use estimate::PlanConjunct;
 use plan_pages::{Cell, Table};
+use planned_queries::BlockView;
 use query_tree::{BlockColumn, Condition, ValueExpr};
 use std::alloc::{AllocError, Global};
 

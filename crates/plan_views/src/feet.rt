@@ -1,6 +1,6 @@
 //! What stands at the foot of a page: what is proved, what isn't, and the constants behind the costs.
 
-use crate::views::View;
+use planned_queries::View;
 use std::alloc::{AllocError, Global};
 
 const PROVED: &str =

@@ -1,10 +1,7 @@
 //! Least plans in short, which outlive their plan spaces.
 
-use crate::block_views::BlockView;
-use crate::steps::{PlanSteps, Shown, step_words};
-use plan_space::Space;
-use plan_texts::{PlanTextFault, read_plan};
 use plan_tree::Plan;
+use planned_queries::{BlockView, PlanSteps, PlanTextFault, Shown, Space, read_plan, step_words};
 use std::alloc::{AllocError, Global};
 
 /// A plan of a block, by names, that is to be priced.

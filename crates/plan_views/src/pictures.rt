@@ -1,12 +1,9 @@
 //! The search as a graph: states in layers by their number of tables, and the steps that reached them.
 
-use crate::block_views::BlockView;
-use crate::listening::{Kept, MANY_STATES};
 use crate::searches::size_of;
-use crate::ways::{Way, key_of, state_of};
-use cert_check::{PlanStep, StateKey};
 use indexmap::IndexSet;
 use plan_pages::{Edge, Graph, Node, NodeKind};
+use planned_queries::{BlockView, Kept, MANY_STATES, PlanStep, StateKey, Way, key_of, state_of};
 use std::alloc::{AllocError, Global};
 
 /// The states of a block's certificate, its plan's last one, and those that aren't listed and are told of comparisons, with the steps that

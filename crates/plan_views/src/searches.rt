@@ -1,12 +1,9 @@
 //! The search: its states and the steps that its certificate compares.
 
-use crate::block_views::BlockView;
-use crate::listening::{Kept, Ledger, MANY_STATES};
 use crate::tables::{add_row, number, table, words};
 use crate::trees::order_words;
-use crate::ways::{Way, key_of, state_of};
-use cert_check::StateKey;
 use plan_pages::{Cell, Part, Table};
+use planned_queries::{BlockView, Kept, Ledger, MANY_STATES, StateKey, Way, key_of, state_of};
 use std::alloc::{AllocError, Global};
 
 /// The parts of a search: how much there is, the states with the steps that led there, and the comparisons.

@@ -1,18 +1,17 @@
 //! A block's section of a page.
 
 use crate::asked::asked_line;
-use crate::block_views::BlockView;
 use crate::conjunct_rows::conjunct_table;
 use crate::pictures::picture;
 use crate::searches::search_parts;
 use crate::statistics::statistics_table;
 use crate::ties::push_ties;
 use crate::trees::{plan_line, plan_table, sum_line};
-use crate::views::{View, ViewFault};
 use crate::whys::why_parts;
 use crate::written::written_plan;
 use plan_pages::{Part, Section};
-use planning_scripts::PlanningScript;
+use plan_tree::Plan;
+use planned_queries::{BlockView, PlanningScript, View, ViewFault};
 use std::alloc::{AllocError, Global};
 
 /// The section of a block.
@@ -55,12 +54,9 @@ fn tree_parts(
     script: &PlanningScript,
     block: &BlockView<'_>,
 ) -> Result<Vec<Part>, AllocError> {
-    let mut parts = Vec::new(alloc);
-    parts.push(Part::Table(conjunct_table(alloc, block)?))?;
-    parts.push(Part::Table(statistics_table(alloc, script, block)?))?;
+    let mut parts = given_parts(alloc, script, block)?;
     let title = format!(in alloc; "least plan, {}", block.certificate().target)?;
-    parts.push(Part::Table(plan_table(alloc, block, block.plan(), &title)?))?;
-    parts.push(sum_line(alloc, block, block.plan())?)?;
+    push_plan(alloc, block, block.plan(), &title, &mut parts)?;
     push_ties(alloc, block, &mut parts)?;
     if let Some(line) = asked_line(alloc, block)? {
         parts.push(line)?;
@@ -70,14 +66,43 @@ fn tree_parts(
     Ok(parts)
 }
 
+/// What a block's plans are planned by: its conjuncts, its tables and their indexes.
+fn given_parts(
+    alloc: Global,
+    script: &PlanningScript,
+    block: &BlockView<'_>,
+) -> Result<Vec<Part>, AllocError> {
+    let mut parts = Vec::new(alloc);
+    let conjuncts = conjunct_table(alloc, block)?;
+    parts.push(Part::Table(conjuncts))?;
+    let statistics = statistics_table(alloc, script, block)?;
+    parts.push(Part::Table(statistics))?;
+    Ok(parts)
+}
+
+/// Adds a plan as a tree, and what its steps come to.
+fn push_plan(
+    alloc: Global,
+    block: &BlockView<'_>,
+    plan: &Plan,
+    title: &str,
+    parts: &mut Vec<Part>,
+) -> Result<(), AllocError> {
+    let rows = plan_table(alloc, block, plan, title)?;
+    parts.push(Part::Table(rows))?;
+    if let Some(sum) = sum_line(alloc, block, plan)? {
+        parts.push(sum)?;
+    }
+    Ok(())
+}
+
+/// What the contract of `planner::PlannedBlock::new` says: the check isn't run for it, which takes as long as the search.
 fn certificate_line(alloc: Global, block: &BlockView<'_>) -> Result<Part, AllocError> {
     let states = block.certificate().states.len();
-    let verdict = if block.passes {
-        "passes"
-    } else {
-        "doesn't pass"
-    };
-    let text = format!(in alloc; "Its certificate of {states} states {verdict} the check.")?;
+    let plural = if states == 1 { "" } else { "s" };
+    let text = format!(in alloc;
+        "Its certificate of {states} state{plural} is proved to pass the check."
+    )?;
     Ok(Part::Line {
         key: "certificate",
         text,
@@ -90,29 +115,28 @@ fn written_parts(
     script: &PlanningScript,
     block: &BlockView<'_>,
 ) -> Result<Vec<Part>, AllocError> {
-    let mut parts = Vec::new(alloc);
-    parts.push(Part::Table(conjunct_table(alloc, block)?))?;
-    parts.push(Part::Table(statistics_table(alloc, script, block)?))?;
+    let mut parts = given_parts(alloc, script, block)?;
     match written_plan(alloc, block)? {
-        Some(plan) => {
-            parts.push(Part::Table(plan_table(alloc, block, &plan, "the plan of the file")?))?;
-            parts.push(sum_line(alloc, block, &plan)?)?;
-        }
-        None => parts.push(Part::Line {
-            key: "unread",
-            text: String::from_str(
-                alloc,
-                "The file has no plan for this block that can be read.",
-            )?,
-        })?,
+        Some(plan) => push_plan(alloc, block, &plan, "the plan of the file", &mut parts)?,
+        None => parts.push(unread_line(alloc)?)?,
     }
-    let target = block.certificate().target;
     parts.push(Part::Figure {
         key: "least",
         title: "a least plan costs",
-        value: target,
+        value: block.certificate().target,
     })?;
     Ok(parts)
+}
+
+fn unread_line(alloc: Global) -> Result<Part, AllocError> {
+    let text = String::from_str(
+        alloc,
+        "The file has no plan for this block that can be read.",
+    )?;
+    Ok(Part::Line {
+        key: "unread",
+        text,
+    })
 }
 
 /// Tree, search as a picture and as tables, and the steps that lost by little.

@@ -1,9 +1,8 @@
 //! The tables of a block with their statistics and indexes.
 
-use crate::block_views::BlockView;
 use crate::tables::{add_row, number, number_cell, table, word_cell, words};
 use plan_pages::{Cell, Table};
-use planning_scripts::{PlannedIndex, PlannedTable, PlanningScript};
+use planned_queries::{BlockView, PlannedIndex, PlannedTable, PlanningScript};
 use std::alloc::{AllocError, Global};
 
 /// A table of the block's tables, in the order of FROM, each above its indexes.

@@ -1,13 +1,11 @@
 //! Steps that cost the same as the plan's own.
 
-use crate::block_views::BlockView;
-use crate::listening::Kept;
 use crate::searches::kept_words;
-use crate::steps::{PlanSteps, is_same_path};
 use crate::tables::{add_row, number, table, words};
-use crate::ways::{are_one_state, key_of, state_of};
-use cert_check::PlanStep;
 use plan_pages::{Cell, Part, Table};
+use planned_queries::{
+    BlockView, Kept, PlanStep, PlanSteps, are_one_state, is_same_path, key_of, state_of,
+};
 use std::alloc::{AllocError, Global};
 
 /// So many of them are shown.

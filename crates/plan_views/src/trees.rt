@@ -1,11 +1,10 @@
 //! A plan as a tree.
 
-use crate::block_views::BlockView;
-use crate::steps::{PlanSteps, Shown, pages_of, step_words};
 use crate::tables::{add_row, number, number_cell, table, words};
 use certificate::write_text;
 use plan_pages::{Cell, Part, Table};
 use plan_tree::Plan;
+use planned_queries::{BlockView, PlanSteps, Shown, step_words};
 use std::alloc::{AllocError, Global};
 
 /// A plan's steps, the last one above what it stands on, each with its order, rows, pages and cost.
@@ -56,7 +55,7 @@ fn add_step(
         Cell::Text(step),
         Cell::Text(order),
         Cell::Number(block.estimate.cardinality(shown.summary.tables)),
-        Cell::Number(pages_of(&block.estimate, shown.summary.tables)),
+        Cell::Number(block.estimate.pages(shown.summary.tables)),
         Cell::Number(shown.own),
         Cell::Number(shown.summary.cost),
         number_cell(percentage(shown.own, whole)),
@@ -84,13 +83,16 @@ fn percentage(part: u64, whole: u64) -> Option<u64> {
     u64::try_from(hundredths.checked_div(u128::from(whole))?).ok()
 }
 
-/// `60 + 1000 + 660 + 6000 = 7720`, from the first step on.
+/// `60 + 1000 + 660 + 6000 = 7720`, from the first step on; none of a single step.
 pub(crate) fn sum_line(
     alloc: Global,
     block: &BlockView<'_>,
     plan: &Plan,
-) -> Result<Part, AllocError> {
+) -> Result<Option<Part>, AllocError> {
     let steps = PlanSteps::of(alloc, block.space(), plan)?;
+    if steps.len() < 2 {
+        return Ok(None);
+    }
     let mut text = String::new(alloc);
     let mut separator = "";
     for place in (0..steps.len()).rev() {
@@ -104,7 +106,7 @@ pub(crate) fn sum_line(
         None => 0,
     };
     text.push_str(&format!(in alloc; " = {whole}")?)?;
-    Ok(Part::Line { key: "sum", text })
+    Ok(Some(Part::Line { key: "sum", text }))
 }
 
 /// EXPLAIN's line of the least plan.

@@ -1,7 +1,7 @@
 //! The columns that a block's conjuncts and orders go by.
 
-use crate::block_views::BlockView;
 use crate::conjunct_rows::columns_of;
+use planned_queries::BlockView;
 use query_tree::BlockColumn;
 use std::alloc::{AllocError, Global};
 

@@ -1,15 +1,13 @@
 //! What a plan loses against the least one, and where.
 
-use crate::block_views::BlockView;
 use crate::searches::kept_words;
-use crate::steps::{PlanSteps, Shown, step_words};
 use crate::tables::{add_row, number, table, words};
 use crate::trees::{order_words, plan_table};
-use crate::views::ViewFault;
-use crate::ways::state_of;
 use plan_pages::{Cell, Part, Table};
-use plan_texts::{PlanTextFault, outside, read_plan};
 use plan_tree::Plan;
+use planned_queries::{
+    BlockView, PlanSteps, PlanTextFault, Shown, ViewFault, outside, read_plan, state_of, step_words,
+};
 use std::alloc::{AllocError, Global};
 
 /// The parts that say what a plan of a text loses.

@@ -1,8 +1,7 @@
 //! The plan that a file of certificates gives for a block.
 
-use crate::block_views::BlockView;
-use plan_texts::{PlanTextFault, read_plan};
 use plan_tree::Plan;
+use planned_queries::{BlockView, PlanTextFault, read_plan};
 use std::alloc::{AllocError, Global};
 
 /// The plan that a file gives for a block, if there is one that can be read.

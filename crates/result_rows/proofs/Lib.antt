@@ -7,3 +7,4 @@ pub mod Lists
 mod Columns
 mod RowsOneByOne
 pub mod Faults
+mod Batches

@@ -10,6 +10,7 @@ use Rattle.definitions_answers.specs.Told.{values_asked}
 use Rattle.sqlvalue.specs.Raises.{raise_of}
 use Rattle.sqlvalue.specs.declared.raise.Raise.{Raise}
 use Rattle.result_rows.specs.ResultRows.{AreArranged, HasAnyRow, HasDistinct, HasFirstValues, HasOrdered, HasPrinted}
+use Rattle.result_rows.specs.Batches.{rows_in}
 use Rattle.result_rows.specs.RowAt.{row_in, row_raises_in}
 use Rattle.result_rows.specs.declared.result_rows.ResultRows.{ResultRows}
 use Rattle.result_rows.specs.declared.row_store.RowStore.{RowStore}
@@ -72,6 +73,12 @@ abbrev pub TellsOneMore : Environment → List Item → ResultRows → ResultRow
 TellsOneMore env items told told' =
     (names : List (List ℕ)) (rows : List Row) (raises : List arithmetic.Raise) → Tells names rows raises told
     → Tells names (rows ++ row_in env items ∷ []) (raises ++ row_raises_in env items) told'
+
+-- they tell of more rows, in which no result column raises
+abbrev pub TellsMore : List Environment → List Item → ResultRows → ResultRows → Type 0
+TellsMore envs items told told' =
+    (names : List (List ℕ)) (rows : List Row) (raises : List arithmetic.Raise) → Tells names rows raises told
+    → Tells names (rows ++ rows_in items envs) raises told'
 
 -- what is told of rows where a result column raises
 abbrev pub IsRaiseOf : ResultRows → arithmetic.Raise → Type 0

@@ -8,13 +8,16 @@ ghost use Rattle.definitions.specs.Queries.BoundBlock as b;
 ghost use Rattle.definitions.specs.Lists.{without_repeats};
 ghost use Rattle.definitions.specs.Queries.Grouping.{same_values};
 ghost use Rattle.definitions_answers.specs.Shapes.{HasShapes, Shape};
+ghost use Rattle.result_rows.specs.Batches.{rows_in, GivesColumnOf};
 ghost use Rattle.result_rows.specs.Faults.{IfRaised};
 ghost use Rattle.result_rows.specs.ResultRows.{HasDistinct};
 ghost use Rattle.result_rows.specs.RowAt.{items_of, row_in, row_raises_in, CanGive};
 
+use crate::column_rows::write_columns;
 use crate::fault::AnswerFault;
 use crate::lines::DistinctLines;
 use crate::row::{write_count, write_header, write_row};
+use crate::row_batch::RowBatch;
 use expr::Environment;
 use query_tree::Item;
 use std::alloc::{AllocError, Global};
@@ -58,6 +61,25 @@ impl DistinctRows {
         self.line.clear();
         write_row(&mut self.line, items, env)?;
         self.lines.add(alloc, &self.line)?;
+        Ok(())
+    }
+
+    /// Adds the rows of a batch, whose result columns are columns, each unless it is there.
+    pub fn add_batch<B: RowBatch>(
+        &mut self,
+        alloc: Global,
+        items: &[Item],
+        batch: &B,
+    ) -> Result<(), AllocError>
+        requires { AllByRecursion (GivesColumnOf (B.width batch.now)) (items_of items.now) }
+        ensures { OnOk result ((names : List (List ℕ)) (rows : List Row) → HasDistinct names rows self.old →
+            HasDistinct names (rows ++ rows_in (items_of items.now) (B.environments batch.now)) self.new) }
+    {
+        'places: for place in 0..batch.len() {
+            self.line.clear();
+            write_columns(&mut self.line, items, batch, place)?;
+            self.lines.add(alloc, &self.line)?;
+        }
         Ok(())
     }
 

@@ -5,12 +5,15 @@ ghost use Rattle.std.specs.List.{AllByRecursion};
 ghost use Rattle.definitions.specs.Table.{Row};
 ghost use Rattle.definitions.specs.Printing.{table_text};
 ghost use Rattle.definitions.specs.Queries.BoundBlock as b;
+ghost use Rattle.result_rows.specs.Batches.{rows_in, GivesColumnOf};
 ghost use Rattle.result_rows.specs.Faults.{IfRaised};
 ghost use Rattle.result_rows.specs.ResultRows.{HasPrinted};
 ghost use Rattle.result_rows.specs.RowAt.{items_of, row_in, row_raises_in, CanGive};
 
+use crate::column_rows::write_rows;
 use crate::fault::AnswerFault;
 use crate::row::{write_count, write_header, write_row};
+use crate::row_batch::RowBatch;
 use expr::Environment;
 use query_tree::Item;
 use std::alloc::{AllocError, Global};
@@ -46,6 +49,21 @@ impl PrintedRows {
         }
         write_row(&mut self.text, items, env)?;
         self.count += 1;
+        Ok(())
+    }
+
+    /// Adds the rows of a batch, whose result columns are columns. There is no room for more than 2^64 - 1 rows.
+    pub fn add_batch<B: RowBatch>(&mut self, items: &[Item], batch: &B) -> Result<(), AllocError>
+        requires { AllByRecursion (GivesColumnOf (B.width batch.now)) (items_of items.now) }
+        ensures { OnOk result ((names : List (List ℕ)) (rows : List Row) → HasPrinted names rows self.old →
+            HasPrinted names (rows ++ rows_in (items_of items.now) (B.environments batch.now)) self.new) }
+    {
+        let count = batch.len() as u64;
+        if count > u64::MAX - self.count {
+            return Err(AllocError);
+        }
+        write_rows(&mut self.text, items, batch)?;
+        self.count += count;
         Ok(())
     }
 

@@ -1,14 +1,16 @@
 //! The rows of an answer, until one raises.
 
-ghost use Rattle.std.specs.Prelude.{◌≡◌, [], List, ℕ, IfErr, IfOk, OnOk};
+ghost use Rattle.std.specs.Prelude.{◌≡◌, [], List, ℕ, IfErr, IfOk, OnOk, false, true};
 ghost use Rattle.std.specs.List.{AllByRecursion};
 ghost use Rattle.definitions.specs.Table.{Row};
 ghost use Rattle.definitions.specs.Arithmetic as arithmetic;
+ghost use Rattle.result_rows.specs.Batches.{GivesColumnOf};
 ghost use Rattle.result_rows.specs.Faults.{IfRaised};
 ghost use Rattle.result_rows.specs.RowAt.{items_of, CanGive};
-ghost use Rattle.result_rows.specs.Stores.{kind_of, Holds, IsRaiseOf, Tells, TellsOneMore};
+ghost use Rattle.result_rows.specs.Stores.{kind_of, Holds, IsRaiseOf, Tells, TellsMore, TellsOneMore};
 
 use crate::fault::AnswerFault;
+use crate::row_batch::RowBatch;
 use crate::row_store::RowStore;
 use expr::Environment;
 use query_tree::Item;
@@ -56,6 +58,25 @@ impl ResultRows {
             }
             Err(AnswerFault::Memory) => Err(AllocError),
         }
+    }
+
+    /// Adds the rows of a batch, whose result columns are columns, unless a result column has raised; or tells that rows are taken one by one.
+    pub fn add_batch<B: RowBatch>(
+        &mut self,
+        alloc: Global,
+        items: &[Item],
+        batch: &B,
+    ) -> Result<bool, AllocError>
+        requires { AllByRecursion (GivesColumnOf (B.width batch.now)) (items_of items.now) }
+        ensures told { IfOk result (λ taken. taken ≡ true →
+            TellsMore (B.environments batch.now) (items_of items.now) self.old self.new) }
+        ensures left { IfOk result (λ taken. taken ≡ false → self.new ≡ self.old) }
+        ensures kind { kind_of self.new.store ≡ kind_of self.old.store }
+    {
+        if self.raised.is_some() {
+            return Ok(false);
+        }
+        self.store.add_batch(alloc, items, batch)
     }
 
     /// All rows, or the exception that was kept.

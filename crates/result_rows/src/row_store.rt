@@ -8,6 +8,7 @@ ghost use Rattle.definitions.specs.Queries.BoundBlock as b;
 ghost use Rattle.sqlvalue.specs.Owned.{owned_value};
 ghost use Rattle.definitions_answers.specs.Shapes.{HasShapes, Shape};
 ghost use Rattle.query_tree.specs.Bound.{key_of};
+ghost use Rattle.result_rows.specs.Batches.{rows_in, GivesColumnOf};
 ghost use Rattle.result_rows.specs.Faults.{IfRaised};
 ghost use Rattle.result_rows.specs.RowAt.{items_of, row_in, row_raises_in, CanGive};
 ghost use Rattle.result_rows.specs.Stores.{keeping, kind_of, printing, AreAsked, AreToldAs, Holds};
@@ -18,6 +19,7 @@ use crate::fault::AnswerFault;
 use crate::first_value_rows::FirstValueRows;
 use crate::ordered_rows::OrderedRows;
 use crate::printed_rows::PrintedRows;
+use crate::row_batch::RowBatch;
 use expr::Environment;
 use query_tree::{Item, Key};
 use sqlvalue::OwnedValue;
@@ -91,6 +93,34 @@ impl RowStore {
             RowStore::Ordered(rows) => rows.add(alloc, items, env),
             RowStore::FirstValues(rows) => rows.add(alloc, items, env),
             RowStore::Existence(rows) => rows.add(items, env),
+        }
+    }
+
+    /// Adds the rows of a batch, whose result columns are columns, where rows are printed in the order in which they come; or tells that it takes
+    /// rows one by one.
+    pub fn add_batch<B: RowBatch>(
+        &mut self,
+        alloc: Global,
+        items: &[Item],
+        batch: &B,
+    ) -> Result<bool, AllocError>
+        requires { AllByRecursion (GivesColumnOf (B.width batch.now)) (items_of items.now) }
+        ensures added { IfOk result (λ taken. taken ≡ true → (names : List (List ℕ)) (rows : List Row) →
+            Holds self.old names rows →
+            Holds self.new names (rows ++ rows_in (items_of items.now) (B.environments batch.now))) }
+        ensures left { IfOk result (λ taken. taken ≡ false → self.new ≡ self.old) }
+        ensures kind { kind_of self.new ≡ kind_of self.old }
+    {
+        match self {
+            RowStore::Printed(rows) => {
+                rows.add_batch(items, batch)?;
+                Ok(true)
+            }
+            RowStore::Distinct(rows) => {
+                rows.add_batch(alloc, items, batch)?;
+                Ok(true)
+            }
+            _ => Ok(false),
         }
     }
 

@@ -6,8 +6,11 @@ pub mod LookUps
 pub mod PathRuns
 pub mod WordRows
 pub mod Comparing
+pub mod Parts
 pub mod Coming
 pub mod Listed
+pub mod NullRows
 pub mod Tests
+pub mod Junctions
 pub mod Told
 pub mod Scanning

@@ -24,7 +24,7 @@ use Rattle.definitions_execution.specs.Lists.{In}
 use Rattle.definitions_execution.specs.Stored.{Composite}
 use Rattle.definitions_execution.specs.TypedCombinations.{HasValue}
 use Rattle.scans.specs.Comparisons.{member_op, IsListed, IsSide}
-use Rattle.scans.specs.JoinFilters.{met_with, true_with, CanCome, IsEarly}
+use Rattle.scans.specs.JoinFilters.{met_with, true_with, CanCome, IsEarlyPart}
 use Rattle.scans.specs.Sources.{BlockSource, environment_at}
 use Rattle.scans.specs.Truths.{is_true_on}
 use Rattle.scans.specs.Words.{together, word_by, words_together}
@@ -51,7 +51,7 @@ or_flags a b m n =
     let right : cond b 1 0 + 2 * n ≡ n * 2 ^ 1 + cond b 1 0 = omega arith in
     rw (left, right, or_block 1 m n (cond a 1 0) (cond b 1 0) (bit_below a) (bit_below b), or_bits a b) (omega arith)
 
-word_of-or : {X : Type 0} (p q : X → Bool) (xs : List X) → bit_or (word_of (map p xs)) (word_of (map q xs)) ≡ word_of (map (λ x. p x || q x) xs)
+pub word_of-or : {X : Type 0} (p q : X → Bool) (xs : List X) → bit_or (word_of (map p xs)) (word_of (map q xs)) ≡ word_of (map (λ x. p x || q x) xs)
 word_of-or p q [] = refl
 word_of-or p q (x ∷ xs) = or_flags (p x) (q x) (word_of (map p xs)) (word_of (map q xs)) ∙ ap (λ n. cond (p x || q x) 1 0 + 2 * n) (word_of-or p q xs)
 
@@ -226,7 +226,7 @@ module _ (source : BlockSource) (outer : List Combination) (from : Composite) (t
   member_met x other c is side same row =
       sym (ap (λ (y : Option code.ValueExpr). listed (y ∷ []) row) is ∙ one_listed negated (env_with row) own (tree_of other) ∙ side_met table own (tree_of other) c (member_op negated) (env_with row) side same)
 
-  module _ (can : CanCome source outer table) (condition : Condition) (is : IsEarly source condition) (same : condition ≡ InList negated own (map member_of list.members.now)) where
+  module _ (can : CanCome source outer table) (condition : Condition) (is : IsEarlyPart source condition) (same : condition ≡ InList negated own (map member_of list.members.now)) where
     there : (row : ℕ) → AllByRecursion (HasValue (env_with row)) (own ∷ member_values (map member_of list.members.now))
     there row = subst (λ c. AllByRecursion (HasValue (env_with row)) (values_of c)) same (all_there source outer table can condition is (set from table row))
 

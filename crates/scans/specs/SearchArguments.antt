@@ -1,8 +1,9 @@
 -- What conditions ask of a table's rows, where the values that they compare with are known.
-use Rattle.std.specs.Prelude.{ℕ, ◌≡◌, ◌<◌, ⊤, Bool, ◌&&◌, List, [], ◌∷◌, Option, Some, None, get_or, length}
+use Rattle.std.specs.Prelude.{ℕ, ◌≡◌, ◌<◌, ⊤, Bool, ◌&&◌, List, [], ◌∷◌, Option, Some, None, get_or, is_none, length}
 use Rattle.definitions.specs.Table.{Table}
-use Rattle.definitions.specs.Truth.{compared, is_true}
-use Rattle.definitions.specs.Value.{Null}
+use Rattle.definitions.specs.Statement.{Equals}
+use Rattle.definitions.specs.Truth.{compared, is_true, truth_of}
+use Rattle.definitions.specs.Value.{Value, Null, is_null}
 use Rattle.definitions.specs.Estimates.BlockTables.{table_at}
 use Rattle.definitions.specs.Queries.BoundBlock as b
 use Rattle.definitions.specs.Queries.Evaluation.{Combination}
@@ -28,6 +29,18 @@ meets source table a row =
 abbrev pub meets_all : BlockSource → (table : ℕ) → SearchArguments → (row : ℕ) → Bool
 meets_all source table (s.One a) row = meets source table a row
 meets_all source table (s.Both low high) row = meets source table low row && meets source table high row
+
+-- the value of a row in a column; where there is none, null (own)
+abbrev pub value_in : BlockSource → (table column row : ℕ) → Value
+value_in source table column row = get_or (get_or (rows_in source.database (block_in source) table) row []) column Null
+
+-- it is null
+abbrev pub is_null_in : BlockSource → (table column row : ℕ) → Bool
+is_null_in source table column row = is_null (value_in source table column row)
+
+-- it is unknown whether it is equal to another
+abbrev pub is_unknown_in : BlockSource → (table column : ℕ) → Value → (row : ℕ) → Bool
+is_unknown_in source table column v row = is_none (truth_of Equals (value_in source table column row) v)
 
 -- a table has a column of a number
 abbrev pub IsColumnOf : BlockSource → (table column : ℕ) → Type 0

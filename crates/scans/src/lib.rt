@@ -9,6 +9,7 @@ mod join_filter;
 mod laws;
 mod looking;
 mod member_list;
+mod nulls;
 mod outer_rows;
 mod row_context;
 mod scan;

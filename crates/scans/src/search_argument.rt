@@ -5,7 +5,7 @@ ghost use Rattle.definitions.specs.Queries.BoundBlock as spec;
 ghost use Rattle.definitions_execution.specs.OfBlock.{rows_in};
 ghost use Rattle.query_tree.specs.Bound.{condition_of};
 ghost use Rattle.scans.specs.Comparisons.{IsIn};
-ghost use Rattle.scans.specs.JoinFilters.{met_with, CanCome, IsEarly};
+ghost use Rattle.scans.specs.JoinFilters.{met_with, CanCome, IsEarlyPart};
 ghost use Rattle.scans.specs.SearchArguments.{meets, meets_all, AreArgumentsOf, AreOfTable, IsColumnOf};
 ghost use Rattle.scans.specs.Sources.{block_in};
 ghost use Rattle.scans.specs.Words.{word_by};
@@ -91,7 +91,7 @@ pub(crate) fn search_arguments<'v, A: OuterRows>(
     context: &'v RowContext<'_, '_, A>,
 ) -> Option<SearchArguments<'v>>
     requires can { CanCome context.now.source.now (A.combinations context.now.around.now) table }
-    requires early { IsEarly context.now.source.now (condition_of condition.now) }
+    requires early { IsEarlyPart context.now.source.now (condition_of condition.now) }
     ensures { IfSome result (AreArgumentsOf context.now.source.now (A.combinations context.now.around.now)
         context.now.rows.now table (condition_of condition.now)) }
 {
@@ -120,7 +120,7 @@ pub(crate) fn argument_of<'v, A: OuterRows>(
     context: &'v RowContext<'_, '_, A>,
 ) -> Option<SearchArgument<'v>>
     requires can { CanCome context.now.source.now (A.combinations context.now.around.now) table }
-    requires early { (condition : spec.Condition) × IsEarly context.now.source.now condition ×
+    requires early { (condition : spec.Condition) × IsEarlyPart context.now.source.now condition ×
         IsIn table condition comparison }
     ensures column { IfSome result (λ a. IsColumnOf context.now.source.now table a.column) }
     ensures same { IfSome result (λ a. (row : ℕ) → met_with context.now.source.now

@@ -1,6 +1,7 @@
 //! Answers to questions.
 
 use crate::asked::{Asked, AskedView, Options, Question};
+use crate::asking::SessionPlanner;
 use crate::printing::{Form, drawing_of, out_of_memory, print};
 use crate::reading::{Certificates, REFUSED, Reading, read_query, with_proposals};
 use command_line::requests::Source;
@@ -42,7 +43,13 @@ pub(crate) fn answer<F: Ledger, S: Ledger, R: Runtime + AllocGlobal>(
             tell_same_source(input, first, second)?;
             let first = read_query(input, first, options.query, None, first_failures)?;
             let second = read_query(input, second, options.query, None, second_failures)?;
-            let page = difference(input.rt.alloc(), &first.planned, &second.planned);
+            let alloc = input.rt.alloc();
+            let page = difference(
+                alloc,
+                &SessionPlanner { alloc },
+                &first.planned,
+                &second.planned,
+            );
             let form = form_of(input, options, is_shown);
             print_page(input, page, form, b"")?;
             Ok(0)
@@ -115,10 +122,14 @@ fn answer_one<R: Runtime + AllocGlobal>(
         status,
     } = reading;
     let alloc = input.rt.alloc();
+    let planner = SessionPlanner { alloc };
     let (page, form) = match view_of(view, certificates) {
-        Some(View::Page) if !options.is_json => (page(alloc, &mut planned, View::Page), Form::Html),
+        Some(View::Page) if !options.is_json => (
+            page(alloc, &planner, &mut planned, View::Page),
+            Form::Html,
+        ),
         Some(view) => (
-            page(alloc, &mut planned, view),
+            page(alloc, &planner, &mut planned, view),
             form_of(input, options, is_shown),
         ),
         None if options.is_json => (statistics_page(alloc, &planned), Form::Json),

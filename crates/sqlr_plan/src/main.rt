@@ -3,6 +3,7 @@
 
 mod answers;
 mod asked;
+mod asking;
 mod line;
 mod listener;
 mod printing;

@@ -1,5 +1,6 @@
 //! From a source to what its query is planned over.
 
+use crate::asking::SessionPlanner;
 use crate::listener::Listener;
 use crate::printing::{out_of_memory, print};
 use crate::queries::{Found, QueryPlace, find_query};
@@ -114,7 +115,7 @@ fn proposed_script<R: Runtime + AllocGlobal>(
     planned: &PlanningScript,
 ) -> Result<Option<ProposedScript>, u8> {
     let alloc = input.rt.alloc();
-    let proposed = match proposals(alloc, planned) {
+    let proposed = match proposals(alloc, &SessionPlanner { alloc }, planned) {
         Ok(proposed) => proposed,
         Err(ViewFault::Memory) => return Err(out_of_memory(input.standard_error)),
         Err(ViewFault::Refused(_fault)) => String::new(alloc),

@@ -1,6 +1,6 @@
 use Rattle.std.proofs.Common.{◌≡◌, ◌∙◌, ◌+◌, sym, subst}
 use Rattle.definitions.specs.Plans.TableSet.{TableSet}
-use Rattle.interesting_orders.specs.Merges.{GoesBy}
+use Rattle.plan_space.specs.InterestingOrders.Merges.{GoesBy}
 use Rattle.definitions.specs.Plans.Comparisons.{MergeStep}
 use Rattle.definitions.specs.Plans.Cost.{saturated}
 use Rattle.plan_space.proofs.Deciding.{holds, fails}

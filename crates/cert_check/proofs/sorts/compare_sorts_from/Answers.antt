@@ -1,6 +1,6 @@
 use Rattle.std.proofs.Common.{◌≡◌, ◌∙◌, ◌+◌}
 use Rattle.definitions.specs.Plans.Cost.{saturated}
-use Rattle.interesting_orders.specs.Sorts.{AreSorts}
+use Rattle.plan_space.specs.InterestingOrders.Sorts.{AreSorts}
 use Rattle.plan_space.specs.Planned.{space_in}
 use Rattle.plan_tree.specs.Certificates.{state_of, certificate_of}
 use Rattle.cert_check.specs.Checks.{IsSortFrom}

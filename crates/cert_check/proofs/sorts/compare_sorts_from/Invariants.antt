@@ -1,4 +1,4 @@
-use Rattle.interesting_orders.specs.Sorts.{AreSorts}
+use Rattle.plan_space.specs.InterestingOrders.Sorts.{AreSorts}
 use Rattle.plan_space.specs.Planned.{space_in}
 use Rattle.plan_tree.specs.Certificates.{state_of, certificate_of}
 use Rattle.plan_tree.specs.Sets.{set_of}

@@ -2,7 +2,7 @@ use Rattle.std.proofs.Common.{◌≤◌, ap, ℕ, ◌+◌, List, length, drop, m
 use Rattle.std.proofs.lemmas.List.{length-map, length-drop}
 use Rattle.definitions.specs.Binding.Formed.{IsFormedSomewhere}
 use Rattle.query_tree.specs.Bound.{block_of}
-use Rattle.interesting_orders.specs.Versions.{version_of}
+use Rattle.certificate.specs.Versions.{version_of}
 use Rattle.certificate_files.specs.Telling.{told_of, check_ended_of}
 use Rattle.certificate_files.proofs.FirstLines.{whole_left}
 use Rattle.certificate_files.proofs.Checked.{next_in_file, file_told, each_formed, first_of}

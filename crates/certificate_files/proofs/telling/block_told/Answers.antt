@@ -1,8 +1,8 @@
 use Rattle.definitions.specs.Certificates.Explaining.{certified}
 use Rattle.query_tree.specs.Bound.{block_of}
 use Rattle.plan_tree.specs.Certificates.{certificate_of}
-use Rattle.interesting_orders.specs.Versions.{version_of}
-use Rattle.plan_space.specs.Planned.{space_in}
+use Rattle.certificate.specs.Versions.{version_of}
+use Rattle.certificate.specs.Planned.{space_in}
 use Rattle.certificate_files.specs.Telling.{told_of}
 use Rattle.certificate_files.proofs.TextsTold.{few_tables, is_certificate, told_of_read}
 use Rattle.certificate_files.proofs.telling.block_told.Goals as goal

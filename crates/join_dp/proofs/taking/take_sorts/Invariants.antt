@@ -1,6 +1,6 @@
 use Rattle.plan_space.specs.Planned.{space_in}
 use Rattle.std.proofs.Common.{ℕ, ◌+◌, ◌≤◌, List, length}
-use Rattle.interesting_orders.specs.Sorts.{AreSorts}
+use Rattle.plan_space.specs.InterestingOrders.Sorts.{AreSorts}
 use Rattle.join_dp.specs.StatePlans.{at}
 use Rattle.join_dp.specs.States.{search_of, states_in}
 use Rattle.join_dp.proofs.Leading.{Sorted}

@@ -1,8 +1,8 @@
 use Rattle.definitions.specs.Certificates.Explaining.{certified}
 use Rattle.query_tree.specs.Bound.{block_of}
 use Rattle.plan_tree.specs.Certificates.{certificate_of}
-use Rattle.interesting_orders.specs.Versions.{version_of}
-use Rattle.plan_space.specs.Planned.{space_in}
+use Rattle.certificate.specs.Versions.{version_of}
+use Rattle.certificate.specs.Planned.{space_in}
 use Rattle.messages_certificates.proofs.ReadBack.{few_tables, is_certificate}
 use Rattle.messages_certificates.proofs.finding.rule_found.Goals as goal
 
