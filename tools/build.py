@@ -153,10 +153,10 @@ def build(crate, kit, jobs):
     return 0, total
 
 
-def lanes():
-    """How many processors are used."""
+def lanes(each=1):
+    """How many checks run side by side: so many for each processor, as far as there is memory for them."""
     free = int(next(it for it in open("/proc/meminfo") if it.startswith("MemAvailable")).split()[1]) * 1024
-    return max(1, min(len(os.sched_getaffinity(0)), free // MEMORY))
+    return max(1, min(int(len(os.sched_getaffinity(0)) * each), free // MEMORY))
 
 
 class Progress:
