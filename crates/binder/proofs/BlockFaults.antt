@@ -9,7 +9,7 @@ use Rattle.definitions.specs.Refusal.{Refusal, NotFound, ScaleTooGreat, UnknownC
 use Rattle.definitions.specs.Statement.{Expr, Column, Function, ColumnReference, Source, SelectList, Asterisk, SearchClause, Absent, Present, QuerySpecification, Specification}
 use Rattle.definitions.specs.Table.{Table, Database, AreDistinct, table_named}
 use Rattle.definitions.specs.Plans.Order.{BlockColumn}
-use Rattle.definitions.specs.Binding.Scopes.{NamedTable, Scopes, scope_of, are_there, resolve}
+use Rattle.definitions.specs.Binding.Scopes.{NamedTable, Scopes, scope_of, is_whole, are_there, resolve}
 use Rattle.definitions.specs.Binding.Parts.{PlacedBlock, is_function, item_values, condition_values, list_blocks, condition_blocks, block_blocks}
 use Rattle.definitions.specs.Binding.BoundForm.{own_column}
 use Rattle.definitions.specs.Binding.Faults as fault
@@ -190,7 +190,7 @@ module _ (db : Database) (outer : Scopes) (distinct : Bool) (list : SelectList) 
 
     pub not_faulty : (r : Refusal) → BlockFaulty db placed r → ⊥
     not_faulty _ (fault.name_twice x) = x h.names
-    not_faulty _ (fault.no_table x) = all_there db sources (first_true _ _ h.there) x
+    not_faulty _ (fault.no_table x) = all_there db sources (first_true _ _ (first_true (is_whole (scope_of db sources)) _ h.there)) x
     not_faulty _ (fault.too_fine t x) = in_part (IsTooFine db scopes) ScaleTooGreat (λ place e y. judged.too_fine y) x
     not_faulty _ (fault.no_column t x) = in_part (NamesNoColumn db scopes) UnknownColumn (λ place e y. judged.no_column y) x
     not_faulty _ (fault.group_not_own t x) = h.own_groups x
@@ -203,7 +203,7 @@ module _ (db : Database) (outer : Scopes) (distinct : Bool) (list : SelectList) 
         none_of_arguments _ (where_parts whole) (shown_parts whole) no_function (in_argument _ MisplacedFunction (λ e y. judged.misplaced_function refl y)) x
     not_faulty _ (fault.outer_in_function t x) =
         none_of_arguments _ (where_parts whole) (shown_parts whole) no_function (in_argument _ MisplacedFunction (λ e y. judged.outer_column refl y)) x
-    not_faulty _ (fault.ungrouped t g x) = not_ungrouped (h.is_grouped g) x
+    not_faulty _ (fault.ungrouped t few g x) = not_ungrouped (h.is_grouped g) x
     not_faulty _ (fault.star_of_groups g x) = h.no_star (h.is_grouped g) x
     not_faulty _ (fault.many_tables x) = absurd (let k = h.tables in omega (arith, k, x))
     not_faulty _ (fault.many_conjuncts x) = not_many where' h.conjuncts x
@@ -279,12 +279,12 @@ module _ (db : Database) (outer : Scopes) (distinct : Bool) (list : SelectList) 
         (λ p x. fault.outer_in_function there (any_at (IsOuterColumn scopes) e _ (in_arguments e i) x))
         (λ columns p x. absurd cc)
 
-    module _ (grouped : Bool) (columns : List BlockColumn) (is_grouped : grouped ≡ true → IsGrouped whole) (are : grouped ≡ true → columns ≡ map (λ g. own_column (resolve scopes g)) groups) where
+    module _ (grouped : Bool) (columns : List BlockColumn) (is_grouped : grouped ≡ true → IsGrouped whole) (are : grouped ≡ true → columns ≡ map (λ g. own_column (resolve scopes g)) groups) (few : length groups ≤ most_group_columns) where
       shown_part : (e : Expr) → IsIn e (shown_parts whole) → (r : Refusal) → PartFaulty db scopes (InShown grouped columns) e r → BlockFaulty db placed r
       shown_part e i = of_part (InShown grouped columns) e (from_second _ (where_parts whole) (shown_parts whole) (all_argument_parts whole) i)
           (λ p x. absurd cc)
           (λ p x. absurd cc)
-          (λ others p x. fault.ungrouped there (is_grouped (ap grouped_in p)) (any_at (IsUngrouped scopes groups) e (shown_parts whole) i
+          (λ others p x. fault.ungrouped there few (is_grouped (ap grouped_in p)) (any_at (IsUngrouped scopes groups) e (shown_parts whole) i
           (in_ungrouped db scopes groups e (subst (λ xs. IsUngroupedIn db scopes xs e) (sym (ap columns_in p) ∙ are (ap grouped_in p)) x))))
 
       pub shown_refused : (r : Refusal) → Refuses db scopes (InShown grouped columns) (m + 1 + length (condition_blocks db scopes where')) (shown_parts whole)

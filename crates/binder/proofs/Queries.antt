@@ -1,9 +1,10 @@
 -- Whole queries: the blocks that are bound, and the order of the outermost.
-use Rattle.std.proofs.Common.{◌≡◌, ◌∙◌, refl, sym, ap, ap₂, subst, inl, inr, ◌≤◌, List, [], ◌∷◌, ◌++◌, Option, Some, length, map, slice_set, slice_index_or, Vec, arith}
+use Rattle.std.proofs.Common.{◌≡◌, ◌∙◌, refl, sym, ap, ap₂, subst, inl, inr, ℕ, ◌<◌, ◌≤◌, List, [], ◌∷◌, ◌++◌, Option, Some, length, map, slice_set, slice_index_or, Vec, arith}
 use Rattle.std.specs.Prelude.{IsTrue, IfSome, IfErr, Result, Err}
 use Rattle.std.specs.Global.{Global}
-use Rattle.definitions.specs.Limits.{most_keys}
-use Rattle.definitions.specs.Refusal.{Refusal}
+use Rattle.definitions.specs.Limits.{most_keys, most_items}
+use Rattle.definitions.specs.Lists.{AnyOf}
+use Rattle.definitions.specs.Refusal.{Refusal, OverQueryLimit}
 use Rattle.definitions.specs.Statement as t
 use Rattle.definitions.specs.Statement.{Name, Asterisk, Listed, Specification, block_sources}
 use Rattle.definitions.specs.Table.{Database}
@@ -12,7 +13,7 @@ use Rattle.definitions.specs.Binding.Scopes.{Found, Scopes, scope_of, all_column
 use Rattle.definitions.specs.Binding.Parts.{block_blocks, list_blocks, condition_blocks}
 use Rattle.definitions.specs.Binding.BoundForm.{bound_block, bound_blocks, names_of_list, select_items}
 use Rattle.definitions.specs.Binding.Faults as fault
-use Rattle.definitions.specs.Binding.Faults.{QueryFaulty, IsAcceptedQuery, block_is_there, list_of}
+use Rattle.definitions.specs.Binding.Faults.{BlockFaulty, QueryFaulty, IsAcceptedQuery, block_is_there, item_count, list_of}
 use Rattle.definitions.specs.Queries.BoundBlock as b
 use Rattle.query_tree.specs.Bound.{block_of, key_of}
 use Rattle.query_tree.specs.declared.block.Block.{Block}
@@ -53,18 +54,25 @@ names_are db (Specification distinct list sources where' groups having) first re
 
 -- ---- refusals
 
+-- a block without a fault has not too many items
+pub few_items : (db : Database) (block : t.QuerySpecification) → ((r : Refusal) → AnyOf (λ p. BlockFaulty db p r) (block_blocks db [] block) → ⊥) → item_count (list_of block) ≤ most_items
+few_items db (Specification distinct list sources where' groups having) accepted = not_more (item_count list) (λ m. accepted OverQueryLimit (inl (fault.many_items m)))
+  where
+    not_more : (n : ℕ) → (most_items < n → ⊥) → n ≤ most_items
+    not_more n h = omega (arith, h)
+
 module _ (db : Database) (q : t.Select) where
   pub refused_block : (r : Refusal) → RefusesBlock db [] [] q.block r → QueryFaulty db q r
   refused_block r (inl a) = fault.block r a
   refused_block r (inr (m, e)) = subst (QueryFaulty db q) (sym e) (fault.many_blocks (omega (arith, m)))
 
-  pub refused_keys : (names : List (Option Name)) (r : Refusal) → names ≡ names_in db q.block → IsTrue (block_is_there db q.block) → RefusesOrder names q.order r → QueryFaulty db q r
-  refused_keys names r same there (inl (s, e)) = subst (QueryFaulty db q) (sym e) (fault.bad_key there (subst (λ ns. SomeKeyIsUnknown ns q.order) same s))
-  refused_keys names r same there (inr (m, e)) = subst (QueryFaulty db q) (sym e) (fault.many_keys m)
+  pub refused_keys : (names : List (Option Name)) (r : Refusal) → names ≡ names_in db q.block → IsTrue (block_is_there db q.block) → item_count (list_of q.block) ≤ most_items → RefusesOrder names q.order r → QueryFaulty db q r
+  refused_keys names r same there few (inl (s, e)) = subst (QueryFaulty db q) (sym e) (fault.bad_key there few (subst (λ ns. SomeKeyIsUnknown ns q.order) same s))
+  refused_keys names r same there few (inr (m, e)) = subst (QueryFaulty db q) (sym e) (fault.many_keys m)
 
   pub accepted : (new : b.Blocks) (only : Option ValueType) (names : List (Option Name)) → BindsBlock db [] [] new q.block only → names ≡ names_in db q.block → (SomeKeyIsUnknown names q.order → ⊥) → length q.order ≤ most_keys → IsAcceptedQuery db q
   accepted new only names h same known few _ (fault.block r a) = h.accepted r a
-  accepted new only names h same known few _ (fault.bad_key t a) = known (subst (λ ns. SomeKeyIsUnknown ns q.order) (sym same) a)
+  accepted new only names h same known few _ (fault.bad_key t items a) = known (subst (λ ns. SomeKeyIsUnknown ns q.order) (sym same) a)
   accepted new only names h same known few _ (fault.many_blocks m) = absurd (let k = h.few in omega (arith, k, m))
   accepted new only names h same known few _ (fault.many_keys m) = absurd (omega (arith, few, m))
 

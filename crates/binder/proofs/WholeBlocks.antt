@@ -38,7 +38,7 @@ module _ (db : Database) (outer : Scopes) (distinct : Bool) (list : SelectList) 
       → RefusesClauses db (scope_of db sources ∷ outer) (shown_in grouped columns) (length old + 1) (Specification distinct list sources where' groups having) r → RefusesBlock db outer old (Specification distinct list sources where' groups having) r
   clauses_refused grouped columns ready old _ (in_where r f) = where_refused db outer distinct list sources where' groups having (length old) ready.all_there r f
   clauses_refused grouped columns ready old _ (in_shown r f) =
-      shown_refused db outer distinct list sources where' groups having (length old) ready.all_there grouped (if grouped then columns else []) ready.is_grouped.0 (λ g. columns_if grouped columns _ ready.are g) r f
+      shown_refused db outer distinct list sources where' groups having (length old) ready.all_there grouped (if grouped then columns else []) ready.is_grouped.0 (λ g. columns_if grouped columns _ ready.are g) ready.limits.groups r f
   clauses_refused grouped columns ready old _ (condition_for_item a) = refused db outer distinct list sources where' groups having (length old) MisplacedCondition (fault.wrong_value a)
   clauses_refused grouped columns ready old _ (value_for_condition a) = refused db outer distinct list sources where' groups having (length old) MisplacedCondition (fault.wrong_condition a)
 

@@ -11,12 +11,9 @@ ghost use Rattle.query_rules.specs.Leaves.{InSight};
 ghost use Rattle.binder.specs.Meaning.{IsBetween, IsComparison, IsInQuery, IsLine, IsList, IsQuantified, members_in, progress_of, ColumnAnswer, ConditionAnswer, MembersAnswer, QueryAnswer};
 
 use crate::value::value;
-use parse_tree::{Expr, LineOperator, Operand, StringLiteral};
+use parse_tree::{Expr, LineOperator, MAX_MEMBERS, Operand, StringLiteral};
 use query_rules::{BindFault, Clause, ClauseKind, QueryFault, are_logical, judge_kinds};
 use query_tree::{Aggregate, Block, Condition, ValueExpr, ValueType};
-
-/// How many members an IN list may have (own).
-pub const MAX_MEMBERS: usize = 256;
 
 /// A condition (ISO/IEC 9075:1992, 8.12), its blocks and set functions behind those before.
 #[cycle(binding)]

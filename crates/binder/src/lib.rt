@@ -8,9 +8,8 @@ mod query;
 mod value;
 
 pub use block::MAX_BLOCKS;
-pub use condition::MAX_MEMBERS;
 pub use query::bind;
 pub use query_rules::{
-    BindFault, MAX_CONJUNCTS, MAX_FROM_TABLES, MAX_GROUP_COLUMNS, MAX_ITEMS, MAX_KEYS, MAX_SCALE,
-    QueryFault,
+    BindFault, MAX_CONJUNCTS, MAX_FROM_TABLES, MAX_GROUP_COLUMNS, MAX_ITEMS, MAX_KEYS, MAX_MEMBERS,
+    MAX_SCALE, QueryFault,
 };

@@ -21,7 +21,7 @@ use Rattle.definitions_answers.specs.PlainRows.{plain_raises, plain_row, values_
 use Rattle.definitions_answers.proofs.BlockSight.{same_truth, same_value, SameInner, SameValue}
 use Rattle.definitions_answers.proofs.Elements.{all_weaker, map_alike}
 use Rattle.definitions_answers.proofs.Sight.{SameColumn}
-use Rattle.scans.specs.Sources.{BlockSource, block_in, context_in}
+use Rattle.filters.specs.Sources.{BlockSource, block_in, context_in}
 use Rattle.block_answers.specs.Telling.{context_with}
 
 pub no_left : (xs ys : List ℕ) → xs ++ ys ≡ [] → xs ≡ []

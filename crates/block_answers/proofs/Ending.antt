@@ -23,9 +23,9 @@ use Rattle.definitions_answers.specs.Told.{values_asked, Tells}
 use Rattle.definitions_answers.specs.Shapes.{HasShapes, Shape}
 use Rattle.definitions_execution.specs.OfBlock.{combination_of}
 use Rattle.definitions_execution.specs.Stored.{Composite}
-use Rattle.scans.specs.Composites.{numbers_in}
-use Rattle.scans.specs.declared.composite.Composite as code
-use Rattle.scans.specs.Sources.{BlockSource, block_in, context_in}
+use Rattle.filters.specs.Composites.{numbers_in}
+use Rattle.filters.specs.declared.composite.Composite as code
+use Rattle.filters.specs.Sources.{BlockSource, block_in, context_in}
 use Rattle.result_rows.specs.Faults.{IfRaised}
 use Rattle.result_rows.specs.declared.fault.AnswerFault.{AnswerFault}
 use Rattle.result_rows.proofs.Faults.{raised_weaker}

@@ -24,8 +24,8 @@ use Rattle.definitions_execution.specs.TypedCombinations.{AreTypedAround, IsType
 use Rattle.definitions_execution.specs.OfBlock.{combination_of}
 use Rattle.definitions_execution.proofs.FormedNames.{OfValues, typed_conjuncts}
 use Rattle.definitions_execution.proofs.TypedRows.{rows_typed, column_type, composites_typed}
-use Rattle.scans.specs.Asks.{CanEvaluate}
-use Rattle.scans.specs.Sources.{BlockSource, block_in, context_in, environment_at, IsSurrounded}
+use Rattle.filters.specs.Evaluable.{CanEvaluate}
+use Rattle.filters.specs.Sources.{BlockSource, block_in, context_in, environment_at, IsSurrounded}
 use Rattle.definitions_answers.proofs.ValueShapes.{function_values_have_their_types}
 use Rattle.result_rows.specs.RowAt.{CanGive}
 use Rattle.grouping.specs.Functions.{CanTake}

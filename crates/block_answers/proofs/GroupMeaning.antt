@@ -30,7 +30,7 @@ use Rattle.definitions_answers.proofs.GroupRows.{groups_tell}
 use Rattle.definitions_answers.proofs.Regular.{formed_are_regular}
 use Rattle.definitions_answers.proofs.Reordered.{reordered}
 use Rattle.definitions_answers.proofs.Taken.{all_arranged, all_joined, all_split}
-use Rattle.scans.specs.Sources.{BlockSource, block_in}
+use Rattle.filters.specs.Sources.{BlockSource, block_in}
 use Rattle.block_answers.specs.Cut.{none, open_groups, some, whole, AreAllGroups, IsCutInto}
 use Rattle.block_answers.specs.Ready.{AreReady}
 use Rattle.result_rows.specs.Stores.{AreToldAs}

@@ -13,7 +13,7 @@ use Rattle.definitions.specs.Queries.Evaluation.{Combination}
 use Rattle.definitions_answers.specs.Plain.{late_raises}
 use Rattle.sqlvalue.specs.Raises.{raise_of}
 use Rattle.sqlvalue.specs.declared.raise.Raise.{Raise}
-use Rattle.scans.specs.Sources.{BlockSource, block_in}
+use Rattle.filters.specs.Sources.{BlockSource, block_in}
 use Rattle.block_answers.specs.BlockRows.{HaveTaken}
 use Rattle.block_answers.specs.KeptRows.{TellsByLate}
 use Rattle.block_answers.specs.Telling.{context_with}

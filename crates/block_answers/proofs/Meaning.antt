@@ -29,7 +29,7 @@ use Rattle.definitions_answers.proofs.Taken.{all_arranged}
 use Rattle.definitions_answers.proofs.TypedKept.{kept_are_typed}
 use Rattle.definitions_answers.proofs.Working.{passing_asks}
 use Rattle.definitions_answers.proofs.ValueShapes.{plain_rows_have_shapes}
-use Rattle.scans.specs.Sources.{BlockSource, block_in}
+use Rattle.filters.specs.Sources.{BlockSource, block_in}
 use Rattle.block_answers.specs.Ready.{AreReady}
 use Rattle.result_rows.specs.Stores.{AreToldAs}
 use Rattle.block_answers.specs.Telling.{context_with, no_inner, MayTell}

@@ -9,7 +9,7 @@ use Rattle.definitions.specs.Queries.BoundBlock.{ValueExpr, Column, Parameter, N
 use Rattle.definitions.specs.Queries.Combinations.{Context, at, raises_of}
 use Rattle.definitions.specs.Queries.Evaluation.{Combination, Environment, value}
 use Rattle.definitions_answers.specs.PlainRows.{plain_raises, plain_row, values_at}
-use Rattle.scans.specs.Sources.{BlockSource, block_in, context_in}
+use Rattle.filters.specs.Sources.{BlockSource, block_in, context_in}
 use Rattle.result_rows.specs.Batches.{rows_in, GivesColumnOf, IsColumnOf}
 use Rattle.result_rows.specs.RowAt.{row_in, row_raises_in}
 use Rattle.result_rows.specs.Stores.{Tells, TellsMore}

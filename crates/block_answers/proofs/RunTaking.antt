@@ -9,7 +9,7 @@ use Rattle.definitions.specs.Queries.Grouping.{same_value}
 use Rattle.query_tree.specs.Bound.{column_of}
 use Rattle.query_tree.specs.declared.leaf.BlockColumn as bound
 use Rattle.definitions_execution.specs.Stored.{row_number}
-use Rattle.scans.proofs.Cells.{cell_there, value_there}
+use Rattle.filters.proofs.Cells.{cell_there, value_there}
 use Rattle.result_rows.specs.Batches.{column_values}
 use Rattle.definitions.specs.Plans.Order.{BlockColumn}
 use Rattle.definitions.specs.Queries.BoundBlock.{Block}
@@ -20,9 +20,9 @@ use Rattle.definitions_execution.specs.Stored.{Composite}
 use Rattle.definitions_execution.specs.TypedCombinations.{IsTypedCombination}
 use Rattle.definitions_answers.specs.Groups.{in_one_group}
 use Rattle.definitions_answers.proofs.Taken.{all_joined}
-use Rattle.scans.specs.Composites.{numbers_in}
-use Rattle.scans.specs.declared.composite.Composite as code
-use Rattle.scans.specs.Sources.{BlockSource, block_in, context_in}
+use Rattle.filters.specs.Composites.{numbers_in}
+use Rattle.filters.specs.declared.composite.Composite as code
+use Rattle.filters.specs.Sources.{BlockSource, block_in, context_in}
 use Rattle.grouping.specs.Groups.{functions_of, AreOf}
 use Rattle.block_answers.specs.Cut.{IsCutInto}
 use Rattle.block_answers.specs.Groups.{environments, seen, AreGroupsOf, AreRowsOf, AreTyped, IsOpen, IsOpenOf, IsWell}

@@ -16,7 +16,7 @@ use Rattle.definitions_execution.specs.Stored.{Composite}
 use Rattle.definitions_execution.proofs.TypedRows.{composites_typed}
 use Rattle.definitions_answers.specs.Plain.{kept_of, late_raises}
 use Rattle.definitions_answers.specs.Taking.{Says}
-use Rattle.scans.specs.Sources.{BlockSource, block_in}
+use Rattle.filters.specs.Sources.{BlockSource, block_in}
 use Rattle.block_answers.specs.BlockRows.{HaveTaken, TellsOf}
 use Rattle.block_answers.specs.Groups.{AreTyped}
 use Rattle.block_answers.specs.Telling.{context_with}

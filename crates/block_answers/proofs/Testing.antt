@@ -16,7 +16,7 @@ use Rattle.query_tree.specs.Bound.{condition_of}
 use Rattle.query_tree.specs.declared.condition.Condition.{Condition}
 use Rattle.conjuncts.specs.Parts.{condition_in, IsJudged}
 use Rattle.conjuncts.specs.declared.split.Conjunct.{Conjunct}
-use Rattle.scans.specs.Asks.{CanEvaluate}
+use Rattle.filters.specs.Evaluable.{CanEvaluate}
 use Rattle.block_answers.specs.OneComposite.{are_true_in, raised_in}
 use Rattle.block_answers.specs.Views.{conditions_of}
 use Rattle.result_rows.proofs.Answering.{told_raise, told_result}

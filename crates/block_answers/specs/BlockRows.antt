@@ -12,7 +12,7 @@ use Rattle.definitions.specs.Queries.Answer.{is_grouped}
 use Rattle.definitions_answers.specs.GroupRows.{group_raises, group_rows}
 use Rattle.definitions_answers.specs.Plain.{kept_of, late_raises}
 use Rattle.definitions_answers.specs.PlainRows.{plain_raises, plain_row}
-use Rattle.scans.specs.Sources.{BlockSource, block_in, context_in}
+use Rattle.filters.specs.Sources.{BlockSource, block_in, context_in}
 use Rattle.block_answers.specs.Cut.{AreAllGroups}
 use Rattle.block_answers.specs.Groups.{AreWell, TellGroups}
 use Rattle.result_rows.specs.Stores.{Holds, Tells}

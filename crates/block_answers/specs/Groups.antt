@@ -12,9 +12,9 @@ use Rattle.definitions_answers.specs.Groups.{in_one_group}
 use Rattle.definitions_answers.specs.GroupRows.{group_raises, group_rows}
 use Rattle.sqlvalue.specs.Raises.{raise_of}
 use Rattle.sqlvalue.specs.declared.raise.Raise.{Raise}
-use Rattle.scans.specs.Composites.{numbers_in}
-use Rattle.scans.specs.declared.composite.Composite as code
-use Rattle.scans.specs.Sources.{BlockSource, block_in, context_in}
+use Rattle.filters.specs.Composites.{numbers_in}
+use Rattle.filters.specs.declared.composite.Composite as code
+use Rattle.filters.specs.Sources.{BlockSource, block_in, context_in}
 use Rattle.grouping.specs.Functions.{argument_raises}
 use Rattle.grouping.specs.Groups.{functions_of, AreOf}
 use Rattle.block_answers.specs.Cut.{AreAllGroups, IsCutInto}

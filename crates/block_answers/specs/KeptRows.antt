@@ -6,7 +6,7 @@ use Rattle.definitions.specs.Queries.Evaluation.{Combination}
 use Rattle.definitions_answers.specs.Plain.{late_raises}
 use Rattle.sqlvalue.specs.Raises.{raise_of}
 use Rattle.sqlvalue.specs.declared.raise.Raise.{Raise}
-use Rattle.scans.specs.Sources.{BlockSource, block_in}
+use Rattle.filters.specs.Sources.{BlockSource, block_in}
 use Rattle.result_rows.specs.Stores.{kind_of}
 use Rattle.block_answers.specs.BlockRows.{store_in, HaveTaken}
 use Rattle.block_answers.specs.Telling.{context_with}

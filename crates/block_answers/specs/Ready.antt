@@ -7,7 +7,7 @@ use Rattle.definitions.specs.Queries.Evaluation.{Combination}
 use Rattle.definitions_execution.specs.OfBlock.{combination_of}
 use Rattle.definitions_execution.specs.Stored.{Composite}
 use Rattle.definitions_answers.specs.Ordered.{AreRequired}
-use Rattle.scans.specs.Sources.{BlockSource, block_in, IsSurrounded}
+use Rattle.filters.specs.Sources.{BlockSource, block_in, IsSurrounded}
 use Rattle.block_answers.specs.Telling.{ArrangePassing}
 
 pub record AreReady (source : BlockSource) (outer : List Combination) (all : List Composite) : Type 0 where

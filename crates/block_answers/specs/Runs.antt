@@ -4,7 +4,7 @@ use Rattle.definitions.specs.Queries.Evaluation.{Combination}
 use Rattle.definitions_execution.specs.OfBlock.{combination_of}
 use Rattle.definitions_execution.specs.Stored.{Composite}
 use Rattle.definitions_answers.specs.Groups.{in_one_group}
-use Rattle.scans.specs.Sources.{BlockSource, block_in}
+use Rattle.filters.specs.Sources.{BlockSource, block_in}
 use Rattle.grouping.specs.Groups.{functions_of, AreOf}
 use Rattle.block_answers.specs.Groups.{environments, seen}
 use Rattle.block_answers.specs.declared.group_rows.OpenGroup.{OpenGroup}

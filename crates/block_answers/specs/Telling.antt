@@ -9,7 +9,7 @@ use Rattle.definitions.specs.Queries.Answer.{block_answer}
 use Rattle.definitions.specs.Queries.Outcomes.{Allowed, Told}
 use Rattle.definitions_execution.specs.Stored.{Composite}
 use Rattle.definitions_execution.specs.OfBlock.{combination_of}
-use Rattle.scans.specs.Sources.{BlockSource, block_in, context_in}
+use Rattle.filters.specs.Sources.{BlockSource, block_in, context_in}
 
 -- inner blocks that mean nothing
 abbrev pub no_inner : ℕ → List Combination → Meaning (List Row)

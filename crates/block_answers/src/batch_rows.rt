@@ -3,14 +3,14 @@
 ghost use Rattle.std.specs.Prelude.{◌≡◌, ◌≤◌, [], get_or, length, map};
 ghost use Rattle.definitions.specs.Value.{Null};
 ghost use Rattle.definitions_execution.specs.OfBlock.{rows_in};
-ghost use Rattle.scans.specs.Sources.{block_in};
+ghost use Rattle.filters.specs.Sources.{block_in};
 ghost use Rattle.block_answers.specs.Groups.{environments};
 ghost use Rattle.block_answers.specs.Runs.{between, combinations_at};
 
-use batches::Batch;
+use filters::{BlockSource, OuterRows};
 use query_tree::BlockColumn;
 use result_rows::RowBatch;
-use scans::{BlockSource, OuterRows};
+use scans::Batch;
 use sqlvalue::Value;
 
 /// The rows of a batch from one place up to another.

@@ -2,10 +2,10 @@
 
 ghost use Rattle.std.specs.Prelude.{◌≡◌};
 ghost use Rattle.definitions.specs.Queries.Combinations.{at};
-ghost use Rattle.scans.specs.Sources.{context_in, environment_at};
+ghost use Rattle.filters.specs.Sources.{context_in, environment_at};
 ghost use Rattle.block_answers.specs.Groups.{seen};
 
-use scans::{BlockSource, Composite, OuterRows, RowContext};
+use filters::{BlockSource, Composite, OuterRows, RowContext};
 
 /// A row of the block's tables.
 pub fn row_at<'s, 'a, A: OuterRows>(

@@ -8,7 +8,7 @@ ghost use Rattle.definitions_execution.specs.OfBlock.{combination_of};
 ghost use Rattle.query_tree.specs.Bound.{block_of, key_of};
 ghost use Rattle.result_rows.specs.Faults.{IfRaised};
 ghost use Rattle.result_rows.specs.RowAt.{items_of};
-ghost use Rattle.scans.specs.Sources.{block_in, BlockSource as Source};
+ghost use Rattle.filters.specs.Sources.{block_in, BlockSource as Source};
 ghost use Rattle.block_answers.specs.BlockRows.{comes_in_order, store_in, HasRowsOf, IsWellFor, MayRaiseOn, TellsOf};
 ghost use Rattle.block_answers.specs.Groups.{seen, AreTyped};
 ghost use Rattle.block_answers.specs.Ready.{CanAnswer};
@@ -19,12 +19,12 @@ use crate::batch_rows::BatchRows;
 use crate::block_row::row_at;
 use crate::column_functions::are_of_columns;
 use crate::group_rows::GroupRows;
-use batches::Batch;
 use conjuncts::column_of;
+use filters::{BlockSource, Composite, OuterRows};
 use interesting_orders::is_grouped;
 use query_tree::{Block, Item, Key};
 use result_rows::{AnswerFault, ResultRows, RowStore, are_columns_of};
-use scans::{BlockSource, Composite, OuterRows};
+use scans::Batch;
 use std::alloc::{AllocError, Global};
 
 /// The rows of a block, as far as its combinations have come: one of each, or one of each group of them.

@@ -6,7 +6,7 @@ ghost use Rattle.definitions.specs.Table.{Database};
 ghost use Rattle.definitions.specs.Binding.Formed.{IsFormedSomewhere};
 ghost use Rattle.definitions.specs.Queries.Conjuncts.{late_conjuncts};
 ghost use Rattle.query_tree.specs.Bound.{block_of};
-ghost use Rattle.scans.specs.Asks.{CanEvaluate};
+ghost use Rattle.filters.specs.Evaluable.{CanEvaluate};
 ghost use Rattle.sqlvalue.specs.Raises.{raise_of};
 ghost use Rattle.block_answers.specs.Views.{conditions_of};
 ghost use Rattle.block_answers.specs.OneComposite.{are_true_in, raised_in};

@@ -8,15 +8,15 @@ ghost use Rattle.definitions_execution.specs.OfBlock.{rows_in};
 ghost use Rattle.definitions_answers.specs.Groups.{in_one_group};
 ghost use Rattle.query_tree.specs.Bound.{column_of};
 ghost use Rattle.sqlvalue.specs.Meaning.{value_of};
-ghost use Rattle.scans.specs.Sources.{block_in};
+ghost use Rattle.filters.specs.Sources.{block_in};
 ghost use Rattle.block_answers.specs.Groups.{seen};
 ghost use Rattle.block_answers.specs.Runs.{combination_at};
 
 use crate::block_row::row_at;
-use batches::Batch;
 use expr::Environment;
+use filters::{BlockSource, Composite, OuterRows};
 use query_tree::BlockColumn;
-use scans::{BlockSource, Composite, OuterRows};
+use scans::Batch;
 use sqlvalue::{Value, rank};
 use std::cmp::Ordering;
 

@@ -34,8 +34,8 @@ pub(crate) fn query_blocks(alloc: Global, database: &Database, query: &str) -> O
     ensures answerable { IfSome result (λ blocks. AllByRecursion IsAnswerable (map block_of blocks.items)) }
 {
     let tokens = lex(alloc, query).ok()?;
-    let statements = parse(alloc, &tokens, query.len()).ok()?;
-    match statements.first() {
+    let read = parse(alloc, &tokens, query.len()).ok()?;
+    match read.statements.first() {
         Some(Statement::Query(select)) => bound(alloc, database, select),
         _ => None,
     }

@@ -10,10 +10,10 @@ pub(crate) fn apply(alloc: Global, database: &mut Database, script: &str) -> boo
     let Ok(tokens) = lex(alloc, script) else {
         return false;
     };
-    let Ok(statements) = parse(alloc, &tokens, script.len()) else {
+    let Ok(read) = parse(alloc, &tokens, script.len()) else {
         return false;
     };
-    for statement in &statements {
+    for statement in &read.statements {
         if !changes(database, statement) {
             return false;
         }

@@ -10,13 +10,12 @@ ghost use Rattle.parse_tree.specs.Trees.{constraint_of, definitions_of};
 ghost use Rattle.catalog.specs.Creates.{AreJudged, AreTypes, RefusesDefinitions, RefusesTypes, empty_column, without_rows};
 ghost use Rattle.catalog.specs.Growth.{AreOrdered};
 
-use crate::database::MAX_COLUMNS;
 use crate::fault::CreateFault;
 use crate::naming::second_twin;
 use crate::table::MAX_INDEXES;
 use indexes::{Index, UniqueFault};
 use loading::TableColumn;
-use parse_tree::{ColumnDefinition, Constraint};
+use parse_tree::{ColumnDefinition, Constraint, MAX_COLUMNS};
 use std::alloc::Global;
 
 /// Judges definitions by their number, their names and their constraints.

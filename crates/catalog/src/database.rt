@@ -27,9 +27,6 @@ use std::marker::Model;
 /// How many tables a database may have (own).
 pub const MAX_TABLES: usize = 256;
 
-/// How many columns a table may have (own).
-pub const MAX_COLUMNS: usize = 64;
-
 /// A database: its tables in the order in which they were made.
 #[derive(Drop)]
 pub struct Database {

@@ -24,7 +24,7 @@ use crate::growth::{Grown, grow};
 use crate::naming::{Named, Names, second_twin};
 use indexes::{Index, TableStatistics, UniqueFault, row_width};
 use loading::{ColumnFault, LoadWatch, TableColumn, cut_columns};
-use parse_tree::{ColumnDefinition, Constraint, Name};
+use parse_tree::{ColumnDefinition, Constraint, MAX_INDEX_COLUMNS, Name};
 use sqlvalue::{ComparisonOperator, SqlType, Value};
 use std::alloc::Global;
 use std::marker::Model;
@@ -34,9 +34,6 @@ pub const MAX_ROWS: usize = 100_000_000;
 
 /// How many indexes a table may have (own).
 pub const MAX_INDEXES: usize = 16;
-
-/// How many columns an index may have (own).
-pub const MAX_INDEX_COLUMNS: usize = 4;
 
 /// A table: its columns in order, its indexes, its rows in the order in which they came (ISO/IEC 9075:1992, 4.9; that
 /// order is own), and its statistics.

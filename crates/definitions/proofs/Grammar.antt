@@ -1,7 +1,7 @@
 -- Two readings of one list of tokens, within whatever levels, are one; so tokens derive at most one list of statements.
 use Rattle.std.proofs.Common.{◌≡◌, refl, ap₂, ℕ, zero, suc, ◌+◌, Bool, true, false, List, [], ◌∷◌, Some, None, length, arith}
-use Rattle.std.specs.Prelude.{slice_get}
-use Rattle.definitions.specs.Limits.{most_levels}
+use Rattle.std.specs.Prelude.{slice_get, take}
+use Rattle.definitions.specs.Limits.{most_levels, most_items, most_from_tables, most_group_columns, most_members, most_keys, most_index_columns, most_columns}
 use Rattle.definitions.specs.Word.{Word}
 use Rattle.definitions.specs.Token.{TokenKind}
 use Rattle.definitions.specs.Statement.{Statement, Expr, SetFunction, ComparisonOperator}
@@ -9,7 +9,7 @@ use Rattle.definitions.specs.Statement as s
 use Rattle.definitions.specs.Rule.{Rule, At, Gives, Then}
 use Rattle.definitions.specs.Rule as g
 use Rattle.definitions.specs.Grammar as r
-use Rattle.definitions.specs.Grammar.{InnerRules, within, Closed, Enclosed, Optional, Maybe, ListOf, NameAt, CountAt, StringAt, ScaleAt, ParametersAt, LengthAt, TypeAt, ConstraintAt, ColumnAt, ReferenceAt, SourceAt, DistinctAt, GroupsAt, ArgumentOf, ParenthesisOf, OtherPrimaryOf, PrimaryOf, SignOf, ProductOf, SumOf, NullOf, InListOf, BetweenOf, LikeOf, PredicateOf, ComparedOf, TailOf, TestOf, NegationOf, ConjunctionOf, ExprOf, MemberOf, ItemOf, SelectListOf, ConditionOf, BlockOf, SubqueryOf, KeyNameAt, DirectionAt, KeyAt, OrderAt, SelectOf, NamesAt, BoundAt, RangeAt, TableAt, IndexAt, CreateAt, LoadAt, StatisticsAt, SetAt, StatementOf, LineKind, LineOf}
+use Rattle.definitions.specs.Grammar.{InnerRules, within, Closed, Enclosed, Optional, Maybe, WholeListOf, ListOf, NameAt, CountAt, StringAt, ScaleAt, ParametersAt, LengthAt, TypeAt, ConstraintAt, ColumnAt, ReferenceAt, SourceAt, DistinctAt, GroupsAt, ArgumentOf, ParenthesisOf, OtherPrimaryOf, PrimaryOf, SignOf, ProductOf, SumOf, NullOf, InListOf, BetweenOf, LikeOf, PredicateOf, ComparedOf, TailOf, TestOf, NegationOf, ConjunctionOf, ExprOf, MemberOf, ItemOf, SelectListOf, ConditionOf, BlockOf, SubqueryOf, KeyNameAt, DirectionAt, KeyAt, OrderAt, SelectOf, NamesAt, BoundAt, RangeAt, TableAt, IndexAt, CreateAt, LoadAt, StatisticsAt, SetAt, StatementOf, LineKind, LineOf}
 use Rattle.definitions.proofs.Alike.{Agree, Alike, never_alike, alike_never, never_alike_all, gives_alike, past_alike, sees_alike, if_alike, reads_alike, then_alike, repeats_alike}
 
 -- ---- what many rules share
@@ -29,8 +29,11 @@ maybe_alike kind = if_alike kind (gives_alike _) (gives_alike _)
 pub then_gives : {A X : Type 0} {a b : Rule A} {f : A → X} → Alike a b → Alike (Then a (λ x. Gives (f x))) (Then b (λ x. Gives (f x)))
 then_gives h = then_alike h (λ x. gives_alike _)
 
-pub list_alike : {X : Type 0} {a b : Rule X} → Alike a b → Alike (ListOf a) (ListOf b)
-list_alike h = then_alike h (λ x. then_alike (repeats_alike r.comma_in (λ comma. h)) (λ xs. gives_alike (x ∷ xs)))
+pub whole_list_alike : {X : Type 0} {a b : Rule X} → Alike a b → Alike (WholeListOf a) (WholeListOf b)
+whole_list_alike h = then_alike h (λ x. then_alike (repeats_alike r.comma_in (λ comma. h)) (λ xs. gives_alike (x ∷ xs)))
+
+pub list_alike : {X : Type 0} {a b : Rule X} (most : ℕ) → Alike a b → Alike (ListOf most a) (ListOf most b)
+list_alike most h = then_alike (whole_list_alike h) (λ xs. gives_alike (take (most + 1) xs))
 
 pub line_alike : {a b : Rule Expr} (kind : LineKind) → Alike a b → Alike (LineOf kind a) (LineOf kind b)
 line_alike kind h = then_alike h (λ first. then_alike (repeats_alike (r.operator_in kind) (λ operator. then_alike h (λ e. gives_alike (operator, e)))) (λ others. gives_alike _))
@@ -90,7 +93,7 @@ distinct_alike = if_alike _ (gives_alike _) (maybe_alike _)
 
 pub groups_alike : Alike GroupsAt GroupsAt
 unfolding GroupsAt
-groups_alike = if_alike _ (past_alike _ (list_alike reference_alike)) (gives_alike _)
+groups_alike = if_alike _ (past_alike _ (list_alike most_group_columns reference_alike)) (gives_alike _)
 
 -- ---- expressions and blocks, whose inner rules are alike
 
@@ -186,7 +189,7 @@ module _ {i j : InnerRules} (h : InnerAlike i j) where
 
   pub select_list_alike : Alike (SelectListOf i) (SelectListOf j)
   unfolding SelectListOf
-  select_list_alike = if_alike _ (gives_alike _) (then_alike (list_alike item_alike) (λ xs. gives_alike _))
+  select_list_alike = if_alike _ (gives_alike _) (then_alike (list_alike most_items item_alike) (λ xs. gives_alike _))
 
   pub condition_alike : (w : Word) → Alike (ConditionOf i w) (ConditionOf j w)
   unfolding ConditionOf
@@ -196,7 +199,7 @@ module _ {i j : InnerRules} (h : InnerAlike i j) where
   unfolding BlockOf
   block_alike =
       past_alike _ (then_alike distinct_alike (λ d. then_alike select_list_alike (λ its.
-      past_alike _ (then_alike (list_alike source_alike) (λ ss.
+      past_alike _ (then_alike (list_alike most_from_tables source_alike) (λ ss.
       then_alike (condition_alike _) (λ c.
       then_alike groups_alike (λ gs.
       then_alike (condition_alike _) (λ hv. gives_alike _))))))))
@@ -226,7 +229,7 @@ module _ {i j : InnerRules} (h : InnerAlike i j) where
 
   pub in_list_alike : (n : Bool) (v : Expr) → Alike (InListOf i n v) (InListOf j n v)
   unfolding InListOf
-  in_list_alike n v = sees_alike _ (then_alike subquery_alike (λ q. gives_alike _)) (then_alike (closed_alike (list_alike member_alike)) (λ ms. gives_alike _))
+  in_list_alike n v = sees_alike _ (then_alike subquery_alike (λ q. gives_alike _)) (then_alike (closed_alike (list_alike most_members member_alike)) (λ ms. gives_alike _))
 
 -- within whatever levels
 layer_alike : (n m : ℕ) → InnerAlike (within n) (within m) → InnerAlike (within (suc n)) (within (suc m))
@@ -269,7 +272,7 @@ key_alike = then_alike key_name_alike (λ k. then_alike direction_alike (λ d. g
 
 pub order_alike : Alike OrderAt OrderAt
 unfolding OrderAt
-order_alike = if_alike _ (past_alike _ (list_alike key_alike)) (gives_alike _)
+order_alike = if_alike _ (past_alike _ (list_alike most_keys key_alike)) (gives_alike _)
 
 pub select_alike : {i j : InnerRules} → InnerAlike i j → Alike (SelectOf i) (SelectOf j)
 unfolding SelectOf
@@ -277,7 +280,7 @@ select_alike h = then_alike (block_alike h) (λ b. then_alike order_alike (λ o.
 
 pub names_alike : Alike NamesAt NamesAt
 unfolding NamesAt
-names_alike = enclosed_alike (list_alike name_alike)
+names_alike = enclosed_alike (list_alike most_index_columns name_alike)
 
 unsigned_alike : (minus : Bool) → Alike (r.UnsignedAt minus) (r.UnsignedAt minus)
 unsigned_alike minus = reads_alike r.numeral_in (λ n. gives_alike _) never_alike
@@ -292,7 +295,7 @@ range_alike = optional_alike _ (then_alike bound_alike (λ low. past_alike _ (th
 
 pub table_alike : Alike TableAt TableAt
 unfolding TableAt
-table_alike = then_alike name_alike (λ n. then_alike (enclosed_alike (list_alike column_alike)) (λ cs. gives_alike _))
+table_alike = then_alike name_alike (λ n. then_alike (enclosed_alike (list_alike most_columns column_alike)) (λ cs. gives_alike _))
 
 pub index_alike : Alike IndexAt IndexAt
 unfolding IndexAt

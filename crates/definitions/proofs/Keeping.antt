@@ -1,11 +1,13 @@
 -- What a rule's trees have wherever it reads tokens that are as they can be written.
-use Rattle.std.proofs.Common.{◌≡◌, refl, sym, subst, ℕ, ◌<◌, List, Option, Some, None, length, arith}
+use Rattle.std.proofs.Common.{◌≡◌, refl, sym, subst, ℕ, zero, suc, ◌+◌, ◌<◌, take, [], ◌∷◌, List, Option, Some, None, length, arith}
 use Rattle.std.specs.Prelude.{⊤, slice_get}
 use Rattle.std.specs.List.{AllByRecursion}
+use Rattle.std.proofs.lemmas.List.{length-take}
+use Rattle.std.proofs.lemmas.Bool.Decides.{nat_tests}
 use Rattle.definitions.specs.Token.{TokenKind}
 use Rattle.definitions.specs.Rule.{Rule, Never, Gives, Past, Sees, If, Reads, Then, Repeats}
 use Rattle.definitions.specs.Rule as g
-use Rattle.definitions.specs.Grammar.{Closed, ListOf}
+use Rattle.definitions.specs.Grammar.{Closed, WholeListOf, ListOf}
 use Rattle.definitions.proofs.ReadTokens.{IsRead, AreRead}
 
 pub record Keeps {X : Type 0} (P : X → Type 0) (rule : Rule X) : Type 0 where
@@ -86,5 +88,15 @@ pub closed : {X : Type 0} {P : X → Type 0} {a : Rule X} → Keeps P a → Keep
 closed {P = P} r = then P r (λ x p. past (gives p))
 
 -- each of a list, which has one
-pub list : {X : Type 0} {P : X → Type 0} {a : Rule X} → Keeps P a → Keeps (λ xs. AllByRecursion P xs × (0 < length xs)) (ListOf a)
-list {P = P} r = then P r (λ x p. then (AllByRecursion P) (repeats (λ comma. r)) (λ xs all. gives ((p, all), omega arith)))
+whole_list : {X : Type 0} {P : X → Type 0} {a : Rule X} → Keeps P a → Keeps (λ xs. AllByRecursion P xs × (0 < length xs)) (WholeListOf a)
+whole_list {P = P} r = then P r (λ x p. then (AllByRecursion P) (repeats (λ comma. r)) (λ xs all. gives ((p, all), omega arith)))
+
+each_of_some : {X : Type 0} (P : X → Type 0) (n : ℕ) (xs : List X) → AllByRecursion P xs → AllByRecursion P (take n xs)
+each_of_some P zero xs all = tt
+each_of_some P (suc n) [] all = tt
+each_of_some P (suc n) (x ∷ xs) all = (all.0, each_of_some P n xs all.1)
+
+pub list : {X : Type 0} {P : X → Type 0} {a : Rule X} (most : ℕ) → Keeps P a → Keeps (λ xs. AllByRecursion P xs × (0 < length xs)) (ListOf most a)
+list {P = P} most r =
+    then _ (whole_list r)
+    (λ xs all. gives (each_of_some P (most + 1) xs all.0, (let l = length-take (most + 1) xs in let some = all.1 in grind (arith, nat_tests, l, some))))

@@ -1,5 +1,6 @@
 -- The rules of the grammar move: to other tokens that agree, and to so many levels as tokens open one.
-use Rattle.std.proofs.Common.{◌≡◌, refl, ℕ, zero, suc, Bool, true, false, ◌∷◌, Some, None, arith}
+use Rattle.std.proofs.Common.{◌≡◌, refl, ℕ, zero, suc, ◌+◌, take, Bool, true, false, ◌∷◌, Some, None, arith}
+use Rattle.definitions.specs.Limits.{most_items, most_from_tables, most_group_columns, most_members, most_keys, most_index_columns, most_columns}
 use Rattle.definitions.specs.Word.{Word}
 use Rattle.definitions.specs.Token as t
 use Rattle.definitions.specs.Token.{TokenKind}
@@ -7,7 +8,7 @@ use Rattle.definitions.specs.Statement.{Expr, SetFunction, ComparisonOperator}
 use Rattle.definitions.specs.Statement as s
 use Rattle.definitions.specs.Rule.{Rule, Gives, Then}
 use Rattle.definitions.specs.Grammar as r
-use Rattle.definitions.specs.Grammar.{InnerRules, within, Closed, Enclosed, Optional, Maybe, ListOf, NameAt, CountAt, StringAt, ScaleAt, ParametersAt, LengthAt, TypeAt, ConstraintAt, ColumnAt, ReferenceAt, SourceAt, DistinctAt, GroupsAt, ArgumentOf, ParenthesisOf, OtherPrimaryOf, PrimaryOf, SignOf, ProductOf, SumOf, NullOf, InListOf, BetweenOf, LikeOf, PredicateOf, ComparedOf, TailOf, TestOf, NegationOf, ConjunctionOf, ExprOf, MemberOf, ItemOf, SelectListOf, ConditionOf, BlockOf, SubqueryOf, KeyNameAt, DirectionAt, KeyAt, OrderAt, SelectOf, NamesAt, BoundAt, RangeAt, TableAt, IndexAt, CreateAt, LoadAt, StatisticsAt, SetAt, StatementOf, LineKind, LineOf, opens}
+use Rattle.definitions.specs.Grammar.{InnerRules, within, Closed, Enclosed, Optional, Maybe, WholeListOf, ListOf, NameAt, CountAt, StringAt, ScaleAt, ParametersAt, LengthAt, TypeAt, ConstraintAt, ColumnAt, ReferenceAt, SourceAt, DistinctAt, GroupsAt, ArgumentOf, ParenthesisOf, OtherPrimaryOf, PrimaryOf, SignOf, ProductOf, SumOf, NullOf, InListOf, BetweenOf, LikeOf, PredicateOf, ComparedOf, TailOf, TestOf, NegationOf, ConjunctionOf, ExprOf, MemberOf, ItemOf, SelectListOf, ConditionOf, BlockOf, SubqueryOf, KeyNameAt, DirectionAt, KeyAt, OrderAt, SelectOf, NamesAt, BoundAt, RangeAt, TableAt, IndexAt, CreateAt, LoadAt, StatisticsAt, SetAt, StatementOf, LineKind, LineOf, opens}
 use Rattle.definitions.proofs.Alike.{Rises, never_rises, gives_rises, then_rises}
 use Rattle.definitions.proofs.Grammar.{within_alike}
 use Rattle.definitions.proofs.Moving.{Budget, Any, AtMost, lower, IsOpen, Moving, never_moving, gives_moving, past_moving, opening_moving, sees_moving, if_moving, reads_moving, opens_reads_moving, then_moving, repeats_moving}
@@ -29,8 +30,11 @@ maybe_moving kind = if_moving kind (gives_moving _) (gives_moving _)
 pub then_gives : {b : Budget} {A X : Type 0} {a c : Rule A} {f : A → X} → Moving b a c → Moving b (Then a (λ x. Gives (f x))) (Then c (λ x. Gives (f x)))
 then_gives h = then_moving h (λ x. gives_moving _)
 
-pub list_moving : {b : Budget} {X : Type 0} {a c : Rule X} → Moving b a c → Moving b (ListOf a) (ListOf c)
-list_moving h = then_moving h (λ x. then_moving (repeats_moving r.comma_in (λ comma. h)) (λ xs. gives_moving (x ∷ xs)))
+whole_list_moving : {b : Budget} {X : Type 0} {a c : Rule X} → Moving b a c → Moving b (WholeListOf a) (WholeListOf c)
+whole_list_moving h = then_moving h (λ x. then_moving (repeats_moving r.comma_in (λ comma. h)) (λ xs. gives_moving (x ∷ xs)))
+
+pub list_moving : {b : Budget} {X : Type 0} {a c : Rule X} (most : ℕ) → Moving b a c → Moving b (ListOf most a) (ListOf most c)
+list_moving most h = then_moving (whole_list_moving h) (λ xs. gives_moving (take (most + 1) xs))
 
 pub line_moving : {b : Budget} {a c : Rule Expr} (kind : LineKind) → Moving b a c → Moving b (LineOf kind a) (LineOf kind c)
 line_moving kind h = then_moving h (λ first. then_moving (repeats_moving (r.operator_in kind) (λ operator. then_moving h (λ e. gives_moving (operator, e)))) (λ others. gives_moving _))
@@ -90,7 +94,7 @@ distinct_moving = if_moving _ (gives_moving _) (maybe_moving _)
 
 pub groups_moving : {b : Budget} → Moving b GroupsAt GroupsAt
 unfolding GroupsAt
-groups_moving = if_moving _ (past_moving _ (list_moving reference_moving)) (gives_moving _)
+groups_moving = if_moving _ (past_moving _ (list_moving most_group_columns reference_moving)) (gives_moving _)
 
 -- ---- expressions and blocks, whose inner rules move, behind a token that opens a level
 
@@ -200,7 +204,7 @@ module _ {b : Budget} {i j : InnerRules} (h : InnerMoving b i j) where
 
   pub select_list_moving : Moving b (SelectListOf i) (SelectListOf j)
   unfolding SelectListOf
-  select_list_moving = if_moving _ (gives_moving _) (then_moving (list_moving item_moving) (λ xs. gives_moving _))
+  select_list_moving = if_moving _ (gives_moving _) (then_moving (list_moving most_items item_moving) (λ xs. gives_moving _))
 
   pub condition_moving : (w : Word) → Moving b (ConditionOf i w) (ConditionOf j w)
   unfolding ConditionOf
@@ -210,7 +214,7 @@ module _ {b : Budget} {i j : InnerRules} (h : InnerMoving b i j) where
   unfolding BlockOf
   block_moving =
       past_moving _ (then_moving distinct_moving (λ d. then_moving select_list_moving (λ its.
-      past_moving _ (then_moving (list_moving source_moving) (λ ss.
+      past_moving _ (then_moving (list_moving most_from_tables source_moving) (λ ss.
       then_moving (condition_moving _) (λ c.
       then_moving groups_moving (λ gs.
       then_moving (condition_moving _) (λ hv. gives_moving _))))))))
@@ -240,7 +244,7 @@ module _ {b : Budget} {i j : InnerRules} (h : InnerMoving b i j) where
 
   pub in_list_moving : (n : Bool) (v : Expr) → Moving b (InListOf i n v) (InListOf j n v)
   unfolding InListOf
-  in_list_moving n v = sees_moving _ (then_moving subquery_moving (λ q. gives_moving _)) (then_moving (closed_moving (list_moving member_moving)) (λ ms. gives_moving _))
+  in_list_moving n v = sees_moving _ (then_moving subquery_moving (λ q. gives_moving _)) (then_moving (closed_moving (list_moving most_members member_moving)) (λ ms. gives_moving _))
 
 -- within so many levels as tokens may open, or within the same
 pub few_levels : (n m : ℕ) → InnerMoving (AtMost m) (within n) (within m)
@@ -341,7 +345,7 @@ key_moving = then_moving key_name_moving (λ k. then_moving direction_moving (λ
 
 pub order_moving : {b : Budget} → Moving b OrderAt OrderAt
 unfolding OrderAt
-order_moving = if_moving _ (past_moving _ (list_moving key_moving)) (gives_moving _)
+order_moving = if_moving _ (past_moving _ (list_moving most_keys key_moving)) (gives_moving _)
 
 pub select_moving : {b : Budget} {i j : InnerRules} → InnerMoving b i j → Moving b (SelectOf i) (SelectOf j)
 unfolding SelectOf
@@ -349,7 +353,7 @@ select_moving h = then_moving (block_moving h) (λ b. then_moving order_moving (
 
 pub names_moving : {b : Budget} → Moving b NamesAt NamesAt
 unfolding NamesAt
-names_moving = enclosed_moving (list_moving name_moving)
+names_moving = enclosed_moving (list_moving most_index_columns name_moving)
 
 unsigned_moving : {b : Budget} → (minus : Bool) → Moving b (r.UnsignedAt minus) (r.UnsignedAt minus)
 unsigned_moving minus = reads_moving r.numeral_in (λ n. gives_moving _) (never_moving _)
@@ -364,7 +368,7 @@ range_moving = optional_moving _ (then_moving bound_moving (λ low. past_moving 
 
 pub table_moving : {b : Budget} → Moving b TableAt TableAt
 unfolding TableAt
-table_moving = then_moving name_moving (λ n. then_moving (enclosed_moving (list_moving column_moving)) (λ cs. gives_moving _))
+table_moving = then_moving name_moving (λ n. then_moving (enclosed_moving (list_moving most_columns column_moving)) (λ cs. gives_moving _))
 
 pub index_moving : {b : Budget} → Moving b IndexAt IndexAt
 unfolding IndexAt

@@ -5,6 +5,7 @@ pub mod Moving
 mod Levels
 pub mod Readings
 pub mod ReadTokens
+mod ReadLists
 mod Keeping
 pub mod Loading
 pub mod Ranking

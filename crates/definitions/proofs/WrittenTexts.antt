@@ -2,6 +2,7 @@
 use Rattle.std.proofs.Common.{◌≡◌, subst, ℕ, zero, suc, Bool, true, false, List, [], ◌∷◌, Option, Some, None}
 use Rattle.std.specs.Prelude.{⊤}
 use Rattle.std.specs.List.{AllByRecursion}
+use Rattle.definitions.specs.Limits.{most_items, most_members, most_from_tables}
 use Rattle.definitions.specs.Word.{Word}
 use Rattle.definitions.specs.Token as t
 use Rattle.definitions.specs.Token.{TokenKind}
@@ -146,7 +147,7 @@ module _ {i : InnerRules} (h : InnerKept i) where
 
   select_list : Keeps WrittenList (SelectListOf i)
   unfolding SelectListOf
-  select_list = if_there (gives tt) (then _ (list item) (λ xs all. gives (items xs all.0)))
+  select_list = if_there (gives tt) (then _ (list most_items item) (λ xs all. gives (items xs all.0)))
 
   condition : (w : Word) → Keeps WrittenCondition (ConditionOf i w)
   unfolding ConditionOf
@@ -156,7 +157,7 @@ module _ {i : InnerRules} (h : InnerKept i) where
   unfolding BlockOf
   block =
       past (after (λ distinct. then WrittenList select_list (λ own_list a. past
-      (then _ (list (anything {X = Source})) (λ sources some.
+      (then _ (list most_from_tables (anything {X = Source})) (λ sources some.
       then WrittenCondition (condition _) (λ where' b.
       after (λ groups.
       then WrittenCondition (condition _) (λ having c. gives (a, b, c, some.1)))))))))
@@ -186,7 +187,7 @@ module _ {i : InnerRules} (h : InnerKept i) where
 
   pub in_list : (n : Bool) (v : Expr) → WrittenExpr v → Keeps WrittenExpr (InListOf i n v)
   unfolding InListOf
-  in_list n v w = sees (then WrittenBlock subquery (λ q own. gives (w, own))) (then _ (closed (list member)) (λ xs all. gives (w, members xs all.0)))
+  in_list n v w = sees (then WrittenBlock subquery (λ q own. gives (w, own))) (then _ (closed (list most_members member)) (λ xs all. gives (w, members xs all.0)))
 
 -- within whatever levels
 within_kept : (n : ℕ) → InnerKept (within n)

@@ -2,7 +2,8 @@
 -- a token opens: a parenthesis, a NOT or a sign, whose own inner rules have one level less.
 use Rattle.std.specs.Prelude.{ℕ, zero, suc, ◌+◌, ◌≤◌, ◌≡◌, Bool, true, false, List, [], ◌∷◌, ◌++◌, Option, Some, None}
 use Rattle.std.specs.Prelude.{slice_get, length, take, map, unwrap_or}
-use Rattle.definitions.specs.Limits.{most_levels}
+use Rattle.definitions.specs.Limits.{most_levels, most_items, most_from_tables, most_group_columns, most_members}
+use Rattle.definitions.specs.Limits.{most_keys, most_index_columns, most_columns}
 use Rattle.definitions.specs.Refusal.{Refusal}
 use Rattle.definitions.specs.Refusal as refusal
 use Rattle.definitions.specs.Value.{SqlType, Smallint, Integer, Numeric, Char}
@@ -39,8 +40,13 @@ abbrev pub comma_in : Option TokenKind → Option TokenKind
 comma_in (Some (Mark Comma)) = Some (Mark Comma)
 comma_in _ = None
 
-abbrev pub ListOf : {X : Type 0} → Rule X → Rule (List X)
-ListOf rule = Then rule (λ x. Then (Repeats comma_in (λ comma. rule)) (λ xs. Gives (x ∷ xs)))
+abbrev pub WholeListOf : {X : Type 0} → Rule X → Rule (List X)
+WholeListOf rule = Then rule (λ x. Then (Repeats comma_in (λ comma. rule)) (λ xs. Gives (x ∷ xs)))
+
+-- the same where so many elements are allowed: of a list that has more, the tree has one more than is allowed, by which
+-- it is refused (own)
+abbrev pub ListOf : {X : Type 0} → (most : ℕ) → Rule X → Rule (List X)
+ListOf most rule = Then (WholeListOf rule) (λ xs. Gives (take (most + 1) xs))
 
 -- a name (ISO/IEC 9075:1992, 5.4)
 abbrev pub name_in : Option TokenKind → Option Name
@@ -306,7 +312,7 @@ items (x ∷ xs) = s.AddItem x.value x.alias (items xs)
 -- "*" | item { "," item } (7.9)
 unfoldable pub SelectListOf : InnerRules → Rule SelectList
 SelectListOf inner =
-    If (Mark Asterisk) (Gives s.Asterisk) (Then (ListOf (ItemOf inner)) (λ xs. Gives (s.Listed (items xs))))
+    If (Mark Asterisk) (Gives s.Asterisk) (Then (ListOf most_items (ItemOf inner)) (λ xs. Gives (s.Listed (items xs))))
 
 -- name [name] (6.3)
 unfoldable pub SourceAt : Rule Source
@@ -320,14 +326,14 @@ ConditionOf inner word = If (Reserved word) (Then (ExprOf inner) (λ e. Gives (s
 
 -- [GROUP BY ref { "," ref }] (7.7)
 unfoldable pub GroupsAt : Rule (List ColumnReference)
-GroupsAt = If (Reserved w.Group) (Past (Reserved w.By) (ListOf ReferenceAt)) (Gives [])
+GroupsAt = If (Reserved w.Group) (Past (Reserved w.By) (ListOf most_group_columns ReferenceAt)) (Gives [])
 
 -- SELECT [ALL | DISTINCT] list FROM source { "," source } [WHERE expr] [GROUP BY ref { "," ref }] [HAVING expr] (7.9,
 -- 7.3, 7.4, 7.6 to 7.8)
 unfoldable pub BlockOf : InnerRules → Rule QuerySpecification
 BlockOf inner =
     Past (Reserved w.Select) (Then DistinctAt (λ distinct. Then (SelectListOf inner) (λ list.
-    Past (Reserved w.From) (Then (ListOf SourceAt) (λ sources.
+    Past (Reserved w.From) (Then (ListOf most_from_tables SourceAt) (λ sources.
     Then (ConditionOf inner w.Where) (λ condition.
     Then GroupsAt (λ groups.
     Then (ConditionOf inner w.Having) (λ having.
@@ -365,7 +371,7 @@ member_list (Some e ∷ xs) = s.Member e (member_list xs)
 unfoldable pub InListOf : InnerRules → Bool → Expr → Rule Expr
 InListOf inner negated value =
     Sees (Reserved w.Select) (Then (SubqueryOf inner) (λ q. Gives (s.InQuery negated value q)))
-    (Then (Closed (ListOf (MemberOf inner))) (λ xs. Gives (s.InList negated value (member_list xs))))
+    (Then (Closed (ListOf most_members (MemberOf inner))) (λ xs. Gives (s.InList negated value (member_list xs))))
 
 -- what is within so many levels: nothing within none; within one more, the rules whose own inner ones have one less
 -- (own)
@@ -403,18 +409,18 @@ KeyAt = Then KeyNameAt (λ k. Then DirectionAt (λ d. Gives (record { named = k;
 
 -- block [ORDER BY key { "," key }] (13.1)
 unfoldable pub OrderAt : Rule (List SortSpecification)
-OrderAt = If (Reserved w.Order) (Past (Reserved w.By) (ListOf KeyAt)) (Gives [])
+OrderAt = If (Reserved w.Order) (Past (Reserved w.By) (ListOf most_keys KeyAt)) (Gives [])
 
 unfoldable pub SelectOf : InnerRules → Rule Select
 SelectOf inner = Then (BlockOf inner) (λ b. Then OrderAt (λ o. Gives (record { block = b; order = o })))
 
 -- "(" name { "," name } ")" (own)
 unfoldable pub NamesAt : Rule (List Name)
-NamesAt = Enclosed (ListOf NameAt)
+NamesAt = Enclosed (ListOf most_index_columns NameAt)
 
 -- behind CREATE TABLE: name "(" column { "," column } ")" (11.3)
 unfoldable pub TableAt : Rule Statement
-TableAt = Then NameAt (λ n. Then (Enclosed (ListOf ColumnAt)) (λ columns. Gives (s.CreateTable n columns)))
+TableAt = Then NameAt (λ n. Then (Enclosed (ListOf most_columns ColumnAt)) (λ columns. Gives (s.CreateTable n columns)))
 
 -- [UNIQUE] INDEX ON name names (own)
 unfoldable pub IndexAt : Rule Statement

@@ -1,16 +1,20 @@
 -- What holds of the definitions, each proved as the contract of a function that has no code.
-use Rattle.std.specs.Prelude.{ℕ, ◌≡◌, ◌≢◌, ◌↔◌, List, [], ◌∷◌, ◌++◌, Some, Result, true, false}
+use Rattle.std.specs.Prelude.{ℕ, ◌<◌, ◌≤◌, ◌≡◌, ◌≢◌, ◌↔◌, length, List, [], ◌∷◌, ◌++◌, Some, Result, true, false}
 use Rattle.std.specs.Cmp.{IsTotalOrder}
 use Rattle.std.specs.declared.cmp.Ordering.{Ordering}
 use Rattle.std.specs.declared.cmp.Ordering.TheVariants.{Less, Equal}
 use Rattle.definitions.specs.Characters.{quote}
+use Rattle.definitions.specs.Limits.{most_columns, most_index_columns, most_members, most_items, most_from_tables}
+use Rattle.definitions.specs.Limits.{most_group_columns, most_keys}
 use Rattle.definitions.specs.Value.{Value, Null, SqlType, compare, rank, AreNotDistinct}
 use Rattle.definitions.specs.Refusal.{FieldError}
 use Rattle.definitions.specs.Loading.{Record, FieldLoads, AreFileRecords}
 use Rattle.definitions.specs.Token.{Token, TokenKind}
 use Rattle.definitions.specs.Lexing.{LexFault, ReadsAs, quoted}
 use Rattle.definitions.specs.Statement.{Statement}
-use Rattle.definitions.specs.Grammar.{Derives}
+use Rattle.definitions.specs.Rule.{Rule}
+use Rattle.definitions.specs.Grammar.{WholeListOf, ListOf, ColumnAt, NameAt, MemberOf, ItemOf, SourceAt, ReferenceAt}
+use Rattle.definitions.specs.Grammar.{KeyAt, within, Derives}
 use Rattle.definitions.specs.Printing.{doubled}
 
 -- every text has its tokens or a lexical fault, and only one of these
@@ -22,6 +26,22 @@ EachTextReadsOnce =
 -- tokens derive at most one list of statements
 abbrev pub DerivesAtMostOne : Type 0
 DerivesAtMostOne = (tokens : List TokenKind) (a b : List Statement) → Derives tokens a → Derives tokens b → a ≡ b
+
+-- a list within its limit is read whole, and one past it is past it in the tree, too
+abbrev pub IsReadToItsLimit : {X : Type 0} → (most : ℕ) → Rule X → Type 0
+IsReadToItsLimit {X} most rule =
+    (tokens : List TokenKind) (at end to : ℕ) (whole kept : List X) → WholeListOf rule tokens at end whole
+    → ListOf most rule tokens at to kept
+    → (length whole ≤ most → kept ≡ whole) × (most < length whole → most < length kept)
+
+pub record ListsAreReadToTheirLimits : Type 0 where
+  pub columns : IsReadToItsLimit most_columns ColumnAt
+  pub names : IsReadToItsLimit most_index_columns NameAt
+  pub members : (levels : ℕ) → IsReadToItsLimit most_members (MemberOf (within levels))
+  pub items : (levels : ℕ) → IsReadToItsLimit most_items (ItemOf (within levels))
+  pub sources : IsReadToItsLimit most_from_tables SourceAt
+  pub groups : IsReadToItsLimit most_group_columns ReferenceAt
+  pub keys : IsReadToItsLimit most_keys KeyAt
 
 -- the spelling of a text literal reads as that text
 abbrev pub QuotedReadsBack : Type 0

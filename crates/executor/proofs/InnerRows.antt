@@ -28,9 +28,9 @@ use Rattle.definitions_answers.specs.Told.{Tells}
 use Rattle.definitions_answers.proofs.Standing.{standing_are_formed}
 use Rattle.definitions_answers.proofs.Steps.{formed_ask_behind, meaning_by_one_step, total_by_one_step}
 use Rattle.plan_tree.specs.Plans.{plan_of}
-use Rattle.scans.specs.Composites.{numbers_in}
-use Rattle.scans.specs.declared.composite.Composite as code
-use Rattle.scans.specs.Sources.{block_in, stored_in, BlockSource, IsSurrounded}
+use Rattle.filters.specs.Composites.{numbers_in}
+use Rattle.filters.specs.declared.composite.Composite as code
+use Rattle.filters.specs.Sources.{block_in, stored_in, BlockSource, IsSurrounded}
 use Rattle.sqlvalue.specs.declared.raise.Raise.{Raise}
 use Rattle.subqueries.specs.Found.{said_in}
 use Rattle.subqueries.specs.Framed.{combination_in}

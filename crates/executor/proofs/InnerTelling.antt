@@ -32,10 +32,10 @@ use Rattle.definitions_answers.proofs.Standing.{standing_are_formed, subqueries_
 use Rattle.definitions_answers.proofs.Steps.{formed_ask_behind, meaning_by_one_step}
 use Rattle.definitions_answers.proofs.Taken.{all_arranged, all_filtered, both_of}
 use Rattle.definitions_answers.proofs.Trying.{late_conjuncts_say}
-use Rattle.scans.specs.Asks.{CanEvaluate}
-use Rattle.scans.specs.Composites.{numbers_in}
-use Rattle.scans.specs.Sources.{block_in}
-use Rattle.scans.specs.declared.composite.Composite.{Composite}
+use Rattle.filters.specs.Evaluable.{CanEvaluate}
+use Rattle.filters.specs.Composites.{numbers_in}
+use Rattle.filters.specs.Sources.{block_in}
+use Rattle.filters.specs.declared.composite.Composite.{Composite}
 use Rattle.sqlvalue.specs.Raises.{raise_of}
 use Rattle.sqlvalue.specs.declared.raise.Raise.{Raise}
 use Rattle.subqueries.specs.Found.{said_in}

@@ -19,9 +19,9 @@ use Rattle.definitions_answers.proofs.Standing.{standing_are_formed}
 use Rattle.definitions_answers.proofs.Steps.{formed_ask_behind, meaning_by_one_step}
 use Rattle.definitions_execution.specs.OfBlock.{combination_of}
 use Rattle.definitions_execution.specs.Stored.{Composite}
-use Rattle.scans.specs.Composites.{numbers_in}
-use Rattle.scans.specs.declared.composite.Composite as code
-use Rattle.scans.specs.Sources.{block_in}
+use Rattle.filters.specs.Composites.{numbers_in}
+use Rattle.filters.specs.declared.composite.Composite as code
+use Rattle.filters.specs.Sources.{block_in}
 use Rattle.sqlvalue.specs.Raises.{raise_of}
 use Rattle.sqlvalue.specs.declared.raise.Raise.{Raise}
 use Rattle.result_rows.specs.Faults.{IfRaised}

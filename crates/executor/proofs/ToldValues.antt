@@ -17,7 +17,7 @@ use Rattle.expr.specs.Answers.{IsTyped}
 use Rattle.definitions_execution.specs.TypedCombinations.{AreTypedAround, IsTypedCombination}
 use Rattle.definitions_execution.proofs.FormedNames.{OfValues}
 use Rattle.definitions_answers.proofs.Elements.{all_first, all_flat}
-use Rattle.scans.specs.Asks.{CanEvaluate}
+use Rattle.filters.specs.Evaluable.{CanEvaluate}
 use Rattle.block_answers.proofs.Formed.{own_type, some_type}
 
 module _ (db : Database) (b : Block) (outer : List Combination) (valid : IsDatabase db) (blocks around : Blocks) (n : ℕ) (typed : AreTypedAround db around outer) (c : Combination) (own : IsTypedCombination db b c) (inner : ℕ → Meaning (List Row)) where

@@ -10,7 +10,7 @@ use Rattle.definitions.specs.Estimates.Version.{current_version}
 use Rattle.definitions.specs.Queries.BoundBlock.{Blocks}
 use Rattle.definitions_answers.specs.Standing.{Stands}
 use Rattle.definitions_execution.specs.Total.{totals, AreCertified, IsTotal}
-use Rattle.scans.specs.Sources.{block_in}
+use Rattle.filters.specs.Sources.{block_in}
 use Rattle.executor.specs.ReadyBlocks.{blocks_in, database_in, plans_in, total_at, AreReady, HasLeast, IsReadyIn}
 use Rattle.executor.specs.declared.ready_block.ReadyBlock.{ReadyBlock}
 

@@ -23,7 +23,7 @@ use Rattle.definitions_answers.specs.Seen.{seen_subqueries}
 use Rattle.definitions_answers.specs.Told.{TellsAsked}
 use Rattle.plan_tree.specs.Plans.{plan_of}
 use Rattle.plan_space.specs.Planned.{space_in}
-use Rattle.scans.specs.Sources.{block_in}
+use Rattle.filters.specs.Sources.{block_in}
 use Rattle.subqueries.specs.BlockText.{Rising}
 use Rattle.subqueries.specs.Keeping.{told_by, AllKept}
 use Rattle.subqueries.specs.OuterColumns.{outer_columns_of}

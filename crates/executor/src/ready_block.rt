@@ -13,17 +13,17 @@ ghost use Rattle.query_tree.specs.Bound.{block_of};
 ghost use Rattle.plan_space.specs.BlockPlans.{AreLeastOf};
 ghost use Rattle.plan_space.specs.Planned.{space_in};
 ghost use Rattle.plan_tree.specs.Plans.{plan_of};
-ghost use Rattle.scans.specs.Sources.{block_in};
+ghost use Rattle.filters.specs.Sources.{block_in};
 ghost use Rattle.subqueries.specs.OuterColumns.{outer_columns_of};
 ghost use Rattle.executor.specs.declared.ready_block.ReadyBlock.{ReadyBlock as Ready};
 ghost use Rattle.executor.specs.ReadyBlocks.{blocks_in, HasLeast, IsReadyIn};
 
 use block_answers::late_conditions;
 use catalog::Database;
+use filters::BlockSource;
 use plan_space::{BlockPlan, Space};
 use plan_tree::Plan;
 use query_tree::{Block, Condition};
-use scans::BlockSource;
 use std::alloc::{AllocError, Global};
 use subqueries::{OuterColumn, block_parameters, blocks_asked, blocks_seen};
 

@@ -5,6 +5,7 @@ use crate::column_words::{
     write_unknown_value_hint,
 };
 use crate::limit_words::write_limit;
+use crate::list_lengths::ListLengths;
 use crate::result_columns::{is_alias, write_alias_hint, write_key_hint};
 use crate::suggestions::write_near_table;
 use crate::tables_in_sight::TablesInSight;
@@ -20,6 +21,7 @@ pub struct QueryWords<'q> {
     pub alloc: Global,
     pub database: &'q Database,
     pub query: &'q Select,
+    pub lengths: ListLengths<'q>,
 }
 
 impl<'q> QueryWords<'q> {
@@ -76,7 +78,7 @@ impl QueryWords<'_> {
             QueryFault::UnknownKey(key) => write_unknown_key(f, key),
             fault => match unfit(fault) {
                 Some(words) => f.write_str(words),
-                None => write_limit(f, self.alloc, self.query, fault),
+                None => write_limit(f, self.alloc, self.query, self.lengths, fault),
             },
         }
     }

@@ -1,9 +1,10 @@
 //! Why a table is not made.
 
 use catalog::{CreateFault, MAX_COLUMNS, MAX_INDEXES, MAX_TABLES};
+use messages_queries::ListLengths;
 use sqlvalue::{MAX_LENGTH, MAX_PRECISION, TypeFault};
 use std::fmt::{self, Formatter};
-use syntax::{ColumnDefinition, Constraint, Name};
+use syntax::{ColumnDefinition, Constraint, ListKind, Name};
 
 /// The name that a fault of CREATE TABLE is about.
 pub(crate) fn name_at_fault<'a>(
@@ -26,6 +27,7 @@ pub(crate) fn write_create<W: fmt::Write>(
     f: &mut Formatter<W>,
     name: &Name,
     columns: &[ColumnDefinition],
+    lengths: ListLengths,
     fault: CreateFault,
 ) -> fmt::Result {
     let at_fault = name_at_fault(name, columns, fault).text.as_str();
@@ -36,7 +38,7 @@ pub(crate) fn write_create<W: fmt::Write>(
         CreateFault::ManyColumns => write!(
             f,
             "a table has at most {MAX_COLUMNS} columns, and this one has {}",
-            columns.len()
+            lengths.written(ListKind::Columns, name.start, columns.len())
         ),
         CreateFault::ManyKeys => write!(
             f,

@@ -3,6 +3,7 @@
 use crate::list::{Listed, name_at, name_in_list, write_list};
 use catalog::{Database, IndexFault, MAX_INDEXES, RepeatedKey};
 use diagnostics::ColumnList;
+use messages_queries::ListLengths;
 use std::fmt::{self, Formatter};
 use syntax::{Constraint, Name};
 
@@ -20,11 +21,12 @@ pub(crate) fn write_index<W: fmt::Write>(
     f: &mut Formatter<W>,
     database: &Database,
     list: ColumnList,
+    lengths: ListLengths,
     fault: IndexFault,
 ) -> fmt::Result {
     let at_fault = name_of_index(list, fault).text.as_str();
     match fault {
-        IndexFault::List(fault) => write_list(f, list, fault),
+        IndexFault::List(fault) => write_list(f, list, lengths, fault),
         IndexFault::ColumnTwice { .. } => write!(f, "{at_fault} stands in the list twice"),
         IndexFault::ListTaken { index } => write_taken(f, database, list, index),
         IndexFault::ManyIndexes => write!(

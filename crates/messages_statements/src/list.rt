@@ -2,10 +2,10 @@
 
 use catalog::{Database, ListFault, MAX_INDEX_COLUMNS};
 use diagnostics::ColumnList;
-use messages_queries::{write_near_column, write_near_table};
+use messages_queries::{ListLengths, write_near_column, write_near_table};
 use std::alloc::Global;
 use std::fmt::{self, Display, Formatter};
-use syntax::Name;
+use syntax::{ListKind, Name};
 
 /// Names as a statement lists them: `(A, B)`.
 #[derive(Clone, Copy)]
@@ -39,6 +39,7 @@ pub(crate) fn name_in_list<'a>(list: ColumnList<'a>, fault: ListFault) -> &'a Na
 pub(crate) fn write_list<W: fmt::Write>(
     f: &mut Formatter<W>,
     list: ColumnList,
+    lengths: ListLengths,
     fault: ListFault,
 ) -> fmt::Result {
     let at_fault = name_in_list(list, fault).text.as_str();
@@ -50,7 +51,7 @@ pub(crate) fn write_list<W: fmt::Write>(
         ListFault::ManyColumns => write!(
             f,
             "an index has at most {MAX_INDEX_COLUMNS} columns, and this list has {}",
-            list.columns.len()
+            lengths.written(ListKind::IndexColumns, list.table.start, list.columns.len())
         ),
         ListFault::Empty => f.write_str("there is no column in the list"),
         ListFault::Memory => Ok(()),

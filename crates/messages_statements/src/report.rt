@@ -21,14 +21,14 @@ use messages_certificates::FileReport;
 use messages_excerpts::{LineColumn, Lines, write_excerpt};
 use messages_files::{FileRecord, write_record, write_record_hint, write_repeated, write_survey};
 use messages_notes::{LoadReport, Notes, PlanReport};
-use messages_queries::{QueryWords, write_near_table};
+use messages_queries::{ListLengths, QueryWords, write_near_table};
 use messages_syntax::{
     write_lexical, write_lexical_hint, write_too_deep, write_unexpected, write_unexpected_hint,
 };
 use sqlvalue::Raise;
 use std::alloc::Global;
 use std::fmt::{self, Display, Formatter};
-use syntax::{Name, Select};
+use syntax::{LongList, Name, Select};
 
 /// Makes the messages on a script, one after another.
 #[derive(Drop)]
@@ -57,8 +57,13 @@ impl<'a> Reporter<'a> {
         self.lines.locate(offset)
     }
 
-    /// The message on a refusal over a database.
-    pub fn report<'r>(&mut self, refused: &'r Refused<'r>, database: &'r Database) -> Report<'r>
+    /// The message on a refusal over a database; of the lists that are past their limits the tree has not all elements.
+    pub fn report<'r>(
+        &mut self,
+        refused: &'r Refused<'r>,
+        long_lists: &'r [LongList],
+        database: &'r Database,
+    ) -> Report<'r>
     where
         'a: 'r,
     {
@@ -74,6 +79,7 @@ impl<'a> Reporter<'a> {
             offset,
             place,
             refused,
+            lengths: ListLengths { long_lists },
             database,
             refused_table: self.refused_tables.place_of_missing(&refused.cause),
         }
@@ -142,6 +148,7 @@ pub struct Report<'r> {
     offset: usize,
     place: LineColumn,
     refused: &'r Refused<'r>,
+    lengths: ListLengths<'r>,
     database: &'r Database,
     /// Where the table that is missing was to be made, if it was.
     refused_table: Option<LineColumn>,
@@ -194,10 +201,22 @@ impl<'r> Report<'r> {
                 name,
                 columns,
                 fault,
-            } => write_create(f, name, columns, *fault),
-            Cause::Index { list, fault } => write_index(f, self.database, *list, *fault),
+            } => write_create(f, name, columns, self.lengths, *fault),
+            Cause::Index { list, fault } => write_index(
+                f,
+                self.database,
+                *list,
+                self.lengths,
+                *fault,
+            ),
             Cause::TableStatistics(cause) => write_table_statistics(f, *cause),
-            Cause::Statistics(cause) => write_statistics(f, self.script, self.database, *cause),
+            Cause::Statistics(cause) => write_statistics(
+                f,
+                self.script,
+                self.database,
+                self.lengths,
+                *cause,
+            ),
             Cause::NoTable(name) => write!(f, "there is no table {}", name.text),
             Cause::NoFile { file, .. } => write!(f, "there is no file '{}'", file.text),
             Cause::ManyRows(_) => write!(f, "a table has at most {MAX_ROWS} rows"),
@@ -239,6 +258,7 @@ impl<'r> Report<'r> {
             alloc: self.alloc,
             database: self.database,
             query,
+            lengths: self.lengths,
         }
     }
 

@@ -3,6 +3,7 @@
 use crate::list::{Listed, name_at, name_in_list, write_list};
 use catalog::{Database, MAX_STATISTIC, RangeEnd, StatisticsFault, TableStatisticsFault};
 use diagnostics::{ColumnList, StatisticsCause, TableStatisticsCause};
+use messages_queries::ListLengths;
 use std::fmt::{self, Display, Formatter};
 use syntax::{Bound, Count, Range};
 
@@ -62,11 +63,12 @@ pub(crate) fn write_statistics<W: fmt::Write>(
     f: &mut Formatter<W>,
     script: &str,
     database: &Database,
+    lengths: ListLengths,
     cause: StatisticsCause,
 ) -> fmt::Result {
     let (list, statistics) = (cause.list, cause.statistics);
     match (cause.fault, statistics.range) {
-        (StatisticsFault::List(fault), _) => write_list(f, list, fault),
+        (StatisticsFault::List(fault), _) => write_list(f, list, lengths, fault),
         (StatisticsFault::NoIndex, _) => {
             let columns = Listed(list.columns);
             write!(f, "table {} has no index on {columns}", list.table.text)

@@ -1,2 +1,3 @@
 pub use Rattle.definitions.specs.Statement
+pub mod Lists
 pub mod Trees

@@ -4,11 +4,16 @@
 
 mod expr;
 mod leaf;
+mod list;
 mod statement;
 
 pub use expr::{Block, Expr, Item, Operand, SelectList, Source, Sources};
 pub use leaf::{
     ColumnReference, Count, LineOperator, Name, Numeral, Quantifier, SetFunction, StringLiteral,
+};
+pub use list::{
+    ListKind, ListPlace, LongList, MAX_COLUMNS, MAX_FROM_TABLES, MAX_GROUP_COLUMNS,
+    MAX_INDEX_COLUMNS, MAX_ITEMS, MAX_KEYS, MAX_MEMBERS,
 };
 pub use sqlvalue::ComparisonOperator;
 pub use statement::{

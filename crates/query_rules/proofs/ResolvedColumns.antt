@@ -11,7 +11,7 @@ use Rattle.definitions.specs.Table.{Table, Database, table_named}
 use Rattle.definitions.specs.Plans.Order.{BlockColumn}
 use Rattle.definitions.specs.Queries.BoundBlock.{Block}
 use Rattle.definitions.specs.Binding.Formed.{HasColumn}
-use Rattle.definitions.specs.Binding.Scopes.{NamedTable, Scope, Found, Resolution, NotThere, Named, named_table, scope_of, are_there, columns_of, table_columns, columns_where, all_columns, with_name, only_one, is_called, resolve_name, resolve_qualified, resolve_by, resolve}
+use Rattle.definitions.specs.Binding.Scopes.{NamedTable, Scope, Found, Resolution, NotThere, Named, named_table, scope_of, is_whole, are_there, columns_of, table_columns, columns_where, all_columns, with_name, only_one, is_called, resolve_name, resolve_qualified, resolve_by, resolve}
 
 abbrev pub numbers : Scope → List ℕ
 numbers = map (λ (t : NamedTable). t.number)
@@ -156,4 +156,4 @@ within db (s ∷ sources) h =
     (is_within db (named_table db s).number (named_table db s).table (numbered db s) first, within db sources others)
 
 pub numbers_within : (db : Database) (sources : List Source) → IsTrue (are_there (scope_of db sources ∷ [])) → AllByRecursion (λ n. n < length db) (numbers (scope_of db sources))
-numbers_within db sources h = within db sources (both (list_all (λ (t : NamedTable). is_some t.table) (scope_of db sources)) true h).0
+numbers_within db sources h = within db sources (both (list_all (λ (t : NamedTable). is_some t.table) (scope_of db sources)) _ (both (is_whole (scope_of db sources)) true h).0).0

@@ -1,6 +1,8 @@
 -- What the tables, columns and resolutions of this crate stand for.
-use Rattle.std.specs.Prelude.{List, Some, map}
+use Rattle.std.specs.Prelude.{◌≤◌, List, Some, length, map}
 use Rattle.std.specs.Global.{Vec}
+use Rattle.std.specs.List.{AllByRecursion}
+use Rattle.definitions.specs.Limits.{most_from_tables}
 use Rattle.definitions.specs.Binding.Scopes as spec
 use Rattle.sqlvalue.specs.Meaning.{type_of}
 use Rattle.query_tree.specs.Bound.{column_of}
@@ -26,3 +28,7 @@ tables_of scope = map named_of scope.items
 
 abbrev pub scopes_of : List (Vec NamedTable) → spec.Scopes
 scopes_of = map tables_of
+
+-- each FROM is within its limit
+abbrev pub AreFew : spec.Scopes → Type 0
+AreFew = AllByRecursion (λ (scope : spec.Scope). length scope ≤ most_from_tables)

@@ -12,12 +12,9 @@ ghost use Rattle.query_rules.specs.Keys.{bound_keys, header_of, known_name, know
 ghost use Rattle.query_rules.specs.Meaning.{bind_refusal};
 
 use crate::fault::{BindFault, QueryFault};
-use parse_tree::{Expr, KeyName, SelectList};
+use parse_tree::{Expr, KeyName, MAX_KEYS, SelectList};
 use query_tree::{Item, Key};
 use std::alloc::{AllocError, Global};
-
-/// How many keys ORDER BY may have (own).
-pub const MAX_KEYS: usize = 16;
 
 /// The keys of an order over a block's result columns, which are bound (ISO/IEC 9075:1992, 13.1, syntax rules 3 to 5; the
 /// limit is own).

@@ -10,13 +10,9 @@ ghost use Rattle.query_rules.specs.BlockLimits.{IsWithinLimits};
 ghost use Rattle.query_rules.specs.Meaning.{query_refusal};
 
 use crate::fault::QueryFault;
-use parse_tree::{Block, Expr, LineOperator, Operand, SelectList};
+use parse_tree::{Block, Expr, LineOperator, MAX_GROUP_COLUMNS, MAX_ITEMS, Operand, SelectList};
 
-/// How many result columns, columns of GROUP BY and conjuncts of WHERE a block may have (own).
-pub const MAX_ITEMS: usize = 64;
-
-pub const MAX_GROUP_COLUMNS: usize = 16;
-
+/// How many conjuncts of WHERE a block may have (own).
 pub const MAX_CONJUNCTS: usize = 64;
 
 /// That a block keeps the limits, and that no asterisk stands in a grouped one.

@@ -15,12 +15,9 @@ use crate::scope::{has_name, only_column, tables};
 use crate::scope_fault::SourceFault;
 use crate::table_columns::push_columns;
 use catalog::Database;
-use parse_tree::{ColumnReference, Source};
+use parse_tree::{ColumnReference, MAX_FROM_TABLES, Source};
 use std::alloc::{AllocError, Global};
 use std::marker::Model;
-
-/// How many tables a FROM may have (own).
-pub const MAX_FROM_TABLES: usize = 14;
 
 /// The tables in sight of a query block: its own, then those of the block around it, and so on.
 #[derive(Drop)]
@@ -30,11 +27,13 @@ pub struct Scopes<'a> {
 
 impl<'a> Model for Scopes<'a> {
     ghost use Rattle.definitions.specs.Binding.Scopes.{Scopes};
-    ghost use Rattle.query_rules.specs.ScopeRules.{scopes_of};
+    ghost use Rattle.query_rules.specs.ScopeRules.{AreFew, scopes_of};
 
     ghost Value = { Scopes };
 
     ghost view = { λ s. scopes_of s.scopes.items };
+
+    ghost invariant = { λ s. AreFew (scopes_of s.scopes.items) };
 }
 
 impl<'a> Scopes<'a> {

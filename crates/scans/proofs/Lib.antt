@@ -1,16 +1,5 @@
-pub mod Tables
-pub mod Cells
 pub mod Runs
-pub mod Paths
 pub mod LookUps
 pub mod PathRuns
-pub mod WordRows
-pub mod Comparing
-pub mod Parts
-pub mod Coming
-pub mod Listed
-pub mod NullRows
-pub mod Tests
-pub mod Junctions
-pub mod Told
 pub mod Scanning
+pub mod Slots

@@ -1,25 +1,18 @@
 -- What conjuncts ask, as code has it.
 use Rattle.std.specs.Prelude.{ℕ, ◌≡◌, Some, slice_get}
-use Rattle.std.specs.List.{AllByRecursion}
 use Rattle.definitions.specs.Queries.BoundBlock.{Condition, Block}
-use Rattle.definitions.specs.Queries.Conjuncts.{conjuncts, values_of}
+use Rattle.definitions.specs.Queries.Conjuncts.{conjuncts}
 use Rattle.definitions.specs.Queries.Evaluation.{Environment}
-use Rattle.definitions.specs.Queries.Laws.{FitsTypes}
 use Rattle.sqlvalue.specs.Meaning.{value_of}
 use Rattle.columns.specs.Starts.{limit_of}
-use Rattle.expr.specs.Answers.{IsTyped}
 use Rattle.definitions_execution.specs.Asking as spec
+use Rattle.filters.specs.Evaluable.{CanEvaluate}
 use Rattle.scans.specs.declared.scan_key.ScanKey.{ScanKey}
 use Rattle.scans.specs.declared.scan_key.ScanKey.TheVariants as a
 
 abbrev pub asked_of : ScanKey → spec.ScanKey
 asked_of (a.EqualTo value) = spec.EqualTo (value_of value)
 asked_of (a.InRange low high) = spec.InRange (limit_of low) (limit_of high)
-
--- the values of a condition can be evaluated
-pub record CanEvaluate (env : Environment) (condition : Condition) : Type 0 where
-  pub fits : AllByRecursion (FitsTypes env) (values_of condition)
-  pub typed : AllByRecursion IsTyped (values_of condition)
 
 -- the conjunct of a number is there, and its values can be evaluated
 abbrev pub CanAsk : Environment → Block → ℕ → Type 0

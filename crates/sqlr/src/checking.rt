@@ -20,7 +20,7 @@ use crate::session::{Session, place_of, tell_cause};
 use crate::sink::Sink;
 use catalog::Database;
 use diagnostics::Planned;
-use syntax::Statement;
+use syntax::{LongList, Statement};
 
 /// The line of a script whose last statement has no query.
 const NOTHING: &[u8] = b"nothing to check\n";
@@ -47,9 +47,11 @@ impl<L: Library> Session<L> {
         ensures sink { IsSinkBlamed (S.failures sink.old) (S.failures sink.new) result }
     {
         match parse_script(self.alloc, script) {
-            Ok(statements) => self.check_statements(&statements, certificates, sink),
+            Ok(read) => {
+                self.check_statements(&read.statements, &read.long_lists, certificates, sink)
+            }
             Err(ScriptFault::Refused { refused, offset }) => {
-                sink.report(&refused, &self.database);
+                sink.report(&refused, &[], &self.database);
                 self.put_fault(refused.refusal, offset, sink)
             }
             Err(ScriptFault::Memory { offset }) => Err(RunFault::Memory { offset }),
@@ -59,6 +61,7 @@ impl<L: Library> Session<L> {
     fn check_statements<S: Sink>(
         &mut self,
         statements: &[Statement],
+        long_lists: &[LongList],
         certificates: &[u8],
         sink: &mut S,
     ) -> Result<Ended, RunFault>
@@ -75,8 +78,8 @@ impl<L: Library> Session<L> {
             return put_text(NOTHING, Ended::Faulted, sink);
         };
         match self.prepare(before, sink) {
-            Ok(None) => self.check_last(last, certificates, sink),
-            Ok(Some(printed)) => put_refused(&printed, &self.database, sink),
+            Ok(None) => self.check_last(last, long_lists, certificates, sink),
+            Ok(Some(printed)) => put_refused(&printed, long_lists, &self.database, sink),
             Err(fault) => Err(fault),
         }
     }
@@ -129,6 +132,7 @@ impl<L: Library> Session<L> {
     fn check_last<S: Sink>(
         &self,
         last: &Statement,
+        long_lists: &[LongList],
         certificates: &[u8],
         sink: &mut S,
     ) -> Result<Ended, RunFault>
@@ -144,7 +148,9 @@ impl<L: Library> Session<L> {
             return put_text(NOTHING, Ended::Faulted, sink);
         };
         match check_query(self.alloc, &self.database, query, certificates) {
-            Ok(Checked::Refused(printed)) => put_refused(&printed, &self.database, sink),
+            Ok(Checked::Refused(printed)) => {
+                put_refused(&printed, long_lists, &self.database, sink)
+            }
             Ok(Checked::Told(checked)) => {
                 let planned = Planned {
                     query,
@@ -175,6 +181,7 @@ fn if_refused<'a>(printed: Printed<'a>) -> Option<Printed<'a>>
 /// Tells a sink why a statement is refused, and puts its line.
 fn put_refused<S: Sink>(
     printed: &Printed<'_>,
+    long_lists: &[LongList],
     database: &Database,
     sink: &mut S,
 ) -> Result<Ended, RunFault>
@@ -185,7 +192,7 @@ fn put_refused<S: Sink>(
     ensures failed { OnErr result (S.failures sink.old < S.failures sink.new) }
     ensures unfailed { OnOk result (S.failures sink.new ≡ S.failures sink.old) }
 {
-    tell_cause(sink, &printed.told, database);
+    tell_cause(sink, &printed.told, long_lists, database);
     put_text(&printed.text, printed.ended, sink)
 }
 

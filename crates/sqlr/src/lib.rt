@@ -22,4 +22,4 @@ pub use ended::{Ended, RunFault, status};
 pub use library::{FetchFault, Fetched, Library};
 pub use session::Session;
 pub use sink::{Sink, SinkFault};
-pub use syntax::Name;
+pub use syntax::{LongList, Name};

@@ -10,7 +10,7 @@ use diagnostics::{Cause, Refused};
 use lexer::{LexFault, Token, lex};
 use sqlvalue::Refusal;
 use std::alloc::Global;
-use syntax::{Statement, SyntaxFault, check_script, parse};
+use syntax::{ScriptRead, SyntaxFault, check_script, parse};
 
 /// Why a script is not run.
 pub enum ScriptFault {
@@ -26,8 +26,8 @@ pub enum ScriptFault {
 }
 
 /// The statements of a script.
-pub fn parse_script(alloc: Global, script: &str) -> Result<Vec<Statement>, ScriptFault>
-    ensures statements { IfOk result (λ statements. AreStatements script.now (statements_of statements.items)) }
+pub fn parse_script(alloc: Global, script: &str) -> Result<ScriptRead, ScriptFault>
+    ensures statements { IfOk result (λ read. AreStatements script.now (statements_of read.statements.items)) }
     ensures fault { IfErr result (IsFault script.now) }
 {
     let tokens = match lex(alloc, script) {
@@ -35,7 +35,7 @@ pub fn parse_script(alloc: Global, script: &str) -> Result<Vec<Statement>, Scrip
         Err(fault) => return Err(lexical(fault)),
     };
     match parse(alloc, &tokens, script.len()) {
-        Ok(statements) => Ok(statements),
+        Ok(read) => Ok(read),
         Err(fault) => Err(syntactic(fault)),
     }
 }

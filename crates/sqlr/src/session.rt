@@ -28,7 +28,7 @@ use lexer::Token;
 use sqlvalue::{LOADED_ROOM, Refusal, write_fault, write_loaded};
 use std::alloc::Global;
 use std::marker::Model;
-use syntax::{Name, NoMemory, Select, Statement, StringLiteral, statement_at};
+use syntax::{LongList, Name, NoMemory, Select, Statement, StringLiteral, statement_at};
 
 /// A database, the library that LOAD finds its files in, and how many rows the last SELECT that printed rows has opened.
 #[derive(Drop)]
@@ -94,7 +94,7 @@ impl<L: Library> Session<L> {
         match read_script(self.alloc, script) {
             Ok(tokens) => self.run_statements(&tokens, sink),
             Err(ScriptFault::Refused { refused, offset }) => {
-                sink.report(&refused, &self.database);
+                sink.report(&refused, &[], &self.database);
                 self.put_fault(refused.refusal, offset, sink)
             }
             Err(ScriptFault::Memory { offset }) => Err(RunFault::Memory { offset }),
@@ -142,7 +142,7 @@ impl<L: Library> Session<L> {
                 Ok(read) => read,
                 Err(NoMemory { offset }) => return Err(RunFault::Memory { offset }),
             };
-            let ran = self.run_statement(&read.statement, sink);
+            let ran = self.run_statement(&read.statement, &read.long_lists, sink);
             at = read.next;
             drop(read);
             let own = ran?;
@@ -155,6 +155,7 @@ impl<L: Library> Session<L> {
     fn run_statement<S: Sink>(
         &mut self,
         statement: &Statement,
+        long_lists: &[LongList],
         sink: &mut S,
     ) -> Result<Ended, RunFault>
         ensures runs { IfOk result (RunsAll L.answers self.old (statement_of statement.now ∷ []) self.new
@@ -170,7 +171,7 @@ impl<L: Library> Session<L> {
             Err(StepFault::Memory) => return Err(RunFault::Memory { offset }),
             Err(StepFault::Library) => return Err(RunFault::Library { offset }),
         };
-        tell_cause(sink, &printed.told, &self.database);
+        tell_cause(sink, &printed.told, long_lists, &self.database);
         match sink.put(&printed.text) {
             Ok(()) => Ok(printed.ended),
             Err(_) => Err(RunFault::Sink),
@@ -291,12 +292,17 @@ impl<L: Library> Session<L> {
 }
 
 /// Tells a sink why a statement is refused, that it raises an exception, or that it has loaded a file, if it is, does or has.
-pub(crate) fn tell_cause<S: Sink>(sink: &mut S, told: &Option<Told>, database: &Database)
+pub(crate) fn tell_cause<S: Sink>(
+    sink: &mut S,
+    told: &Option<Told>,
+    long_lists: &[LongList],
+    database: &Database,
+)
     ensures taken { S.taken sink.new ≡ S.taken sink.old }
     ensures counted { S.failures sink.new ≡ S.failures sink.old }
 {
     match told {
-        Some(Told::Refused(refused)) => sink.report(refused, database),
+        Some(Told::Refused(refused)) => sink.report(refused, long_lists, database),
         Some(Told::Raised(raise)) => sink.report_exception(*raise),
         Some(Told::Loaded(table)) => sink.report_load(table, database),
         None => {}

@@ -9,7 +9,7 @@ ghost use Rattle.sqlr.specs.Devices.{Took, TookBeginning};
 use catalog::Database;
 use diagnostics::{CheckedFile, Planned, Progress, Refused};
 use sqlvalue::Raise;
-use syntax::Name;
+use syntax::{LongList, Name};
 use thiserror::Error;
 
 /// Takes what is printed, a statement's text as a whole, and is told what is not printed.
@@ -27,9 +27,10 @@ pub trait Sink {
         ensures failed { OnErr result (failures self.old < failures self.new) }
         ensures unfailed { OnOk result (failures self.new ≡ failures self.old) };
 
-    /// Is told why a script or a statement is refused, before its line is put, with the database that it
-    /// was refused over (own). It does nothing, unless a sink has another body.
-    fn report(&mut self, _refused: &Refused, _database: &Database)
+    /// Is told why a script or a statement is refused, before its line is put, with the lists that are past their limits,
+    /// whose elements its tree has not all, and with the database that it was refused over (own). It does nothing, unless a
+    /// sink has another body.
+    fn report(&mut self, _refused: &Refused, _long_lists: &[LongList], _database: &Database)
         ensures taken { taken self.new ≡ taken self.old }
         ensures counted { failures self.new ≡ failures self.old }
     {}

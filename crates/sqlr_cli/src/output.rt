@@ -6,7 +6,8 @@ use command_line::requests::{AnswerForm, RunOptions};
 use messages_statements::Reporter;
 use program_devices::{StandardError, tell_beside};
 use sqlr::{
-    CheckedFile, Failures, LoadProgress, Name, Planned, Progress, Refused, Sink, SinkFault,
+    CheckedFile, Failures, LoadProgress, LongList, Name, Planned, Progress, Refused, Sink,
+    SinkFault,
 };
 use sqlvalue::Raise;
 use std::alloc::Global;
@@ -70,9 +71,9 @@ impl<L: Ledger, R: Runtime + AllocGlobal, W: Write + Drop> Sink for Output<'_, '
         }
     }
 
-    fn report(&mut self, refused: &Refused, database: &Database) {
+    fn report(&mut self, refused: &Refused, long_lists: &[LongList], database: &Database) {
         if self.may_tell() {
-            let report = self.reporter.report(refused, database);
+            let report = self.reporter.report(refused, long_lists, database);
             let missing = report.missing_file();
             self.standard_error.print(report);
             if let Some(file) = missing {

@@ -44,12 +44,12 @@ fn ask(
         Err(LexFault::Memory { .. }) => return Err(ViewFault::Memory),
         Err(_) => return Err(unread(alloc)),
     };
-    let statements = match parse(alloc, &tokens, text.len()) {
-        Ok(statements) => statements,
+    let read = match parse(alloc, &tokens, text.len()) {
+        Ok(read) => read,
         Err(SyntaxFault::Memory { .. }) => return Err(ViewFault::Memory),
         Err(_) => return Err(unread(alloc)),
     };
-    match statements.last() {
+    match read.statements.last() {
         Some(Statement::Query(query)) => answers_of(alloc, text.as_str(), query, question),
         _ => Err(unread(alloc)),
     }

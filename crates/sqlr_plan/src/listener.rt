@@ -6,7 +6,9 @@ use catalog::Database;
 use messages_statements::Reporter;
 use plan_questions::PlanningScript;
 use program_devices::{StandardError, tell_beside};
-use sqlr::{CheckedFile, LoadProgress, Name, Planned, Progress, Refused, Sink, SinkFault};
+use sqlr::{
+    CheckedFile, LoadProgress, LongList, Name, Planned, Progress, Refused, Sink, SinkFault,
+};
 use sqlvalue::Raise;
 use std::alloc::AllocError;
 use std::rt::Runtime;
@@ -44,8 +46,8 @@ impl<R: Runtime + AllocGlobal> Sink for Listener<'_, '_, R> {
         Ok(())
     }
 
-    fn report(&mut self, refused: &Refused, database: &Database) {
-        let report = self.reporter.report(refused, database);
+    fn report(&mut self, refused: &Refused, long_lists: &[LongList], database: &Database) {
+        let report = self.reporter.report(refused, long_lists, database);
         let missing = report.missing_file();
         self.standard_error.print(report);
         if let Some(file) = missing {

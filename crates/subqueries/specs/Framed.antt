@@ -2,9 +2,9 @@
 use Rattle.std.specs.Prelude.{List, length, map, reverse}
 use Rattle.definitions.specs.Queries.Evaluation.{Combination}
 use Rattle.definitions_execution.specs.OfBlock.{combination_of}
-use Rattle.scans.specs.Composites.{numbers_in}
-use Rattle.scans.specs.declared.composite.Composite.{Composite}
-use Rattle.scans.specs.Sources.{BlockSource, block_in}
+use Rattle.filters.specs.Composites.{numbers_in}
+use Rattle.filters.specs.declared.composite.Composite.{Composite}
+use Rattle.filters.specs.Sources.{BlockSource, block_in}
 use Rattle.subqueries.specs.declared.frames.Frame.{Frame}
 use Rattle.subqueries.specs.declared.frames.Frames.{Frames}
 

@@ -8,7 +8,7 @@ ghost use Rattle.subqueries.specs.OuterColumns.{outer_columns_of};
 
 use crate::kept_results::{KeptResults, key_in};
 use crate::parameters::OuterColumn;
-use scans::OuterRows;
+use filters::OuterRows;
 use sqlvalue::OwnedValue;
 use std::alloc::Global;
 

@@ -4,8 +4,8 @@ ghost use Rattle.std.specs.Prelude.{◌≡◌, ◌∷◌, [], List, OnErr, OnOk,
 ghost use Rattle.definitions.specs.Queries.Evaluation.{Combination};
 ghost use Rattle.subqueries.specs.Framed.{combination_in, combinations_in};
 
+use filters::{BlockSource, Composite, OuterRows};
 use query_tree::BlockColumn;
-use scans::{BlockSource, Composite, OuterRows};
 use sqlvalue::Value;
 use std::alloc::{AllocError, Global};
 

@@ -12,8 +12,8 @@ ghost use Rattle.subqueries.specs.OuterColumns.{outer_columns_of};
 use crate::memory::bytes_of_key;
 use crate::parameters::OuterColumn;
 use crate::telling::Told;
+use filters::OuterRows;
 use query_tree::Quantifier;
-use scans::OuterRows;
 use sqlvalue::{ComparisonOperator, Num, OwnedValue, Raise, Tri, Value};
 use std::alloc::{AllocError, Global};
 

@@ -1,3 +1,4 @@
+mod KeptLists
 mod Lines
 mod Places
 mod Scripts

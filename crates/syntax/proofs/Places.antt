@@ -25,7 +25,7 @@ use Rattle.syntax_cursor.specs.Places.{Leaf, Placed, Reserved, Mark, Stand, Stan
 use Rattle.syntax_cursor.specs.Places as s
 use Rattle.syntax_cursor.specs.Reading.{Place, Eats, EatsAsterisk, Takes, starts_of}
 use Rattle.syntax_cursor.proofs.Places.{stays, past, says_passed}
-use Rattle.syntax.specs.Places.{sign_leaf, op_leaf, operator_leaf, function_leaf, all, same, reference_leaves, source_leaves, expr_layer, list_layer, block_layer, item_layer, operand_layer, expr_leaves, list_leaves, block_leaves, item_leaves, operand_leaves}
+use Rattle.syntax.specs.Places.{StandsToEnd, sign_leaf, op_leaf, operator_leaf, function_leaf, all, same, reference_leaves, source_leaves, expr_layer, list_layer, block_layer, item_layer, operand_layer, expr_leaves, list_leaves, block_leaves, item_leaves, operand_leaves}
 
 -- ---- lists of parts
 
@@ -214,16 +214,17 @@ is_count p q spec.Min at = absurd (different at.0)
 is_count p q spec.Max at = absurd (different at.0)
 
 -- a leaf that the tree does not keep
-unkept : (token : Placed) (a b : List Placed) → has_leaf token.leaf ≡ false → Stand a (token ∷ []) b → Stand a [] b
-unkept token a b h d = dropped a (token ∷ []) b h refl d
+unkept : (n : ℕ) (token : Placed) (a b : List Placed) → has_leaf token.leaf ≡ false → Stand n a (token ∷ []) b → Stand n a [] b
+unkept n token a b h d = dropped n a (token ∷ []) b h refl d
   where
-    dropped : (a xs b : List Placed) → has_leaf token.leaf ≡ false → xs ≡ token ∷ [] → Stand a xs b → Stand a [] b
-    dropped a xs b h e (s.none a' b' f) = absurd cc
-    dropped a xs b h e (s.passed other a' ys b' k d) = s.passed other a' [] b' k (dropped a' ys b' h e d)
-    dropped a xs b h e (s.leaf other a' ys b' d) = let f : other ≡ token = cc in let k : ys ≡ [] = cc in s.passed other a' [] b' (ap (λ (z : Placed). has_leaf z.leaf) f ∙ h) (subst (λ z. Stand a' z b') k d)
+    dropped : (n : ℕ) (a xs b : List Placed) → has_leaf token.leaf ≡ false → xs ≡ token ∷ [] → Stand n a xs b → Stand n a [] b
+    dropped n a xs b h e (s.none m a' b' f) = absurd cc
+    dropped n a xs b h e (s.passed m other a' ys b' k d) = s.passed m other a' [] b' k (dropped m a' ys b' h e d)
+    dropped n a xs b h e (s.leaf m other a' ys b' d) = let f : other ≡ token = cc in let k : ys ≡ [] = cc in s.passed m other a' [] b' (ap (λ (z : Placed). has_leaf z.leaf) f ∙ h) (subst (λ z. Stand m a' z b') k d)
+    dropped n a xs b h e (s.left_out m others comma a' elements behind ys b' k l f d) = s.left_out m others comma a' elements behind [] b' k l f (dropped others behind ys b' h e d)
 
 pub without_leaf : {p q : Place} {token : Placed} → has_leaf token.leaf ≡ false → Stands p q (token ∷ []) → Stands p q []
-without_leaf {p = p} {q = q} {token = token} h d = record { stand = unkept token (left_at p) (left_at q) h d.stand }
+without_leaf {p = p} {q = q} {token = token} h d = record { lists = d.lists; noted = d.noted; stand = unkept d.lists token (left_at p) (left_at q) h d.stand }
 
 -- ---- whole scripts
 
@@ -231,7 +232,7 @@ beside_all : (tokens : List Token) → beside (kinds_of tokens) (starts_of token
 beside_all [] = refl
 beside_all (x ∷ xs) = ap (λ z. placed_of (token_of x) ∷ z) (beside_all xs)
 
-pub left_at_first : (tokens : List Token) → left_at (record { tokens = kinds_of tokens; starts = starts_of tokens; at = 0 }) ≡ map placed_of (tokens_of tokens)
+pub left_at_first : (tokens : List Token) → left_at (record { tokens = kinds_of tokens; starts = starts_of tokens; at = 0; long_lists = 0 }) ≡ map placed_of (tokens_of tokens)
 left_at_first tokens = beside_all tokens
 
 none_behind : (kinds : List TokenKind) (starts : List ℕ) (at : ℕ) → at ≡ length kinds → drop at (beside kinds starts) ≡ []
@@ -242,5 +243,5 @@ none_behind (k ∷ ks) [] (suc at) e = none_behind ks [] at (omega (arith, e))
 none_behind (k ∷ ks) (n ∷ ns) (suc at) e = none_behind ks ns at (omega (arith, e))
 
 -- at the end no token is left
-pub ended : (from p : Place) (xs : List Placed) → Stands from p xs → p.at ≡ length p.tokens → Stand (left_at from) xs []
-ended from p xs d e = subst (λ z. Stand (left_at from) xs z) (none_behind p.tokens p.starts p.at e) d.stand
+pub ended : (from p : Place) (xs : List Placed) → Stands from p xs → p.at ≡ length p.tokens → StandsToEnd from p xs
+ended from p xs d e = record { lists = d.lists; noted = d.noted; stand = subst (λ z. Stand d.lists (left_at from) xs z) (none_behind p.tokens p.starts p.at e) d.stand }

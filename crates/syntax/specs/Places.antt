@@ -1,5 +1,5 @@
 -- The leaves of statements in text order: each name, literal and operator, and where it stands.
-use Rattle.std.specs.Prelude.{Bool, true, false, List, [], ◌∷◌, ◌++◌}
+use Rattle.std.specs.Prelude.{ℕ, ◌+◌, ◌≤◌, Bool, true, false, List, [], ◌∷◌, ◌++◌}
 use Rattle.definitions.specs.Statement as spec
 use Rattle.definitions.specs.Token as t
 use Rattle.definitions.specs.Word as w
@@ -26,7 +26,8 @@ use Rattle.parse_tree.specs.declared.statement.Range.{Range}
 use Rattle.parse_tree.specs.declared.statement.IndexStatistics.{IndexStatistics}
 use Rattle.parse_tree.specs.declared.statement.Statement.{Statement}
 use Rattle.parse_tree.specs.declared.statement.Statement.TheVariants as s
-use Rattle.syntax_cursor.specs.Places.{Leaf, Placed, Reserved, Mark, one, if_there, name_leaves, numeral_leaves}
+use Rattle.syntax_cursor.specs.Reading.{Place}
+use Rattle.syntax_cursor.specs.Places.{Leaf, Placed, Stand, left_at, Reserved, Mark, one, if_there, name_leaves, numeral_leaves}
 use Rattle.syntax_cursor.specs.Places.{string_leaves, count_leaves}
 
 -- ---- operators
@@ -134,6 +135,12 @@ abbrev pub operand_leaves : Operand → List Placed
 operand_leaves =
     fold-Operand (List Placed) (List Placed) (List Placed) (List Placed) (List Placed) expr_layer list_layer block_layer
     item_layer operand_layer
+
+-- leaves are those of all tokens from a place on, but of as many lists as are noted from there to another place
+pub record StandsToEnd (p q : Place) (leaves : List Placed) : Type 0 where
+  pub lists : ℕ
+  pub noted : p.long_lists + lists ≤ q.long_lists
+  pub stand : Stand lists (left_at p) leaves []
 
 -- ---- statements
 

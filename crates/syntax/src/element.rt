@@ -1,12 +1,16 @@
-//! Lists of what has no levels: names, columns, sources, keys.
+//! Lists: what is kept of them, and those of what has no levels: names, columns, sources, keys.
 
-ghost use Rattle.std.specs.Prelude.{◌<◌, map, length, IfOk};
+ghost use Rattle.std.specs.Prelude.{◌≡◌, ◌<◌, map, length, IfOk, IfErr, OnOk};
 ghost use Rattle.definitions.specs.Grammar.{ListOf};
+ghost use Rattle.parse_tree.specs.Lists.{most_of};
+ghost use Rattle.syntax_cursor.specs.declared.stop.ParseStop.TheVariants as stop;
 ghost use Rattle.syntax_cursor.specs.Places.{Stands};
 ghost use Rattle.syntax_cursor.specs.Reading.{ParsesFlat, viewed};
+ghost use Rattle.syntax.specs.Lists.{IsKept};
 ghost use Rattle.syntax.specs.Places.{all};
 
 use lexer::Symbol;
+use parse_tree::{ListKind, ListPlace};
 use syntax_cursor::{Cursor, ParseStop};
 
 /// An element of a list: what stands between two commas.
@@ -33,9 +37,9 @@ pub trait Element: Drop {
         ensures placed { IfOk result (λ x. Stands cursor.old cursor.new (leaves x)) };
 }
 
-/// `element { "," element }`.
-pub fn comma_list<T: Element>(cursor: &mut Cursor) -> Result<Vec<T>, ParseStop>
-    ensures reads { ParsesFlat (ListOf T.rule) cursor.old cursor.new (viewed (λ (xs : _).
+/// `element { "," element }`, of a list that has its place in a statement.
+pub fn comma_list<T: Element>(cursor: &mut Cursor, place: ListPlace) -> Result<Vec<T>, ParseStop>
+    ensures reads { ParsesFlat (ListOf (most_of place.kind) T.rule) cursor.old cursor.new (viewed (λ (xs : _).
         map T.tree_of xs.items) result) }
     ensures some { IfOk result (λ xs. 0 < length xs.items) }
     ensures placed { IfOk result (λ xs. Stands cursor.old cursor.new (all T.leaves xs.items)) }
@@ -43,12 +47,26 @@ pub fn comma_list<T: Element>(cursor: &mut Cursor) -> Result<Vec<T>, ParseStop>
     let mut elements = Vec::new(cursor.alloc);
     let first = T::read(cursor)?;
     elements.push(first)?;
+    let mut count: usize = 1;
     'elements: loop {
         if !cursor.eat_symbol(Symbol::Comma) {
             break;
         }
         let element = T::read(cursor)?;
-        elements.push(element)?;
+        keep(&mut elements, place.kind, element)?;
+        count = count.saturating_add(1);
     }
+    cursor.end_list(place, elements.len(), count)?;
     Ok(elements)
+}
+
+/// Keeps an element of a list that is read, unless one more than are allowed are kept already.
+pub fn keep<T: Drop>(kept: &mut Vec<T>, kind: ListKind, element: T) -> Result<(), ParseStop>
+    ensures ok { OnOk result (IsKept (most_of kind) kept.old.items element kept.new.items) }
+    ensures memory { IfErr result (λ fault. fault ≡ stop.Memory) }
+{
+    if kept.len() <= kind.most() {
+        kept.push(element)?;
+    }
+    Ok(())
 }

@@ -3,6 +3,7 @@
 ghost use Rattle.std.specs.Prelude.{◌+◌, ◌++◌, [], IfOk, map, Ok};
 ghost use Rattle.definitions.specs.Grammar as grammar;
 ghost use Rattle.definitions.specs.Grammar.{within};
+ghost use Rattle.definitions.specs.Limits.{most_members};
 ghost use Rattle.definitions.specs.Token.{OpenParen, Reserved};
 ghost use Rattle.definitions.specs.Word as words;
 ghost use Rattle.lexer.specs.Meaning.{word_of};
@@ -15,9 +16,12 @@ ghost use Rattle.syntax_cursor.specs.Reading.{Eats, EatsAsterisk, Parses, Parses
 ghost use Rattle.syntax.specs.Places.{all, block_leaves, expr_leaves, function_leaf, op_leaf, reference_leaves};
 ghost use Rattle.syntax.specs.Reading.{LineAt, OperandAt};
 
+use crate::element::keep;
 use crate::query;
 use lexer::{Symbol, Word};
-use parse_tree::{Block, ColumnReference, ComparisonOperator, Expr, Operand, SetFunction};
+use parse_tree::{
+    Block, ColumnReference, ComparisonOperator, Expr, ListKind, ListPlace, Operand, SetFunction,
+};
 use syntax_cursor::{Cursor, LineKind, ParseStop, TokenClass};
 
 /// `operand { operator operand }`, of one of the four kinds (ISO/IEC 9075:1992, 8.12 and 6.12).
@@ -277,7 +281,7 @@ fn in_list(
             query,
         });
     }
-    let members = members(cursor, levels)?;
+    let members = members(cursor, start, levels)?;
     cursor.expect_symbol(Symbol::CloseParen)?;
     Ok(Expr::InList {
         start,
@@ -287,24 +291,28 @@ fn in_list(
     })
 }
 
-/// `member { "," member }`.
+/// `member { "," member }`, behind the word IN at an offset.
 #[cycle(expressions)]
 #[inline(never)]
-fn members(cursor: &mut Cursor, levels: u8) -> Result<Vec<Option<Expr>>, ParseStop>
-    ensures reads { Parses (λ m. grammar.ListOf (grammar.MemberOf (within m))) levels cursor.old cursor.new
+fn members(cursor: &mut Cursor, owner: usize, levels: u8) -> Result<Vec<Option<Expr>>, ParseStop>
+    ensures reads { Parses (λ m. grammar.ListOf most_members (grammar.MemberOf (within m))) levels cursor.old cursor.new
         (viewed (λ (xs : _). map member_of xs.items) result) }
     ensures placed { IfOk result (λ xs. Stands cursor.old cursor.new (all (if_there expr_leaves) xs.items)) }
 {
     let mut members = Vec::new(cursor.alloc);
     let first = member(cursor, levels)?;
     members.push(first)?;
+    let mut count: usize = 1;
     'members: loop {
         if !cursor.eat_symbol(Symbol::Comma) {
             break;
         }
         let member = member(cursor, levels)?;
-        members.push(member)?;
+        keep(&mut members, ListKind::Members, member)?;
+        count = count.saturating_add(1);
     }
+    let kind = ListKind::Members;
+    cursor.end_list(ListPlace { kind, owner }, members.len(), count)?;
     Ok(members)
 }
 

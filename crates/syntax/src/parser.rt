@@ -6,15 +6,15 @@ ghost use Rattle.definitions.specs.Statement as tree;
 ghost use Rattle.definitions.specs.Grammar.{Derives, ScriptAt};
 ghost use Rattle.lexer.specs.Meaning.{kinds_of, tokens_of};
 ghost use Rattle.parse_tree.specs.Trees.{statement_of, statements_of};
-ghost use Rattle.syntax_cursor.specs.Places.{Placed, Stand, StandIn, Stands, left_at, placed_of};
+ghost use Rattle.syntax_cursor.specs.Places.{Placed, Stand, StandIn, Stands, placed_of};
 ghost use Rattle.syntax_cursor.specs.Reading.{viewed};
-ghost use Rattle.syntax.specs.Places.{all, statement_leaves};
+ghost use Rattle.syntax.specs.Places.{StandsToEnd, all, statement_leaves};
 ghost use Rattle.syntax.specs.Reading.{IsSyntaxFault, ParsesScript, ParsesStatement, SkimsScript, TellsStop};
 
 use crate::fault::{NoMemory, SyntaxFault, fault_of};
 use crate::statement::statement;
 use lexer::{Symbol, Token, TokenKind};
-use parse_tree::Statement;
+use parse_tree::{LongList, Statement};
 use std::alloc::Global;
 use syntax_cursor::{Cursor, ParseStop, Wanted};
 
@@ -25,21 +25,34 @@ pub const MAX_LEVELS: u8 = 64;
 #[derive(Drop)]
 pub struct StatementRead {
     pub statement: Statement,
+    /// Its lists past their limits, of which it has not all elements.
+    pub long_lists: Vec<LongList>,
     /// The place of the token behind its semicolon.
     pub next: usize,
 }
 
+/// All statements of a script.
+#[derive(Drop)]
+pub struct ScriptRead {
+    pub statements: Vec<Statement>,
+    /// Their lists past their limits, of which they have not all elements.
+    pub long_lists: Vec<LongList>,
+}
+
 /// The statements that the tokens of a script are, `{ statement ";" }`, with each name, literal and
 /// operator where its token stands; `end` is the script's length in bytes.
-pub fn parse(alloc: Global, tokens: &[Token], end: usize) -> Result<Vec<Statement>, SyntaxFault>
-    ensures derived { IfOk result (λ statements. Derives (kinds_of tokens.now) (statements_of statements.items)) }
-    ensures placed { IfOk result (λ statements. StandIn (all statement_leaves statements.items)
-        (tokens_of tokens.now)) }
+pub fn parse(alloc: Global, tokens: &[Token], end: usize) -> Result<ScriptRead, SyntaxFault>
+    ensures derived { IfOk result (λ read. Derives (kinds_of tokens.now) (statements_of read.statements.items)) }
+    ensures placed { IfOk result (λ read. StandIn (length read.long_lists.items)
+        (all statement_leaves read.statements.items) (tokens_of tokens.now)) }
     ensures fault { IfErr result (IsSyntaxFault (tokens_of tokens.now) end) }
 {
     let mut cursor = Cursor::new(alloc, tokens, None);
     match script(alloc, &mut cursor) {
-        Ok(statements) => Ok(statements),
+        Ok(statements) => Ok(ScriptRead {
+            statements,
+            long_lists: cursor.into_long_lists(),
+        }),
         Err(stop) => Err(fault_at(alloc, tokens, end, stop, cursor.start())),
     }
 }
@@ -67,15 +80,19 @@ pub fn statement_at(alloc: Global, tokens: &[Token], at: usize) -> Result<Statem
         × (statements ≡ statement_of read.statement ∷ rest)
         × ScriptAt most_levels (kinds_of tokens.now) read.next rest) }
     ensures further { IfOk result (λ read. at < read.next) }
-    ensures placed { IfOk result (λ read. (left : List Placed)
-        × Stand (drop at (map placed_of (tokens_of tokens.now))) (statement_leaves read.statement) left) }
+    ensures placed { IfOk result (λ read. (left : List Placed) × Stand (length read.long_lists.items)
+        (drop at (map placed_of (tokens_of tokens.now))) (statement_leaves read.statement) left) }
 {
     let mut cursor = Cursor::at_place(alloc, tokens, at);
     match ended_statement(&mut cursor) {
-        Ok(statement) => Ok(StatementRead {
-            statement,
-            next: cursor.place(),
-        }),
+        Ok(statement) => {
+            let next = cursor.place();
+            Ok(StatementRead {
+                statement,
+                long_lists: cursor.into_long_lists(),
+                next,
+            })
+        }
         Err(ParseStop::Memory) => Err(NoMemory {
             offset: cursor.start(),
         }),
@@ -124,7 +141,7 @@ fn behind_semicolon(tokens: &[Token]) -> usize {
 /// `{ statement ";" }`, up to the end of the tokens.
 fn script(alloc: Global, cursor: &mut Cursor) -> Result<Vec<Statement>, ParseStop>
     ensures reads { ParsesScript cursor.old (viewed (λ (xs : _). statements_of xs.items) result) }
-    ensures placed { IfOk result (λ xs. Stand (left_at cursor.old) (all statement_leaves xs.items) []) }
+    ensures placed { IfOk result (λ xs. StandsToEnd cursor.old cursor.new (all statement_leaves xs.items)) }
 {
     let mut statements = Vec::new(alloc);
     'statements: while !cursor.is_at_end() {

@@ -5,6 +5,7 @@ ghost use Rattle.definitions.specs.Token.{Reserved};
 ghost use Rattle.definitions.specs.Word as spec;
 ghost use Rattle.definitions.specs.Grammar as grammar;
 ghost use Rattle.definitions.specs.Grammar.{within};
+ghost use Rattle.definitions.specs.Limits.{most_items};
 ghost use Rattle.lexer.specs.Meaning.{word_of};
 ghost use Rattle.parse_tree.specs.Trees.{block_of, column_of, condition_of, item_of, key_of, key_name_of, list_of, name_of, select_of, source_of};
 ghost use Rattle.syntax_cursor.specs.Places as leaf;
@@ -12,11 +13,12 @@ ghost use Rattle.syntax_cursor.specs.Places.{Stands, has_leaf, if_there, name_le
 ghost use Rattle.syntax_cursor.specs.Reading.{Given, Parses, ParsesFlat, viewed};
 ghost use Rattle.syntax.specs.Places.{all, block_leaves, expr_leaves, item_leaves, key_leaves, key_name_leaves, list_leaves, reference_leaves, select_leaves};
 
-use crate::element::{Element, comma_list};
+use crate::element::{Element, comma_list, keep};
 use crate::expr;
 use lexer::{Symbol, Word};
 use parse_tree::{
-    Block, ColumnReference, Expr, Item, Key, KeyName, Name, Select, SelectList, Source, Sources,
+    Block, ColumnReference, Expr, Item, Key, KeyName, ListKind, ListPlace, Name, Select,
+    SelectList, Source, Sources,
 };
 use syntax_cursor::{Cursor, LineKind, ParseStop, TokenClass};
 
@@ -29,11 +31,15 @@ pub fn block(cursor: &mut Cursor, levels: u8) -> Result<Block, ParseStop>
     let start = cursor.start();
     cursor.expect_word(Word::Select)?;
     let distinct = distinct(cursor);
-    let list = select_list(cursor, levels)?;
+    let list = select_list(cursor, start, levels)?;
     cursor.expect_word(Word::From)?;
-    let tables = comma_list::<Source>(cursor)?;
+    let place = ListPlace {
+        kind: ListKind::Tables,
+        owner: start,
+    };
+    let tables = comma_list::<Source>(cursor, place)?;
     let condition = condition_behind(cursor, Word::Where, levels)?;
-    let groups = groups(cursor)?;
+    let groups = groups(cursor, start)?;
     let having = condition_behind(cursor, Word::Having, levels)?;
     Ok(Block {
         start,
@@ -57,10 +63,10 @@ pub fn distinct(cursor: &mut Cursor) -> bool
     cursor.eat_word(Word::Distinct)
 }
 
-/// `"*" | item { "," item }` (ISO/IEC 9075:1992, 7.9).
+/// `"*" | item { "," item }`, of a block that begins at an offset (ISO/IEC 9075:1992, 7.9).
 #[cycle(expressions)]
 #[inline(never)]
-fn select_list(cursor: &mut Cursor, levels: u8) -> Result<SelectList, ParseStop>
+fn select_list(cursor: &mut Cursor, owner: usize, levels: u8) -> Result<SelectList, ParseStop>
     ensures reads { Parses (λ m. grammar.SelectListOf (within m)) levels cursor.old cursor.new (viewed list_of result) }
     ensures placed { IfOk result (λ list. Stands cursor.old cursor.new (list_leaves list)) }
 {
@@ -68,27 +74,31 @@ fn select_list(cursor: &mut Cursor, levels: u8) -> Result<SelectList, ParseStop>
     if cursor.eat_symbol(Symbol::Asterisk) {
         return Ok(SelectList::Asterisk { start });
     }
-    let items = items(cursor, levels)?;
+    let items = items(cursor, owner, levels)?;
     Ok(SelectList::Items(items))
 }
 
 #[cycle(expressions)]
 #[inline(never)]
-fn items(cursor: &mut Cursor, levels: u8) -> Result<Vec<Item>, ParseStop>
-    ensures reads { Parses (λ m. grammar.ListOf (grammar.ItemOf (within m))) levels cursor.old cursor.new
+fn items(cursor: &mut Cursor, owner: usize, levels: u8) -> Result<Vec<Item>, ParseStop>
+    ensures reads { Parses (λ m. grammar.ListOf most_items (grammar.ItemOf (within m))) levels cursor.old cursor.new
         (viewed (λ (xs : _). map item_of xs.items) result) }
     ensures placed { IfOk result (λ xs. Stands cursor.old cursor.new (all item_leaves xs.items)) }
 {
     let mut items = Vec::new(cursor.alloc);
     let first = item(cursor, levels)?;
     items.push(first)?;
+    let mut count: usize = 1;
     'items: loop {
         if !cursor.eat_symbol(Symbol::Comma) {
             break;
         }
         let item = item(cursor, levels)?;
-        items.push(item)?;
+        keep(&mut items, ListKind::Items, item)?;
+        count = count.saturating_add(1);
     }
+    let kind = ListKind::Items;
+    cursor.end_list(ListPlace { kind, owner }, items.len(), count)?;
     Ok(items)
 }
 
@@ -133,9 +143,9 @@ fn condition_behind(cursor: &mut Cursor, word: Word, levels: u8) -> Result<Optio
     Ok(Some(condition))
 }
 
-/// `[ GROUP BY column { "," column } ]` (ISO/IEC 9075:1992, 7.7).
+/// `[ GROUP BY column { "," column } ]`, of a block that begins at an offset (ISO/IEC 9075:1992, 7.7).
 #[inline(never)]
-fn groups(cursor: &mut Cursor) -> Result<Vec<ColumnReference>, ParseStop>
+fn groups(cursor: &mut Cursor, owner: usize) -> Result<Vec<ColumnReference>, ParseStop>
     ensures reads { ParsesFlat grammar.GroupsAt cursor.old cursor.new (viewed (λ (xs : _).
         map column_of xs.items) result) }
     ensures placed { IfOk result (λ xs. Stands cursor.old cursor.new (all reference_leaves xs.items)) }
@@ -144,7 +154,8 @@ fn groups(cursor: &mut Cursor) -> Result<Vec<ColumnReference>, ParseStop>
         return Ok(Vec::new(cursor.alloc));
     }
     cursor.expect_word(Word::By)?;
-    comma_list::<ColumnReference>(cursor)
+    let kind = ListKind::GroupColumns;
+    comma_list::<ColumnReference>(cursor, ListPlace { kind, owner })
 }
 
 /// A query: `block [ ORDER BY key { "," key } ]` (ISO/IEC 9075:1992, 13.1).
@@ -153,11 +164,12 @@ pub fn select(cursor: &mut Cursor, levels: u8) -> Result<Select, ParseStop>
     ensures placed { IfOk result (λ select. Stands cursor.old cursor.new (select_leaves select)) }
 {
     let block = block(cursor, levels)?;
-    let order = order(cursor)?;
+    let order = order(cursor, block.start)?;
     Ok(Select { block, order })
 }
 
-fn order(cursor: &mut Cursor) -> Result<Vec<Key>, ParseStop>
+/// `[ ORDER BY key { "," key } ]`, of a query that begins at an offset.
+fn order(cursor: &mut Cursor, owner: usize) -> Result<Vec<Key>, ParseStop>
     ensures reads { ParsesFlat grammar.OrderAt cursor.old cursor.new (viewed (λ (xs : _). map key_of xs.items) result) }
     ensures placed { IfOk result (λ xs. Stands cursor.old cursor.new (all key_leaves xs.items)) }
 {
@@ -165,7 +177,8 @@ fn order(cursor: &mut Cursor) -> Result<Vec<Key>, ParseStop>
         return Ok(Vec::new(cursor.alloc));
     }
     cursor.expect_word(Word::By)?;
-    comma_list::<Key>(cursor)
+    let kind = ListKind::Keys;
+    comma_list::<Key>(cursor, ListPlace { kind, owner })
 }
 
 /// `name | count`.

@@ -12,7 +12,10 @@ ghost use Rattle.syntax.specs.Places.{all, bound_leaves, statistics_leaves, rang
 use crate::element::{Element, comma_list};
 use crate::query;
 use lexer::{Symbol, Word};
-use parse_tree::{Bound, ColumnDefinition, Constraint, IndexStatistics, Name, Range, Statement};
+use parse_tree::{
+    Bound, ColumnDefinition, Constraint, IndexStatistics, ListKind, ListPlace, Name, Range,
+    Statement,
+};
 use sqlvalue::DeclaredType;
 use syntax_cursor::{Cursor, ParseStop, TokenClass, TypeWord};
 
@@ -55,7 +58,11 @@ fn create_table(cursor: &mut Cursor) -> Result<Statement, ParseStop>
 {
     let name = cursor.name(TokenClass::Name)?;
     cursor.expect_symbol(Symbol::OpenParen)?;
-    let columns = comma_list::<ColumnDefinition>(cursor)?;
+    let place = ListPlace {
+        kind: ListKind::Columns,
+        owner: name.start,
+    };
+    let columns = comma_list::<ColumnDefinition>(cursor, place)?;
     cursor.expect_symbol(Symbol::CloseParen)?;
     Ok(Statement::CreateTable { name, columns })
 }
@@ -69,7 +76,7 @@ fn create_index(cursor: &mut Cursor) -> Result<Statement, ParseStop>
     cursor.expect_word(Word::Index)?;
     cursor.expect_word(Word::On)?;
     let table = cursor.name(TokenClass::Name)?;
-    let columns = names(cursor)?;
+    let columns = names(cursor, table.start)?;
     Ok(Statement::CreateIndex {
         unique,
         table,
@@ -77,14 +84,15 @@ fn create_index(cursor: &mut Cursor) -> Result<Statement, ParseStop>
     })
 }
 
-/// `"(" name { "," name } ")"`.
-fn names(cursor: &mut Cursor) -> Result<Vec<Name>, ParseStop>
+/// `"(" name { "," name } ")"`, behind the name of a table at an offset.
+fn names(cursor: &mut Cursor, owner: usize) -> Result<Vec<Name>, ParseStop>
     ensures reads { ParsesFlat grammar.NamesAt cursor.old cursor.new (viewed (λ (xs : _).
         map name_of xs.items) result) }
     ensures placed { IfOk result (λ xs. Stands cursor.old cursor.new (all name_leaves xs.items)) }
 {
     cursor.expect_symbol(Symbol::OpenParen)?;
-    let names = comma_list::<Name>(cursor)?;
+    let kind = ListKind::IndexColumns;
+    let names = comma_list::<Name>(cursor, ListPlace { kind, owner })?;
     cursor.expect_symbol(Symbol::CloseParen)?;
     Ok(names)
 }
@@ -190,7 +198,7 @@ fn set_statistics(cursor: &mut Cursor) -> Result<Statement, ParseStop>
         let pages = cursor.count()?;
         return Ok(Statement::SetTableStatistics { table, rows, pages });
     }
-    let columns = names(cursor)?;
+    let columns = names(cursor, table.start)?;
     let statistics = index_statistics(cursor)?;
     Ok(Statement::SetIndexStatistics {
         table,

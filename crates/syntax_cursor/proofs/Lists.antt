@@ -1,13 +1,15 @@
 -- Lists and lines, element by element: what the rest comes to, the whole comes to.
-use Rattle.std.proofs.Common.{◌≡◌, ◌∙◌, refl, sym, ap, subst, ℕ, ◌-◌, ◌<◌, ◌≤◌, length, map, List, [], ◌∷◌, ◌++◌, Option, Some, None, Result, Ok, Err, arith, append_assoc, append-nil}
+use Rattle.std.proofs.Common.{◌≡◌, ◌∙◌, refl, sym, ap, subst, ℕ, ◌-◌, ◌<◌, ◌≤◌, ◌+◌, length, take, map, List, [], ◌∷◌, ◌++◌, Option, Some, None, Result, Ok, Err, arith, append_assoc, append-nil}
 use Rattle.std.specs.Prelude.{slice_get}
+use Rattle.std.proofs.lemmas.List.{take_all}
+use Rattle.std.proofs.Math.Seq.{take-append_seam}
 use Rattle.definitions.specs.Token.{TokenKind, Mark, Comma}
 use Rattle.definitions.specs.Rule.{Rule, At, NotAt, Gives, Then, Repeats}
 use Rattle.definitions.specs.Rule as g
 use Rattle.definitions.specs.Grammar.{ListOf, comma_in}
 use Rattle.definitions.proofs.Alike.{Alike}
 use Rattle.syntax_cursor.specs.declared.stop.ParseStop.{ParseStop}
-use Rattle.syntax_cursor.specs.Reading.{Place, IsNext, Outcome, viewed}
+use Rattle.syntax_cursor.specs.Reading.{Place, IsNext, EndsList, Outcome, viewed}
 use Rattle.syntax_cursor.specs.Reading as r
 use Rattle.syntax_cursor.proofs.Stopping.{nowhere_first, nowhere_joined, nowhere_repeats, stops_as, gives_here}
 use Rattle.syntax_cursor.proofs.Tokens.{inside}
@@ -64,23 +66,50 @@ no_comma_in : (o : Option TokenKind) → ¬ (o ≡ Some (Mark Comma)) → comma_
 no_comma_in (Some (Mark Comma)) h = absurd (h refl)
 no_comma_in _ h = refl
 
-module _ {X : Type 0} (rule : ℕ → Rule X) (levels least : ℕ) where
-  -- elements so far, and behind them whatever the rest comes to
+viewed_twice : {A B C : Type 0} (f : B → C) (g : A → B) (o : Result A ParseStop) → viewed f (viewed g o) ≡ viewed (λ x. f (g x)) o
+viewed_twice f g (Ok x) = refl
+viewed_twice f g (Err stop) = refl
+
+all_kept : {X : Type 0} (n : ℕ) (xs ys : List X) → length xs ≡ n → take n (xs ++ ys) ≡ xs
+all_kept n xs ys e = rw (sym e) (take-append_seam xs ys)
+
+module _ {X : Type 0} (rule : ℕ → Rule X) (most levels least : ℕ) where
+  abbrev cut : List X → List X
+  cut = take (most + 1)
+
+  -- elements that are kept so far, and behind them whatever the rest comes to
   abbrev pub Lists : (p q : Place) → List X → Type 0
-  Lists p q xs = Joined comma_in (λ m comma. rule m) (λ m. ListOf (rule m)) levels least p q (λ ys. ys) xs
+  Lists p q xs = Joined comma_in (λ m comma. rule m) (λ m. ListOf most (rule m)) levels least p q cut xs
 
   module _ (al : (m : ℕ) → Alike (rule levels) (rule m)) where
     pub list_begins : (p q : Place) (x : X) (k : ℕ) → Outcome rule levels k p q (Ok x) → Lists p q (x ∷ [])
-    list_begins p q x k d t o rest = then_on al d (mapped (λ ys. x ∷ ys) o rest)
+    list_begins p q x k d t o rest =
+        subst (λ z. Outcome (λ m. ListOf most (rule m)) levels least p t z) (viewed_twice cut (λ ys. x ∷ ys) o)
+        (mapped cut (viewed (λ ys. x ∷ ys) o) (then_on al d (mapped (λ ys. x ∷ ys) o rest)))
 
     pub list_goes_on : (p q q' t : Place) (xs : List X) (x : X) (k : ℕ) → Lists p q xs → At q.tokens q.at (Mark Comma) × IsNext q q' → Outcome rule levels k q' t (Ok x) → Lists p t (xs ++ x ∷ [])
-    list_goes_on p q q' t xs x k inv at d = joined comma_in (λ m comma. rule m) (λ m. ListOf (rule m)) levels least (λ m comma. al m) p q q' t (λ ys. ys) xs (Mark Comma) x k inv (ap comma_in at.0, at.1) d
+    list_goes_on p q q' t xs x k inv at d = joined comma_in (λ m comma. rule m) (λ m. ListOf most (rule m)) levels least (λ m comma. al m) p q q' t cut xs (Mark Comma) x k inv (ap comma_in at.0, at.1) d
 
-    pub list_fails : (p q q' t : Place) (xs : List X) (stop : ParseStop) → Lists p q xs → At q.tokens q.at (Mark Comma) × IsNext q q' → Outcome rule levels least q' t (Err stop) → Outcome (λ m. ListOf (rule m)) levels least p t (Err stop)
-    list_fails p q q' t xs stop inv at d = joined_fails comma_in (λ m comma. rule m) (λ m. ListOf (rule m)) levels least p q q' t (λ ys. ys) xs (Mark Comma) stop inv (ap comma_in at.0, at.1) d
+    -- of a list past its limit no more are kept
+    pub list_is_long : (p q q' t : Place) (xs : List X) (x : X) (k : ℕ) → length xs ≡ most + 1 → Lists p q xs → At q.tokens q.at (Mark Comma) × IsNext q q' → Outcome rule levels k q' t (Ok x) → Lists p t xs
+    list_is_long p q q' t xs x k full inv at d u o rest = subst (λ z. Outcome (λ m. ListOf most (rule m)) levels least p u z) (same o) (list_goes_on p q q' t xs x k inv at d u o rest)
+      where
+        same : (o : Result (List X) ParseStop) → viewed (λ ys. cut ((xs ++ x ∷ []) ++ ys)) o ≡ viewed (λ ys. cut (xs ++ ys)) o
+        same (Ok ys) = ap Ok (ap cut (append_assoc xs (x ∷ []) ys) ∙ all_kept (most + 1) xs (x ∷ ys) full ∙ sym (all_kept (most + 1) xs ys full))
+        same (Err stop) = refl
 
-    pub list_ends : (p q t : Place) (xs : List X) → Lists p q xs → NotAt q.tokens q.at (Mark Comma) × (t ≡ q) → Outcome (λ m. ListOf (rule m)) levels least p t (Ok xs)
-    list_ends p q t xs inv at = subst (λ z. Outcome (λ m. ListOf (rule m)) levels least p z (Ok xs)) (sym at.1) (joined_ends comma_in (λ m comma. rule m) (λ m. ListOf (rule m)) levels least p q (λ ys. ys) xs inv (no_comma_in (slice_get q.tokens q.at) at.0))
+    pub list_fails : (p q q' t : Place) (xs : List X) (stop : ParseStop) → Lists p q xs → At q.tokens q.at (Mark Comma) × IsNext q q' → Outcome rule levels least q' t (Err stop) → Outcome (λ m. ListOf most (rule m)) levels least p t (Err stop)
+    list_fails p q q' t xs stop inv at d = joined_fails comma_in (λ m comma. rule m) (λ m. ListOf most (rule m)) levels least p q q' t cut xs (Mark Comma) stop inv (ap comma_in at.0, at.1) d
+
+    pub list_ends : (p q t u : Place) (xs : List X) (kept : ℕ) → length xs ≤ most + 1 → Lists p q xs → NotAt q.tokens q.at (Mark Comma) × (t ≡ q) → EndsList most kept t u → Outcome (λ m. ListOf most (rule m)) levels least p u (Ok xs)
+    list_ends p q t u xs kept few inv at end =
+        ended (subst (λ z. Outcome (λ m. ListOf most (rule m)) levels least p q (Ok z)) (take_all (most + 1) xs few)
+        (joined_ends comma_in (λ m comma. rule m) (λ m. ListOf most (rule m)) levels least p q cut xs inv (no_comma_in (slice_get q.tokens q.at) at.0)))
+      where
+        ended : Outcome (λ m. ListOf most (rule m)) levels least p q (Ok xs) → Outcome (λ m. ListOf most (rule m)) levels least p u (Ok xs)
+        ended (r.read ys e d) =
+            r.read ys (end.tokens ∙ ap (λ (z : Place). z.tokens) at.1 ∙ e)
+            (subst (λ i. ListOf most (rule levels) p.tokens p.at i ys) (sym (end.at ∙ ap (λ (z : Place). z.at) at.1)) d)
 
 -- the elements of a list that grew by one
 pub map_push : {A B : Type 0} (f : A → B) (xs : List A) (x : A) → map f (xs ++ x ∷ []) ≡ map f xs ++ f x ∷ []

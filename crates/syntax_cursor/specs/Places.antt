@@ -1,5 +1,5 @@
 -- Where the leaves of trees stand among the tokens: names, literals and operators.
-use Rattle.std.specs.Prelude.{ℕ, ◌≡◌, Bool, true, false, List, [], ◌∷◌, Option, Some, None, drop, map, slice_get}
+use Rattle.std.specs.Prelude.{ℕ, ◌+◌, ◌≤◌, ◌≡◌, ◌++◌, Bool, true, false, List, [], ◌∷◌, Option, Some, None, drop, map, slice_get}
 use Rattle.std.specs.Prelude.{unwrap_or}
 use Rattle.definitions.specs.Word as w
 use Rattle.definitions.specs.Word.{Word}
@@ -96,17 +96,20 @@ has_leaf (Reserved word) = is_operator_word word
 has_leaf (Mark symbol) = is_operator_mark symbol
 
 -- leaves are those of some tokens, in their order, up to the tokens that are left; none that always has a leaf is
--- passed over
-pub data Stand : (tokens leaves left : List Placed) → Type 0 where
-  none : (tokens left : List Placed) → tokens ≡ left → Stand tokens [] left
-  passed : (token : Placed) (tokens leaves left : List Placed) → has_leaf token.leaf ≡ false → Stand tokens leaves left
-      → Stand (token ∷ tokens) leaves left
-  leaf : (token : Placed) (tokens leaves left : List Placed) → Stand tokens leaves left
-      → Stand (token ∷ tokens) (token ∷ leaves) left
+-- passed over, but in so many lists at most what stands from a comma on, as it does where a list is past its limit
+pub data Stand : (lists : ℕ) → (tokens leaves left : List Placed) → Type 0 where
+  none : (lists : ℕ) (tokens left : List Placed) → tokens ≡ left → Stand lists tokens [] left
+  passed : (lists : ℕ) (token : Placed) (tokens leaves left : List Placed) → has_leaf token.leaf ≡ false
+      → Stand lists tokens leaves left → Stand lists (token ∷ tokens) leaves left
+  leaf : (lists : ℕ) (token : Placed) (tokens leaves left : List Placed) → Stand lists tokens leaves left
+      → Stand lists (token ∷ tokens) (token ∷ leaves) left
+  left_out : (lists others : ℕ) (comma : Placed) (tokens elements behind leaves left : List Placed)
+      → lists ≡ others + 1 → comma.leaf ≡ Mark t.Comma → tokens ≡ elements ++ behind → Stand others behind leaves left
+      → Stand lists (comma ∷ tokens) leaves left
 
--- leaves are those of all the tokens
-abbrev pub StandIn : List Placed → List Token → Type 0
-StandIn leaves tokens = Stand (map placed_of tokens) leaves []
+-- leaves are those of all the tokens, but of so many lists at most
+abbrev pub StandIn : (lists : ℕ) → List Placed → List Token → Type 0
+StandIn lists leaves tokens = Stand lists (map placed_of tokens) leaves []
 
 -- ---- from place to place
 
@@ -124,9 +127,11 @@ start_at p = unwrap_or (slice_get p.starts p.at) 0
 abbrev pub left_at : Place → List Placed
 left_at p = drop p.at (beside p.tokens p.starts)
 
--- leaves are those of the tokens from a place to another
+-- leaves are those of the tokens from a place to another, but of as many lists as are noted between them
 pub record Stands (p q : Place) (leaves : List Placed) : Type 0 where
-  pub stand : Stand (left_at p) leaves (left_at q)
+  pub lists : ℕ
+  pub noted : p.long_lists + lists ≤ q.long_lists
+  pub stand : Stand lists (left_at p) leaves (left_at q)
 
 -- where some leaves stand up to a place, those of a whole that they begin stand up to a later one
 abbrev pub GoesOn : (before : List Placed) → (p q : Place) → (after : List Placed) → Type 0

@@ -12,11 +12,12 @@ use Rattle.parse_tree.specs.declared.leaf.Numeral as tree
 use Rattle.parse_tree.specs.Trees.{numeral_of}
 use Rattle.lexer.specs.declared.token.Token.{Token}
 
--- a place in the tokens of a script, and where they begin in its text
+-- a place in the tokens of a script, where they begin in its text, and how many lists past their limits are noted so far
 pub record Place : Type 0 where
   pub tokens : List TokenKind
   pub starts : List ℕ
   pub at : ℕ
+  pub long_lists : ℕ
 
 -- where some tokens begin
 abbrev pub starts_of : List Token → List ℕ
@@ -29,6 +30,7 @@ pub record IsNext (p q : Place) : Type 0 where
   pub tokens : q.tokens ≡ p.tokens
   pub starts : q.starts ≡ p.starts
   pub at : q.at ≡ p.at + 1
+  pub long_lists : q.long_lists ≡ p.long_lists
 
 -- a token of a kind is passed if it stands there
 abbrev pub Eats : TokenKind → Place → Place → Bool → Type 0
@@ -56,6 +58,16 @@ TakesNumber p q (Some n) =
     ((says : ℕ × ℕ × Option ℕ) × (numeral_in (slice_get p.tokens p.at) ≡ Some says)
     × (numeral_of n ≡ Numeral says.0 says.1 (unwrap_or says.2 0))) × IsNext p q
 TakesNumber p q None = (numeral_in (slice_get p.tokens p.at) ≡ None) × (q ≡ p)
+
+-- ---- lists
+
+-- a list ends here, of which so many elements are kept where so many are allowed: one past its limit is noted
+pub record EndsList (most kept : ℕ) (p q : Place) : Type 0 where
+  pub tokens : q.tokens ≡ p.tokens
+  pub starts : q.starts ≡ p.starts
+  pub at : q.at ≡ p.at
+  pub within : kept ≤ most → q.long_lists ≡ p.long_lists
+  pub noted : most < kept → q.long_lists ≡ p.long_lists + 1
 
 -- ---- rules
 

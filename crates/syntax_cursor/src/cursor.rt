@@ -1,6 +1,6 @@
 //! The words that the rules are written in: a cursor over the tokens of a script.
 
-ghost use Rattle.std.specs.Prelude.{◌≡◌, ◌↔◌, option_copied, ◌+◌, ◌-◌, ◌≤◌, ◌<◌, length, slice_get, Some, None, IsTrue, IfOk, IfErr, IfSome, IfNone, OnSome, suc};
+ghost use Rattle.std.specs.Prelude.{◌≡◌, ◌↔◌, option_copied, ◌+◌, ◌-◌, ◌≤◌, ◌<◌, length, slice_get, Some, None, IsTrue, IfOk, IfErr, IfSome, IfNone, OnOk, OnSome, suc};
 ghost use Rattle.std.specs.Bool.{OnTrue, OnFalse};
 ghost use Rattle.definitions.specs.Characters.{folded};
 ghost use Rattle.definitions.specs.Token.{Mark, Reserved};
@@ -9,15 +9,16 @@ ghost use Rattle.definitions.specs.Grammar.{NameAt, CountAt, StringAt, name_in, 
 ghost use Rattle.lexer.specs.Meaning.{kind_of, kinds_of, symbol_of, word_of};
 ghost use Rattle.lexer.specs.Quoted.{quoted_text};
 ghost use Rattle.syntax_cursor.specs.declared.stop.ParseStop.TheVariants as stop;
+ghost use Rattle.parse_tree.specs.Lists.{most_of};
 ghost use Rattle.parse_tree.specs.Trees.{count_of, name_of, text_of};
 ghost use Rattle.syntax_cursor.specs.Places.{Stands, count_leaves, if_there, name_leaves, numeral_leaves, start_at, string_leaves};
-ghost use Rattle.syntax_cursor.specs.Reading.{IsNext, Eats, Expects, Takes, TakesNumber, ParsesFlat, starts_of, viewed};
+ghost use Rattle.syntax_cursor.specs.Reading.{IsNext, EndsList, Eats, Expects, Takes, TakesNumber, ParsesFlat, starts_of, viewed};
 
 use crate::class::{TokenClass, Wanted};
 use crate::stop::ParseStop;
 use crate::text::{in_upper_case, without_quotes};
 use lexer::{Symbol, Token, TokenKind, Word};
-use parse_tree::{Count, Name, Numeral, StringLiteral};
+use parse_tree::{Count, ListPlace, LongList, Name, Numeral, StringLiteral};
 use std::alloc::Global;
 use std::marker::Model;
 
@@ -30,6 +31,8 @@ pub struct Cursor<'t, 's> {
     /// The place whose classes are noted, if there is one.
     watched: Option<usize>,
     wanted: Wanted,
+    /// The lists past their limits that are read so far.
+    long_lists: Vec<LongList>,
 }
 
 impl<'t, 's> Model for Cursor<'t, 's> {
@@ -39,7 +42,12 @@ impl<'t, 's> Model for Cursor<'t, 's> {
 
     ghost Value = { Place };
 
-    ghost view = { λ s. record { tokens = kinds_of s.tokens.now; starts = starts_of s.tokens.now; at = s.at } };
+    ghost view = { λ s. record {
+      tokens = kinds_of s.tokens.now;
+      starts = starts_of s.tokens.now;
+      at = s.at;
+      long_lists = length s.long_lists.items;
+    } };
 
     ghost invariant = { λ s. s.at ≤ length s.tokens.now };
 }
@@ -48,7 +56,12 @@ impl<'t, 's> Cursor<'t, 's> {
     /// The beginning of some tokens. What the rules look for is noted at one place alone, if it is given: to note it
     /// at each would take as long as reading.
     pub fn new(alloc: Global, tokens: &'t [Token<'s>], watched: Option<usize>) -> Cursor<'t, 's>
-        ensures { result ≡ record { tokens = kinds_of tokens.now; starts = starts_of tokens.now; at = 0 } }
+        ensures { result ≡ record {
+          tokens = kinds_of tokens.now;
+          starts = starts_of tokens.now;
+          at = 0;
+          long_lists = 0;
+        } }
     {
         Cursor {
             alloc,
@@ -56,13 +69,19 @@ impl<'t, 's> Cursor<'t, 's> {
             at: 0,
             watched,
             wanted: Wanted::nothing(),
+            long_lists: Vec::new(alloc),
         }
     }
 
     /// A place in some tokens; what the rules look for is noted nowhere.
     pub fn at_place(alloc: Global, tokens: &'t [Token<'s>], at: usize) -> Cursor<'t, 's>
         requires { at ≤ length tokens.now }
-        ensures { result ≡ record { tokens = kinds_of tokens.now; starts = starts_of tokens.now; at = at } }
+        ensures { result ≡ record {
+          tokens = kinds_of tokens.now;
+          starts = starts_of tokens.now;
+          at = at;
+          long_lists = 0;
+        } }
     {
         Cursor {
             alloc,
@@ -70,6 +89,7 @@ impl<'t, 's> Cursor<'t, 's> {
             at,
             watched: None,
             wanted: Wanted::nothing(),
+            long_lists: Vec::new(alloc),
         }
     }
 
@@ -325,6 +345,25 @@ impl<'t, 's> Cursor<'t, 's> {
             return Err(self.stop());
         };
         Ok(string)
+    }
+
+    /// Ends a list that was read up to here: notes it, if more of its elements are kept than it may have. `count` is how many
+    /// are written.
+    pub fn end_list(&mut self, place: ListPlace, kept: usize, count: usize) -> Result<(), ParseStop>
+        ensures ok { OnOk result (EndsList (most_of place.kind) kept self.old self.new) }
+        ensures memory { IfErr result (λ fault. fault ≡ stop.Memory) }
+    {
+        if kept > place.kind.most() {
+            self.long_lists.push(LongList { place, count })?;
+        }
+        Ok(())
+    }
+
+    /// The lists past their limits that were read.
+    pub fn into_long_lists(self) -> Vec<LongList>
+        ensures { length result.items ≡ self.entry.long_lists }
+    {
+        self.long_lists
     }
 
     /// What the rules have looked for at the place that is watched.

@@ -12,7 +12,7 @@ use Rattle.definitions_execution.specs.RowOrder.{NotAfter}
 use Rattle.definitions_execution.specs.Stored.{Composite, Stored, row_number, value_at}
 use Rattle.definitions_execution.proofs.Members.{rises_map}
 use Rattle.definitions_execution.proofs.RowOrders.{not_after_same}
-use Rattle.scans.specs.Sources.{BlockSource, stored_in}
+use Rattle.filters.specs.Sources.{BlockSource, stored_in}
 use Rattle.tuple_sort.specs.CompositeLists.{CompositeList, IsCompositeOf}
 use Rattle.tuple_sort.specs.Packing.{packed, tables_in, unpacked}
 use Rattle.tuple_sort.specs.Values.{value_in_composite, value_in_packed, value_in_row}

@@ -1,4 +1,4 @@
-pub use Rattle.scans.specs.Sources
+pub use Rattle.filters.specs.Sources
 pub mod Values
 pub mod CompositeLists
 pub mod Packing

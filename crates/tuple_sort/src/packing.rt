@@ -1,10 +1,10 @@
 //! Composites packed: the rows of some tables alone.
 
 ghost use Rattle.std.specs.Prelude.{◌≡◌, ◌≤◌, length};
-ghost use Rattle.scans.specs.Composites.{numbers_in};
+ghost use Rattle.filters.specs.Composites.{numbers_in};
 ghost use Rattle.tuple_sort.specs.Packing.{packed, row_in, unpacked};
 
-use scans::Composite;
+use filters::Composite;
 
 /// The row of a table among packed rows, and 0 for a table that has none there.
 pub(crate) fn row_in(members: &[usize], rows: &[u32], table: usize) -> u32

@@ -11,8 +11,8 @@ ghost use Rattle.tuple_sort.specs.Values.{value_in_packed};
 
 use crate::packing::row_in;
 use crate::sort_tuple::SortTuple;
+use filters::BlockSource;
 use plan_tree::SortKey;
-use scans::BlockSource;
 use sqlvalue::{Value, rank};
 use std::cmp::Ordering;
 

@@ -12,8 +12,8 @@ use crate::packing::pack;
 use crate::single::sort_single;
 use crate::sort_tuple::SortTuple;
 use crate::sorting::sort_packed;
+use filters::BlockSource;
 use plan_tree::{MAX_FROM_TABLES, SortKey};
-use scans::BlockSource;
 use std::alloc::{AllocError, Global};
 
 /// The rows of so many tables, or fewer, of each composite: of one table 4 bytes, and of two 16 with their keys.

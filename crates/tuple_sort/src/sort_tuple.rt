@@ -7,8 +7,8 @@ ghost use Rattle.sqlvalue.specs.Meaning.{value_of};
 ghost use Rattle.tuple_sort.specs.Keys.{packed_in, text_number, HasKey, HaveKeys};
 
 use crate::packing::row_in;
+use filters::BlockSource;
 use query_tree::BlockColumn;
-use scans::BlockSource;
 use sqlvalue::{Value, number_key};
 
 /// The rows of some tables, and what they are sorted by first.

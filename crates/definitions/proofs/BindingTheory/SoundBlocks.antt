@@ -1,13 +1,15 @@
 -- What is known of a block without a fault: of each part of its expressions, and of the block.
 use Rattle.std.proofs.Common.{◌≡◌, ◌≢◌, refl, ℕ, ◌<◌, ◌≤◌, inl, inr, true, false, List, [], ◌∷◌, ◌++◌, Option, Some, None, length, arith}
-use Rattle.std.specs.Prelude.{IsTrue, IsFalse, is_some, flat_map}
+use Rattle.std.specs.Prelude.{IsTrue, IsFalse, is_some, nat_le, flat_map}
 use Rattle.std.specs.List.{AllByRecursion, list_all}
+use Rattle.std.proofs.lemmas.List.{length-map}
+use Rattle.std.proofs.lemmas.Bool.Decides.{nat_tests}
 use Rattle.definitions.specs.Lists.{AnyOf}
 use Rattle.definitions.specs.Limits.{most_from_tables, most_conjuncts}
 use Rattle.definitions.specs.Refusal.{Refusal}
 use Rattle.definitions.specs.Statement.{Expr, Source, Column, Numeral, String, Signed, Line, Not, Compare, CompareAll, IsNull, Between, Like, InList, InQuery, Exists, Scalar, CountRows, Function, block_sources}
 use Rattle.definitions.specs.Table.{Table, Database, table_named}
-use Rattle.definitions.specs.Binding.Scopes.{NamedTable, Scopes, scope_of, are_there, resolve}
+use Rattle.definitions.specs.Binding.Scopes.{NamedTable, Scopes, scope_of, is_whole, are_there, resolve}
 use Rattle.definitions.specs.Binding.Parts.{PlacedBlock, is_function, item_values, condition_values, scopes_at, list_blocks, condition_blocks}
 use Rattle.definitions.specs.Binding.Faults.{BlockFaulty, no_table, too_fine, no_column, group_not_own, mixed_kinds, wrong_operand, wrong_condition, wrong_value, function_in_where, function_in_function, many_tables, misplaced_query, IsTooFine, NamesNoColumn, IsNotOwn, MixesKinds, takes_right, is_condition, argument_parts, list_of, where_of, group_by_of, having_clause_of, where_parts, shown_parts, all_argument_parts, all_parts, conjunct_count, many_conjuncts}
 use Rattle.definitions.specs.Binding.Formed.{IsWritten, NamesTables}
@@ -91,6 +93,9 @@ are_all_there : (db : Database) (sources : List Source) → (AnyOf (λ (s : Sour
 are_all_there db [] h = refl
 are_all_there db (s ∷ sources) h = together (is_some (table_named db s.table)) _ (is_there (table_named db s.table) (λ e. h (inl e))) (are_all_there db sources (λ a. h (inr a)))
 
+is_few : (db : Database) (sources : List Source) → length sources ≤ most_from_tables → nat_le (length (scope_of db sources)) most_from_tables ≡ true
+is_few db sources h = let e : length (scope_of db sources) ≡ length sources = length-map sources _ in grind (arith, nat_tests, h, e)
+
 is_empty : {X : Type 0} (xs : List X) → ((xs ≢ []) → ⊥) → xs ≡ []
 is_empty [] h = refl
 is_empty (x ∷ xs) h = absurd (h (λ e. absurd cc))
@@ -98,7 +103,9 @@ is_empty (x ∷ xs) h = absurd (h (λ e. absurd cc))
 pub sound_block : (db : Database) (p : PlacedBlock) → IsGood db p → IsTrue (are_there p.outer) → IsSoundBlock db p
 sound_block db p good outer =
     let scopes : Scopes = scopes_at db p in
-    let own : list_all (λ (t : NamedTable). is_some t.table) (scope_of db (block_sources p.block)) ≡ true = are_all_there db (block_sources p.block) (λ a. good.faultless _ (no_table a)) in
+    let few : length (block_sources p.block) ≤ most_from_tables = not_more (length (block_sources p.block)) (λ m. good.faultless _ (many_tables m)) in
+    let own : is_whole (scope_of db (block_sources p.block)) ≡ true =
+    together _ _ (are_all_there db (block_sources p.block) (λ a. good.faultless _ (no_table a))) (is_few db (block_sources p.block) few) in
     let there : IsTrue (are_there (scopes_at db p)) = together _ _ own outer in
     let sound : AllByRecursion (IsSound db scopes) (all_parts p.block) = all_sound db scopes (all_parts p.block) good.written
     (none_of _ (all_parts p.block) (λ a. good.faultless _ (too_fine there a)))
@@ -119,7 +126,7 @@ sound_block db p good outer =
       conditions = each _ _ (λ e h. is_true (is_condition e) h) (condition_values (where_of p.block) ++ condition_values (having_clause_of p.block)) (none_of _ _ (λ a. good.faultless _ (wrong_condition a)));
       values = each _ _ (λ e h. is_false (is_condition e) h) (item_values (list_of p.block)) (none_of _ _ (λ a. good.faultless _ (wrong_value a)));
       groups = none_of _ (group_by_of p.block) (λ a. good.faultless _ (group_not_own there a));
-      few = not_more (length (block_sources p.block)) (λ m. good.faultless _ (many_tables m));
+      few = few;
       few_conjuncts = none_of _ _ (λ a. good.faultless _ (many_conjuncts a));
       no_blocks = is_empty _ (λ n. good.faultless _ (misplaced_query n));
     }

@@ -1,5 +1,5 @@
 -- Why a query is refused.
-use Rattle.std.specs.Prelude.{ℕ, zero, suc, ◌+◌, ◌<◌, ◌≡◌, ◌≢◌, ◌⊎◌, ⊤, Bool, true, false, ◌&&◌, not, if◌then◌else◌}
+use Rattle.std.specs.Prelude.{ℕ, zero, suc, ◌+◌, ◌<◌, ◌≤◌, ◌≡◌, ◌≢◌, ◌⊎◌, ⊤, Bool, true, false, ◌&&◌, not, if◌then◌else◌}
 use Rattle.std.specs.Prelude.{count_by, List, [], ◌∷◌, ◌++◌, Option, Some, None, length, map, flat_map, IsTrue, IsFalse}
 use Rattle.definitions.specs.Lists.{AnyOf}
 use Rattle.definitions.specs.Limits.{most_from_tables, most_conjuncts, most_members, most_items, most_group_columns}
@@ -250,7 +250,8 @@ abbrev pub IsOuterColumn : Scopes → Expr → Type 0
 IsOuterColumn scopes (Column reference) = IsOuter (resolve scopes reference)
 IsOuterColumn scopes _ = ⊥
 
--- the faults of a block; those that hang on names are told only where all tables are there
+-- the faults of a block; those that hang on names are told only where all tables are there, and those that hang on all
+-- of a list only where it is within its limit
 pub data BlockFaulty (db : Database) (p : PlacedBlock) : Refusal → Type 0 where
   -- two tables of FROM have one name (6.3, syntax rule 2)
   name_twice : ¬ (AreDistinct (map (λ (t : NamedTable). t.name) (scope_of db (block_sources p.block))))
@@ -279,8 +280,8 @@ pub data BlockFaulty (db : Database) (p : PlacedBlock) : Refusal → Type 0 wher
   outer_in_function : IsTrue (are_there (scopes_at db p))
       → AnyOf (IsOuterColumn (scopes_at db p)) (all_argument_parts p.block) → BlockFaulty db p MisplacedFunction
   -- a column that is not one of the group's (7.9, syntax rule 7; 7.8, syntax rule 3; SELECT * there is own)
-  ungrouped : IsTrue (are_there (scopes_at db p)) → IsGrouped p.block
-      → AnyOf (IsUngrouped (scopes_at db p) (group_by_of p.block)) (shown_parts p.block)
+  ungrouped : IsTrue (are_there (scopes_at db p)) → length (group_by_of p.block) ≤ most_group_columns
+      → IsGrouped p.block → AnyOf (IsUngrouped (scopes_at db p) (group_by_of p.block)) (shown_parts p.block)
       → BlockFaulty db p UngroupedColumn
   star_of_groups : IsGrouped p.block → list_of p.block ≡ Asterisk → BlockFaulty db p UngroupedColumn
   -- limits (own)
@@ -302,7 +303,7 @@ IsUnknownKey names (ByPosition position) = (position ≡ 0) ⊎ (length names < 
 
 pub data QueryFaulty (db : Database) (q : Select) : Refusal → Type 0 where
   block : (fault : Refusal) → AnyOf (λ p. BlockFaulty db p fault) (placed_blocks_of db q.block) → QueryFaulty db q fault
-  bad_key : IsTrue (are_there (scope_of db (block_sources q.block) ∷ []))
+  bad_key : IsTrue (are_there (scope_of db (block_sources q.block) ∷ [])) → item_count (list_of q.block) ≤ most_items
       → AnyOf (λ (k : SortSpecification). IsUnknownKey (names_of_list db (scope_of db (block_sources q.block) ∷
       []) (list_of q.block)) k.named) q.order → QueryFaulty db q UnknownKey
   many_blocks : most_blocks < length (placed_blocks_of db q.block) → QueryFaulty db q OverQueryLimit

@@ -1,7 +1,8 @@
 -- Where the names of a query are sought: in the tables of its FROM, and then in those of the blocks around it.
 use Rattle.std.specs.Prelude.{ℕ, ◌+◌, Bool, true, List, [], ◌∷◌, ◌++◌, Option, Some, None, if◌then◌else◌, map, filter}
-use Rattle.std.specs.Prelude.{unwrap_or, is_some, bytes_eq}
+use Rattle.std.specs.Prelude.{unwrap_or, is_some, bytes_eq, length, nat_le, ◌&&◌}
 use Rattle.std.specs.List.{list_all, list_any, position_or_len}
+use Rattle.definitions.specs.Limits.{most_from_tables}
 use Rattle.definitions.specs.Value.{SqlType}
 use Rattle.definitions.specs.Statement.{Name}
 use Rattle.definitions.specs.Table as table
@@ -38,9 +39,13 @@ abbrev pub columns_of : Option Table → List table.Column
 columns_of None = []
 columns_of (Some t) = t.columns
 
--- every table that is named is there
+-- a FROM within its limit, whose tables are all there: of one past it the tree has not all tables
+abbrev pub is_whole : Scope → Bool
+is_whole scope = list_all (λ (t : NamedTable). is_some t.table) scope && nat_le (length scope) most_from_tables
+
+-- every table in sight is there
 abbrev pub are_there : Scopes → Bool
-are_there = list_all (list_all (λ (t : NamedTable). is_some t.table))
+are_there = list_all is_whole
 
 -- a column that was found, with its type and its name
 pub record Found : Type 0 where

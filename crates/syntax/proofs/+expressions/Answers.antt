@@ -12,7 +12,7 @@ use Rattle.parse_tree.specs.Trees.{expr_of, quantifier_of, block_of, member_of, 
 use Rattle.syntax_cursor.specs.Leaves.{line_kind}
 use Rattle.syntax_cursor.proofs.Stopping.{nowhere_never, nowhere_first}
 use Rattle.syntax_cursor.proofs.Opening.{inside, opens_past, opens_if, opens_reads, deep_past, deep_if, deep_reads, sign_opens}
-use Rattle.syntax_cursor.proofs.Lists.{Lists, list_begins, list_goes_on, list_fails, list_ends, map_push}
+use Rattle.syntax_cursor.proofs.Lists.{Lists, list_begins, list_fails, list_ends, map_push}
 use Rattle.syntax_cursor.proofs.Lists as lists
 use Rattle.syntax.proofs.Lines.{Lines, is_line, line_begins, line_goes_on, line_fails, line_ends, fewer, alone, several}
 use Rattle.parse_tree.proofs.Views.{of_column, of_numeral, of_string, of_signed, of_not, of_compare, of_compare_all, of_between, of_in_list, of_in_query, of_exists, of_scalar, of_count_rows, of_function, of_line, of_operand, of_item, of_asterisk, of_items, of_block}
@@ -20,8 +20,12 @@ use Rattle.definitions.specs.Grammar as g
 use Rattle.definitions.proofs.Grammar.{closed_alike, optional_alike, list_alike, name_alike, reference_alike, source_alike, distinct_alike, groups_alike, sum_alike, expr_alike, item_alike, select_list_alike, condition_alike, block_alike, subquery_alike, member_alike, within_alike}
 use Rattle.syntax_cursor.proofs.Outcomes.{gives_as, then_on, flat_on, past_on, sees_on, misses_on, reads_on, reads_not_on, if_on, gives, past_fails, never_fails, then_fails, no_memory, answers, begins}
 use Rattle.syntax_cursor.specs.Places.{Reserved, Mark, one, if_there}
-use Rattle.syntax_cursor.proofs.Places.{ok_then, ok_goes_on, ok_behind, ok_behind_either, here, on, stays, still, seen_as, no_more, past, past_leaf, leaf_here, says_leaf, says_passed}
+use Rattle.syntax_cursor.proofs.Places.{whole, ok_then, ok_goes_on, ok_behind, ok_behind_either, here, on, stays, still, seen_as, no_more, past, past_leaf, leaf_here, says_leaf, says_passed}
 use Rattle.syntax.specs.Places.{all, expr_leaves, block_leaves, item_leaves, operand_leaves, sign_leaf, op_leaf, function_leaf}
+use Rattle.std.proofs.Common.{length, arith}
+use Rattle.std.proofs.lemmas.List.{length-map}
+use Rattle.definitions.specs.Limits.{most_members, most_items, most_from_tables}
+use Rattle.syntax.proofs.KeptLists.{few_kept, list_read_on, kept_on, list_ended}
 use Rattle.syntax.proofs.Places as leaves
 use Rattle.definitions.specs.Word as words
 use Rattle.syntax.proofs.Lines.{no_operand}
@@ -281,11 +285,11 @@ expr::in_list-returns-in_err-members-clause-reads i c = answers _ _ (search rule
 
 pub expr::in_list-returns-in_err-expect_symbol-clause-reads : goal.expr::in_list-returns-in_err-expect_symbol-clause-reads
 unfolding g.InListOf
-expr::in_list-returns-in_err-expect_symbol-clause-reads i c = answers _ _ (search rules) (misses_on ((λ h. absurd (different (c.sees_word.ensures.stands.1 h) c.if-sees_word.false)), c.sees_word.ensures.same) (then_fails (then_on (λ m. list_alike (member_alike (within_alike c.args.levels m))) c.in_ok-members.ensures.reads (past_fails c.in_err-expect_symbol.ensures))))
+expr::in_list-returns-in_err-expect_symbol-clause-reads i c = answers _ _ (search rules) (misses_on ((λ h. absurd (different (c.sees_word.ensures.stands.1 h) c.if-sees_word.false)), c.sees_word.ensures.same) (then_fails (then_on (λ m. list_alike most_members (member_alike (within_alike c.args.levels m))) c.in_ok-members.ensures.reads (past_fails c.in_err-expect_symbol.ensures))))
 
 pub expr::in_list-returns-clause-reads : goal.expr::in_list-returns-clause-reads
 unfolding g.InListOf
-expr::in_list-returns-clause-reads i c = misses_on ((λ h. absurd (different (c.sees_word.ensures.stands.1 h) c.if-sees_word.false)), c.sees_word.ensures.same) (then_on {k = c.args.levels} (λ m. closed_alike (list_alike (member_alike (within_alike c.args.levels m)))) (then_on (λ m. list_alike (member_alike (within_alike c.args.levels m))) c.in_ok-members.ensures.reads (past_on c.in_ok-expect_symbol.ensures gives)) (gives_as (of_in_list _ _ _ _ ∙ ap (λ x. tree.InList c.args.negated (expr_of x) (g.member_list (map member_of c.in_ok-members.members.items))) refl)))
+expr::in_list-returns-clause-reads i c = misses_on ((λ h. absurd (different (c.sees_word.ensures.stands.1 h) c.if-sees_word.false)), c.sees_word.ensures.same) (then_on {k = c.args.levels} (λ m. closed_alike (list_alike most_members (member_alike (within_alike c.args.levels m)))) (then_on (λ m. list_alike most_members (member_alike (within_alike c.args.levels m))) c.in_ok-members.ensures.reads (past_on c.in_ok-expect_symbol.ensures gives)) (gives_as (of_in_list _ _ _ _ ∙ ap (λ x. tree.InList c.args.negated (expr_of x) (g.member_list (map member_of c.in_ok-members.members.items))) refl)))
 
 pub expr::in_list-returns-clause-placed : goal.expr::in_list-returns-clause-placed
 expr::in_list-returns-clause-placed i c = λ from d. seen_as (leaves.of_in_list _ _ _ _ ∙ ap (λ x. (expr_leaves x ++ one (Reserved words.In) c.args.start) ++ all (if_there expr_leaves) c.in_ok-members.members.items) refl) (past refl (on (stays d c.sees_word.ensures.same) c.in_ok-members.ensures.placed) c.in_ok-expect_symbol.ensures)
@@ -309,70 +313,86 @@ pub expr::member-returns-clause-placed : goal.expr::member-returns-clause-placed
 expr::member-returns-clause-placed i c = on (stays here c.if-eat_word.ensures.1) c.in_ok-value.ensures.placed
 
 pub expr::members-returns-in_err-first-clause-reads : goal.expr::members-returns-in_err-first-clause-reads
-expr::members-returns-in_err-first-clause-reads i c = answers _ _ (search rules) (then_fails c.in_err-first.ensures.reads)
+expr::members-returns-in_err-first-clause-reads i c = answers _ _ (search rules) (then_fails (then_fails c.in_err-first.ensures.reads))
 
 pub expr::members-returns-in_err-push-clause-reads : goal.expr::members-returns-in_err-push-clause-reads
 expr::members-returns-in_err-push-clause-reads i c = answers _ _ (search rules) (no_memory refl)
 
 pub expr::members-members-init : goal.expr::members-members-init
-expr::members-members-init i c = record {
-  reads = subst (λ xs. Lists (λ m. g.MemberOf (within m)) c.args.levels c.args.levels c.args.cursor.now c.member.new.cursor xs) (sym (ap (map member_of) (c.in_ok-push.ensures.items ∙ ap (λ ys. ys ++ c.in_ok-first.first ∷ []) c.new-members.ensures.items))) (list_begins (λ m. g.MemberOf (within m)) c.args.levels c.args.levels (λ m. member_alike (within_alike c.args.levels m)) c.args.cursor.now c.member.new.cursor (member_of c.in_ok-first.first) c.args.levels c.in_ok-first.ensures.reads);
-  placed = seen_as (ap (all (if_there expr_leaves)) (c.in_ok-push.ensures.items ∙ ap (λ ys. ys ++ c.in_ok-first.first ∷ []) c.new-members.ensures.items) ∙ leaves.all_push (if_there expr_leaves) [] _) c.in_ok-first.ensures.placed;
-}
+expr::members-members-init i c = let first = c.in_ok-push.ensures.items ∙ ap (λ ys. ys ++ c.in_ok-first.first ∷ []) c.new-members.ensures.items in
+    record {
+      reads = subst (λ xs. Lists (λ m. g.MemberOf (within m)) most_members c.args.levels c.args.levels c.args.cursor.now c.member.new.cursor xs) (sym (ap (map member_of) first)) (list_begins (λ m. g.MemberOf (within m)) most_members c.args.levels c.args.levels (λ m. member_alike (within_alike c.args.levels m)) c.args.cursor.now c.member.new.cursor (member_of c.in_ok-first.first) c.args.levels c.in_ok-first.ensures.reads);
+      few = let n = ap length first in omega (arith, n);
+      placed = whole (seen_as (ap (all (if_there expr_leaves)) first ∙ leaves.all_push (if_there expr_leaves) [] _) c.in_ok-first.ensures.placed);
+    }
 
 pub expr::members-returns-in_err-member-clause-reads : goal.expr::members-returns-in_err-member-clause-reads
-expr::members-returns-in_err-member-clause-reads i c = answers _ _ (search rules) (list_fails (λ m. g.MemberOf (within m)) c.args.levels c.args.levels (λ m. member_alike (within_alike c.args.levels m)) c.args.cursor.now c.members.cursor c.eat_symbol.new.self c.member-in-members.new.cursor (map member_of c.members.members.items) _ c.members.invariant.reads c.if-not-eat_symbol.ensures c.in_err-member.ensures.reads)
+expr::members-returns-in_err-member-clause-reads i c = answers _ _ (search rules) (list_fails (λ m. g.MemberOf (within m)) most_members c.args.levels c.args.levels (λ m. member_alike (within_alike c.args.levels m)) c.args.cursor.now c.members.cursor c.eat_symbol.new.self c.member-in-members.new.cursor (map member_of c.members.members.items) _ c.members.invariant.reads c.if-not-eat_symbol.ensures c.in_err-member.ensures.reads)
 
 pub expr::members-members-smaller : goal.expr::members-members-smaller
 expr::members-members-smaller i c = lists.fewer (λ m. g.MemberOf (within m)) c.args.levels c.args.levels c.members.cursor c.eat_symbol.new.self c.member-in-members.new.cursor _ _ (member_alike (within_alike c.args.levels c.args.levels)) c.if-not-eat_symbol.ensures c.in_ok-member.ensures.reads
 
 pub expr::members-members-preserved : goal.expr::members-members-preserved
 expr::members-members-preserved i c = record {
-  reads = subst (λ xs. Lists (λ m. g.MemberOf (within m)) c.args.levels c.args.levels c.args.cursor.now c.member-in-members.new.cursor xs) (sym (ap (map member_of) c.in_ok-push-2.ensures.items ∙ map_push _ _ _)) (list_goes_on (λ m. g.MemberOf (within m)) c.args.levels c.args.levels (λ m. member_alike (within_alike c.args.levels m)) c.args.cursor.now c.members.cursor c.eat_symbol.new.self c.member-in-members.new.cursor (map member_of c.members.members.items) (member_of c.in_ok-member.member) c.args.levels c.members.invariant.reads c.if-not-eat_symbol.ensures c.in_ok-member.ensures.reads);
-  placed = seen_as (ap (all (if_there expr_leaves)) c.in_ok-push-2.ensures.items ∙ leaves.all_push (if_there expr_leaves) c.members.members.items c.in_ok-member.member) (on (past refl c.members.invariant.placed c.if-not-eat_symbol.ensures) c.in_ok-member.ensures.placed);
+  reads = list_read_on (λ m. g.MemberOf (within m)) most_members c.args.levels c.args.levels (λ m. member_alike (within_alike c.args.levels m)) member_of c.args.cursor.now c.members.cursor c.eat_symbol.new.self c.member-in-members.new.cursor c.members.members.items c.keep.new.kept.items c.in_ok-member.member c.args.levels
+      c.members.invariant.few c.members.invariant.reads c.if-not-eat_symbol.ensures c.in_ok-member.ensures.reads c.in_ok-keep.ensures.ok;
+  few = few_kept most_members c.members.members.items c.keep.new.kept.items c.in_ok-member.member c.members.invariant.few c.in_ok-keep.ensures.ok;
+  placed = kept_on most_members (if_there expr_leaves) c.members.members.items c.keep.new.kept.items c.in_ok-member.member c.members.invariant.placed c.if-not-eat_symbol.ensures c.in_ok-member.ensures.placed c.in_ok-keep.ensures.ok;
 }
 
-pub expr::members-returns-in_err-push-2-clause-reads : goal.expr::members-returns-in_err-push-2-clause-reads
-expr::members-returns-in_err-push-2-clause-reads i c = answers _ _ (search rules) (no_memory refl)
+pub expr::members-returns-in_err-keep-clause-reads : goal.expr::members-returns-in_err-keep-clause-reads
+expr::members-returns-in_err-keep-clause-reads i c = answers _ _ (search rules) (no_memory c.in_err-keep.ensures.memory)
+
+pub expr::members-returns-in_err-end_list-clause-reads : goal.expr::members-returns-in_err-end_list-clause-reads
+expr::members-returns-in_err-end_list-clause-reads i c = answers _ _ (search rules) (no_memory c.in_err-end_list.ensures.memory)
 
 pub expr::members-returns-clause-reads : goal.expr::members-returns-clause-reads
-expr::members-returns-clause-reads i c = list_ends (λ m. g.MemberOf (within m)) c.args.levels c.args.levels (λ m. member_alike (within_alike c.args.levels m)) c.args.cursor.now c.members.cursor c.eat_symbol.new.self (map member_of c.members.members.items) c.members.invariant.reads c.if-not-eat_symbol.ensures
+expr::members-returns-clause-reads i c = list_ends (λ m. g.MemberOf (within m)) most_members c.args.levels c.args.levels (λ m. member_alike (within_alike c.args.levels m)) c.args.cursor.now c.members.cursor c.eat_symbol.new.self c.end_list.new.self (map member_of c.members.members.items) c.len.result
+    (let n = length-map c.members.members.items member_of in let few = c.members.invariant.few in omega (arith, n, few)) c.members.invariant.reads c.if-not-eat_symbol.ensures c.in_ok-end_list.ensures.ok
 
 pub expr::members-returns-clause-placed : goal.expr::members-returns-clause-placed
-expr::members-returns-clause-placed i c = stays c.members.invariant.placed c.if-not-eat_symbol.ensures.1
+expr::members-returns-clause-placed i c = list_ended most_members c.members.members c.len.result c.len.ensures c.members.invariant.placed c.if-not-eat_symbol.ensures.1 c.in_ok-end_list.ensures.ok
 
 pub query::items-returns-in_err-first-clause-reads : goal.query::items-returns-in_err-first-clause-reads
-query::items-returns-in_err-first-clause-reads i c = answers _ _ (search rules) (then_fails c.in_err-first.ensures.reads)
+query::items-returns-in_err-first-clause-reads i c = answers _ _ (search rules) (then_fails (then_fails c.in_err-first.ensures.reads))
 
 pub query::items-returns-in_err-push-clause-reads : goal.query::items-returns-in_err-push-clause-reads
 query::items-returns-in_err-push-clause-reads i c = answers _ _ (search rules) (no_memory refl)
 
 pub query::items-items-init : goal.query::items-items-init
-query::items-items-init i c = record {
-  reads = subst (λ xs. Lists (λ m. g.ItemOf (within m)) c.args.levels c.args.levels c.args.cursor.now c.item.new.cursor xs) (sym (ap (map item_of) (c.in_ok-push.ensures.items ∙ ap (λ ys. ys ++ c.in_ok-first.first ∷ []) c.new-items.ensures.items))) (list_begins (λ m. g.ItemOf (within m)) c.args.levels c.args.levels (λ m. item_alike (within_alike c.args.levels m)) c.args.cursor.now c.item.new.cursor (item_of c.in_ok-first.first) c.args.levels c.in_ok-first.ensures.reads);
-  placed = seen_as (ap (all item_leaves) (c.in_ok-push.ensures.items ∙ ap (λ ys. ys ++ c.in_ok-first.first ∷ []) c.new-items.ensures.items) ∙ leaves.all_push item_leaves [] _) c.in_ok-first.ensures.placed;
-}
+query::items-items-init i c = let first = c.in_ok-push.ensures.items ∙ ap (λ ys. ys ++ c.in_ok-first.first ∷ []) c.new-items.ensures.items in
+    record {
+      reads = subst (λ xs. Lists (λ m. g.ItemOf (within m)) most_items c.args.levels c.args.levels c.args.cursor.now c.item.new.cursor xs) (sym (ap (map item_of) first)) (list_begins (λ m. g.ItemOf (within m)) most_items c.args.levels c.args.levels (λ m. item_alike (within_alike c.args.levels m)) c.args.cursor.now c.item.new.cursor (item_of c.in_ok-first.first) c.args.levels c.in_ok-first.ensures.reads);
+      few = let n = ap length first in omega (arith, n);
+      placed = whole (seen_as (ap (all item_leaves) first ∙ leaves.all_push item_leaves [] _) c.in_ok-first.ensures.placed);
+    }
 
 pub query::items-returns-in_err-item-clause-reads : goal.query::items-returns-in_err-item-clause-reads
-query::items-returns-in_err-item-clause-reads i c = answers _ _ (search rules) (list_fails (λ m. g.ItemOf (within m)) c.args.levels c.args.levels (λ m. item_alike (within_alike c.args.levels m)) c.args.cursor.now c.items.cursor c.eat_symbol.new.self c.item-in-items.new.cursor (map item_of c.items.items.items) _ c.items.invariant.reads c.if-not-eat_symbol.ensures c.in_err-item.ensures.reads)
+query::items-returns-in_err-item-clause-reads i c = answers _ _ (search rules) (list_fails (λ m. g.ItemOf (within m)) most_items c.args.levels c.args.levels (λ m. item_alike (within_alike c.args.levels m)) c.args.cursor.now c.items.cursor c.eat_symbol.new.self c.item-in-items.new.cursor (map item_of c.items.items.items) _ c.items.invariant.reads c.if-not-eat_symbol.ensures c.in_err-item.ensures.reads)
 
 pub query::items-items-smaller : goal.query::items-items-smaller
 query::items-items-smaller i c = lists.fewer (λ m. g.ItemOf (within m)) c.args.levels c.args.levels c.items.cursor c.eat_symbol.new.self c.item-in-items.new.cursor _ _ (item_alike (within_alike c.args.levels c.args.levels)) c.if-not-eat_symbol.ensures c.in_ok-item.ensures.reads
 
 pub query::items-items-preserved : goal.query::items-items-preserved
 query::items-items-preserved i c = record {
-  reads = subst (λ xs. Lists (λ m. g.ItemOf (within m)) c.args.levels c.args.levels c.args.cursor.now c.item-in-items.new.cursor xs) (sym (ap (map item_of) c.in_ok-push-2.ensures.items ∙ map_push _ _ _)) (list_goes_on (λ m. g.ItemOf (within m)) c.args.levels c.args.levels (λ m. item_alike (within_alike c.args.levels m)) c.args.cursor.now c.items.cursor c.eat_symbol.new.self c.item-in-items.new.cursor (map item_of c.items.items.items) (item_of c.in_ok-item.item) c.args.levels c.items.invariant.reads c.if-not-eat_symbol.ensures c.in_ok-item.ensures.reads);
-  placed = seen_as (ap (all item_leaves) c.in_ok-push-2.ensures.items ∙ leaves.all_push item_leaves _ _) (on (past refl c.items.invariant.placed c.if-not-eat_symbol.ensures) c.in_ok-item.ensures.placed);
+  reads = list_read_on (λ m. g.ItemOf (within m)) most_items c.args.levels c.args.levels (λ m. item_alike (within_alike c.args.levels m)) item_of c.args.cursor.now c.items.cursor c.eat_symbol.new.self c.item-in-items.new.cursor c.items.items.items c.keep.new.kept.items c.in_ok-item.item c.args.levels
+      c.items.invariant.few c.items.invariant.reads c.if-not-eat_symbol.ensures c.in_ok-item.ensures.reads c.in_ok-keep.ensures.ok;
+  few = few_kept most_items c.items.items.items c.keep.new.kept.items c.in_ok-item.item c.items.invariant.few c.in_ok-keep.ensures.ok;
+  placed = kept_on most_items item_leaves c.items.items.items c.keep.new.kept.items c.in_ok-item.item c.items.invariant.placed c.if-not-eat_symbol.ensures c.in_ok-item.ensures.placed c.in_ok-keep.ensures.ok;
 }
 
-pub query::items-returns-in_err-push-2-clause-reads : goal.query::items-returns-in_err-push-2-clause-reads
-query::items-returns-in_err-push-2-clause-reads i c = answers _ _ (search rules) (no_memory refl)
+pub query::items-returns-in_err-keep-clause-reads : goal.query::items-returns-in_err-keep-clause-reads
+query::items-returns-in_err-keep-clause-reads i c = answers _ _ (search rules) (no_memory c.in_err-keep.ensures.memory)
+
+pub query::items-returns-in_err-end_list-clause-reads : goal.query::items-returns-in_err-end_list-clause-reads
+query::items-returns-in_err-end_list-clause-reads i c = answers _ _ (search rules) (no_memory c.in_err-end_list.ensures.memory)
 
 pub query::items-returns-clause-reads : goal.query::items-returns-clause-reads
-query::items-returns-clause-reads i c = list_ends (λ m. g.ItemOf (within m)) c.args.levels c.args.levels (λ m. item_alike (within_alike c.args.levels m)) c.args.cursor.now c.items.cursor c.eat_symbol.new.self (map item_of c.items.items.items) c.items.invariant.reads c.if-not-eat_symbol.ensures
+query::items-returns-clause-reads i c = list_ends (λ m. g.ItemOf (within m)) most_items c.args.levels c.args.levels (λ m. item_alike (within_alike c.args.levels m)) c.args.cursor.now c.items.cursor c.eat_symbol.new.self c.end_list.new.self (map item_of c.items.items.items) c.len.result
+    (let n = length-map c.items.items.items item_of in let few = c.items.invariant.few in omega (arith, n, few)) c.items.invariant.reads c.if-not-eat_symbol.ensures c.in_ok-end_list.ensures.ok
 
 pub query::items-returns-clause-placed : goal.query::items-returns-clause-placed
-query::items-returns-clause-placed i c = stays c.items.invariant.placed c.if-not-eat_symbol.ensures.1
+query::items-returns-clause-placed i c = list_ended most_items c.items.items c.len.result c.len.ensures c.items.invariant.placed c.if-not-eat_symbol.ensures.1 c.in_ok-end_list.ensures.ok
 
 pub expr::signed_operand-returns-in_default-clause-reads : goal.expr::signed_operand-returns-in_default-clause-reads
 unfolding g.SignOf
@@ -571,19 +591,19 @@ query::block-returns-in_err-tables-clause-reads i c = answers _ _ (search rules)
 
 pub query::block-returns-in_err-condition-clause-reads : goal.query::block-returns-in_err-condition-clause-reads
 unfolding g.BlockOf
-query::block-returns-in_err-condition-clause-reads i c = answers _ _ (search rules) (past_on c.in_ok-expect_word.ensures (flat_on distinct_alike c.distinct-distinct.ensures.reads (then_on (λ m. select_list_alike (within_alike c.args.levels m)) c.in_ok-list.ensures.reads (past_on c.in_ok-expect_word-2.ensures (flat_on (list_alike source_alike) c.in_ok-tables.ensures.reads (then_fails c.in_err-condition.ensures.reads))))))
+query::block-returns-in_err-condition-clause-reads i c = answers _ _ (search rules) (past_on c.in_ok-expect_word.ensures (flat_on distinct_alike c.distinct-distinct.ensures.reads (then_on (λ m. select_list_alike (within_alike c.args.levels m)) c.in_ok-list.ensures.reads (past_on c.in_ok-expect_word-2.ensures (flat_on (list_alike most_from_tables source_alike) c.in_ok-tables.ensures.reads (then_fails c.in_err-condition.ensures.reads))))))
 
 pub query::block-returns-in_err-groups-clause-reads : goal.query::block-returns-in_err-groups-clause-reads
 unfolding g.BlockOf
-query::block-returns-in_err-groups-clause-reads i c = answers _ _ (search rules) (past_on c.in_ok-expect_word.ensures (flat_on distinct_alike c.distinct-distinct.ensures.reads (then_on (λ m. select_list_alike (within_alike c.args.levels m)) c.in_ok-list.ensures.reads (past_on c.in_ok-expect_word-2.ensures (flat_on (list_alike source_alike) c.in_ok-tables.ensures.reads (then_on (λ m. condition_alike (within_alike c.args.levels m) _) c.in_ok-condition.ensures.reads (then_fails (c.in_err-groups.ensures.reads _ _))))))))
+query::block-returns-in_err-groups-clause-reads i c = answers _ _ (search rules) (past_on c.in_ok-expect_word.ensures (flat_on distinct_alike c.distinct-distinct.ensures.reads (then_on (λ m. select_list_alike (within_alike c.args.levels m)) c.in_ok-list.ensures.reads (past_on c.in_ok-expect_word-2.ensures (flat_on (list_alike most_from_tables source_alike) c.in_ok-tables.ensures.reads (then_on (λ m. condition_alike (within_alike c.args.levels m) _) c.in_ok-condition.ensures.reads (then_fails (c.in_err-groups.ensures.reads _ _))))))))
 
 pub query::block-returns-in_err-having-clause-reads : goal.query::block-returns-in_err-having-clause-reads
 unfolding g.BlockOf
-query::block-returns-in_err-having-clause-reads i c = answers _ _ (search rules) (past_on c.in_ok-expect_word.ensures (flat_on distinct_alike c.distinct-distinct.ensures.reads (then_on (λ m. select_list_alike (within_alike c.args.levels m)) c.in_ok-list.ensures.reads (past_on c.in_ok-expect_word-2.ensures (flat_on (list_alike source_alike) c.in_ok-tables.ensures.reads (then_on (λ m. condition_alike (within_alike c.args.levels m) _) c.in_ok-condition.ensures.reads (flat_on groups_alike c.in_ok-groups.ensures.reads (then_fails c.in_err-having.ensures.reads))))))))
+query::block-returns-in_err-having-clause-reads i c = answers _ _ (search rules) (past_on c.in_ok-expect_word.ensures (flat_on distinct_alike c.distinct-distinct.ensures.reads (then_on (λ m. select_list_alike (within_alike c.args.levels m)) c.in_ok-list.ensures.reads (past_on c.in_ok-expect_word-2.ensures (flat_on (list_alike most_from_tables source_alike) c.in_ok-tables.ensures.reads (then_on (λ m. condition_alike (within_alike c.args.levels m) _) c.in_ok-condition.ensures.reads (flat_on groups_alike c.in_ok-groups.ensures.reads (then_fails c.in_err-having.ensures.reads))))))))
 
 pub query::block-returns-clause-reads : goal.query::block-returns-clause-reads
 unfolding g.BlockOf
-query::block-returns-clause-reads i c = past_on c.in_ok-expect_word.ensures (flat_on distinct_alike c.distinct-distinct.ensures.reads (then_on (λ m. select_list_alike (within_alike c.args.levels m)) c.in_ok-list.ensures.reads (past_on c.in_ok-expect_word-2.ensures (flat_on (list_alike source_alike) c.in_ok-tables.ensures.reads (then_on (λ m. condition_alike (within_alike c.args.levels m) _) c.in_ok-condition.ensures.reads (flat_on groups_alike c.in_ok-groups.ensures.reads (then_on (λ m. condition_alike (within_alike c.args.levels m) _) c.in_ok-having.ensures.reads (gives_as (of_block _)))))))))
+query::block-returns-clause-reads i c = past_on c.in_ok-expect_word.ensures (flat_on distinct_alike c.distinct-distinct.ensures.reads (then_on (λ m. select_list_alike (within_alike c.args.levels m)) c.in_ok-list.ensures.reads (past_on c.in_ok-expect_word-2.ensures (flat_on (list_alike most_from_tables source_alike) c.in_ok-tables.ensures.reads (then_on (λ m. condition_alike (within_alike c.args.levels m) _) c.in_ok-condition.ensures.reads (flat_on groups_alike c.in_ok-groups.ensures.reads (then_on (λ m. condition_alike (within_alike c.args.levels m) _) c.in_ok-having.ensures.reads (gives_as (of_block _)))))))))
 
 pub query::block-returns-clause-placed : goal.query::block-returns-clause-placed
 query::block-returns-clause-placed i c = seen_as (leaves.of_block _) (on (on (on (on (past refl (on (no_more (past_leaf here c.start-start.ensures c.in_ok-expect_word.ensures) c.distinct-distinct.ensures.placed) c.in_ok-list.ensures.placed) c.in_ok-expect_word-2.ensures) c.in_ok-tables.ensures.placed) (c.in_ok-condition.ensures.placed refl)) c.in_ok-groups.ensures.placed) (c.in_ok-having.ensures.placed refl))
@@ -601,7 +621,7 @@ query::select_list-returns-in_err-items-clause-reads i c = answers _ _ (search r
 
 pub query::select_list-returns-clause-reads : goal.query::select_list-returns-clause-reads
 unfolding g.SelectListOf
-query::select_list-returns-clause-reads i c = misses_on c.if-eat_symbol.ensures (then_on (λ m. list_alike (item_alike (within_alike c.args.levels m))) c.in_ok-items.ensures.reads (gives_as (of_items _)))
+query::select_list-returns-clause-reads i c = misses_on c.if-eat_symbol.ensures (then_on (λ m. list_alike most_items (item_alike (within_alike c.args.levels m))) c.in_ok-items.ensures.reads (gives_as (of_items _)))
 
 pub query::select_list-returns-clause-placed : goal.query::select_list-returns-clause-placed
 query::select_list-returns-clause-placed i c = seen_as (leaves.of_items _) (on (stays here c.if-eat_symbol.ensures.1) c.in_ok-items.ensures.placed)

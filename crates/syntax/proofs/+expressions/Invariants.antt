@@ -1,10 +1,12 @@
-use Rattle.std.proofs.Common.{◌+◌, ◌*◌, ◌-◌, ◌++◌, length, map}
+use Rattle.std.proofs.Common.{◌+◌, ◌*◌, ◌-◌, ◌≤◌, ◌++◌, length, map}
 use Rattle.definitions.specs.Grammar as g
 use Rattle.definitions.specs.Grammar.{within}
 use Rattle.parse_tree.specs.Trees.{expr_of, item_of, member_of, operand_of}
 use Rattle.syntax_cursor.specs.Leaves.{line_kind}
 use Rattle.syntax_cursor.specs.Places.{Stands, if_there}
+use Rattle.definitions.specs.Limits.{most_members, most_items}
 use Rattle.syntax_cursor.proofs.Lists.{Lists}
+use Rattle.syntax_cursor.proofs.Places.{Kept}
 use Rattle.syntax.specs.Places.{all, expr_leaves, item_leaves, operand_leaves}
 use Rattle.syntax.proofs.Lines.{rank, Lines}
 use Rattle.syntax.proofs.+expressions.Given as goal
@@ -86,8 +88,9 @@ decreases-expr::line-operands l = length l.cursor.tokens - l.cursor.at
 
 abbrev pub invariant-expr::members-members : goal.invariant-expr::members-members
 invariant-expr::members-members l = record {
-  reads : Lists (λ m. g.MemberOf (within m)) l.levels l.levels l.fn.cursor l.cursor (map member_of l.members.items);
-  placed : Stands l.fn.cursor l.cursor (all (if_there expr_leaves) l.members.items);
+  reads : Lists (λ m. g.MemberOf (within m)) most_members l.levels l.levels l.fn.cursor l.cursor (map member_of l.members.items);
+  few : length l.members.items ≤ most_members + 1;
+  placed : Kept most_members (length l.members.items) l.fn.cursor l.cursor (all (if_there expr_leaves) l.members.items);
 }
 
 abbrev pub decreases-expr::members-members : goal.decreases-expr::members-members
@@ -95,8 +98,9 @@ decreases-expr::members-members l = length l.cursor.tokens - l.cursor.at
 
 abbrev pub invariant-query::items-items : goal.invariant-query::items-items
 invariant-query::items-items l = record {
-  reads : Lists (λ m. g.ItemOf (within m)) l.levels l.levels l.fn.cursor l.cursor (map item_of l.items.items);
-  placed : Stands l.fn.cursor l.cursor (all item_leaves l.items.items);
+  reads : Lists (λ m. g.ItemOf (within m)) most_items l.levels l.levels l.fn.cursor l.cursor (map item_of l.items.items);
+  few : length l.items.items ≤ most_items + 1;
+  placed : Kept most_items (length l.items.items) l.fn.cursor l.cursor (all item_leaves l.items.items);
 }
 
 abbrev pub decreases-query::items-items : goal.decreases-query::items-items

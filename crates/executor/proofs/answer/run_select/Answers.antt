@@ -12,7 +12,7 @@ use Rattle.definitions_execution.specs.Stored.{Composite}
 use Rattle.operators.specs.Running.{left_of, opened_of, IsPipeline}
 use Rattle.plan_tree.specs.Plans.{plan_of}
 use Rattle.query_tree.specs.Bound.{block_of, key_of}
-use Rattle.scans.specs.Sources.{block_in, stored_in, IsSurrounded}
+use Rattle.filters.specs.Sources.{block_in, stored_in, IsSurrounded}
 use Rattle.subqueries.specs.Framed.{combinations_in}
 use Rattle.result_rows.specs.Stores.{printing, StoreKind}
 use Rattle.block_answers.specs.BlockRows.{comes_in_order}

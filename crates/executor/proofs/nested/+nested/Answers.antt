@@ -25,7 +25,7 @@ use Rattle.definitions.specs.Queries.Evaluation.{Combination, Environment}
 use Rattle.definitions_execution.specs.Total.{subqueries}
 use Rattle.definitions_answers.specs.Steps.{context_among}
 use Rattle.definitions_answers.specs.Taking.{Says}
-use Rattle.scans.specs.Asks.{CanEvaluate}
+use Rattle.filters.specs.Evaluable.{CanEvaluate}
 use Rattle.sqlvalue.specs.Raises.{raise_of}
 use Rattle.subqueries.specs.Found.{said_in}
 use Rattle.block_answers.specs.OneComposite.{are_true_in, raised_in}
@@ -42,7 +42,7 @@ use Rattle.subqueries.specs.Telling.{told_in}
 use Rattle.subqueries.specs.declared.kept_results.KeptResults.{KeptResults}
 use Rattle.sqlvalue.specs.Owned.{owned_value}
 use Rattle.subqueries.proofs.KeptPlaces.{latest_is_told, latest_is_total, left_out_told}
-use Rattle.scans.specs.Sources.{block_in, context_in, stored_in}
+use Rattle.filters.specs.Sources.{block_in, context_in, stored_in}
 use Rattle.executor.specs.ReadyBlocks.{blocks_in, database_in, meanings_in, plans_in, totals_in, seen_at, seen_of, subqueries_at, subqueries_of, total_at, IsReady, IsToldLast}
 use Rattle.executor.specs.declared.ready_block.ReadyBlock.{ReadyBlock}
 use Rattle.executor.proofs.InnerBlocks.{as_much_as_asked, at_index, index_is, kept_same, left_below, left_less, left_out_left, left_out_right, left_twice, one_later, right_same, right_with, rising_before, stays_all, sum_later, sum_stops, told_here}
@@ -55,7 +55,7 @@ use Rattle.definitions_execution.specs.Stored.{Composite}
 use Rattle.operators.specs.Running.{left_of, opened_of, width_of, IsPipeline}
 use Rattle.plan_tree.specs.Plans.{plan_of}
 use Rattle.query_tree.specs.Bound.{block_of}
-use Rattle.scans.specs.Composites.{numbers_in}
+use Rattle.filters.specs.Composites.{numbers_in}
 use Rattle.block_answers.specs.BlockRows.{store_in, IsWellFor}
 use Rattle.block_answers.specs.KeptRows.{asks_existence, rows_in, TellsKept}
 use Rattle.block_answers.specs.Ready as before

@@ -5,7 +5,7 @@ use Rattle.definitions.specs.Plans.Cost.{saturated}
 use Rattle.definitions_execution.specs.OfBlock.{combination_of}
 use Rattle.definitions_execution.specs.Stored.{Composite}
 use Rattle.operators.specs.Running.{left_of, opened_of, width_of, IsPipeline}
-use Rattle.scans.specs.Sources.{block_in}
+use Rattle.filters.specs.Sources.{block_in}
 use Rattle.subqueries.specs.Framed.{combinations_in}
 use Rattle.block_answers.specs.BlockRows.{store_in, IsWellFor}
 use Rattle.block_answers.specs.KeptRows.{rows_in, TellsKept}

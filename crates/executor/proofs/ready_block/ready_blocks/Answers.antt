@@ -16,7 +16,7 @@ use Rattle.definitions_answers.specs.Parameters.{parameters}
 use Rattle.definitions_answers.proofs.Taken.{all_joined}
 use Rattle.query_tree.specs.Bound.{block_of}
 use Rattle.query_tree.specs.declared.block.Block.{Block}
-use Rattle.scans.specs.Sources.{block_in}
+use Rattle.filters.specs.Sources.{block_in}
 use Rattle.plan_space.specs.BlockPlans.{AreLeastOf}
 use Rattle.subqueries.specs.OuterColumns.{columns_of_option, outer_columns_of}
 use Rattle.executor.specs.ReadyBlocks.{blocks_in, HasLeast, IsReadyIn}

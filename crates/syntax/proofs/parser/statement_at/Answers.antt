@@ -3,6 +3,7 @@ use Rattle.lexer.specs.Meaning.{kinds_of}
 use Rattle.parse_tree.specs.Trees.{statement_of}
 use Rattle.syntax_cursor.specs.Places.{Stand, left_at}
 use Rattle.syntax.specs.Places.{statement_leaves}
+use Rattle.syntax_cursor.proofs.Places.{more}
 use Rattle.syntax.proofs.Places.{left_at_first}
 use Rattle.syntax.proofs.Scripts.{first_statement, ends_behind, only_memory, kind_count}
 use Rattle.syntax.proofs.parser.statement_at.Goals as goal
@@ -14,15 +15,19 @@ pub returns-in-Ok-clause-first : goal.returns-in-Ok-clause-first
 returns-in-Ok-clause-first c = λ statements there.
     let it = first_statement c.at_place-cursor.result c.ended_statement.new.cursor (kinds_of c.args.tokens.now) c.args.at (statement_of c.in-Ok.statement) (ap (λ p. p.tokens) c.at_place-cursor.ensures) (ap (λ p. p.at) c.at_place-cursor.ensures)
     (omega (arith, c.requires.before, kind_count c.args.tokens.now)) c.in-Ok.ensures.reads statements there in
-    (it.0, it.1, rw c.place.ensures it.2)
+    (it.0, it.1, rw c.place-next.ensures it.2)
 
 pub returns-in-Ok-clause-further : goal.returns-in-Ok-clause-further
 returns-in-Ok-clause-further c =
-    omega (arith, ends_behind c.at_place-cursor.result c.ended_statement.new.cursor (statement_of c.in-Ok.statement) c.in-Ok.ensures.reads, ap (λ p. p.at) c.at_place-cursor.ensures, c.place.ensures)
+    omega (arith, ends_behind c.at_place-cursor.result c.ended_statement.new.cursor (statement_of c.in-Ok.statement) c.in-Ok.ensures.reads, ap (λ p. p.at) c.at_place-cursor.ensures, c.place-next.ensures)
 
 pub returns-in-Ok-clause-placed : goal.returns-in-Ok-clause-placed
 returns-in-Ok-clause-placed c =
-    (left_at c.ended_statement.new.cursor, subst (λ z. Stand z (statement_leaves c.in-Ok.statement) (left_at c.ended_statement.new.cursor)) (ap left_at c.at_place-cursor.ensures ∙ ap (drop c.args.at) (left_at_first c.args.tokens.now)) c.in-Ok.ensures.placed.stand)
+    let d = c.in-Ok.ensures.placed in
+    let n = d.noted in
+    let first = ap (λ p. p.long_lists) c.at_place-cursor.ensures in
+    let count = c.into_long_lists.ensures in
+    (left_at c.ended_statement.new.cursor, more _ (omega (arith, n, first, count)) (subst (λ z. Stand d.lists z (statement_leaves c.in-Ok.statement) (left_at c.ended_statement.new.cursor)) (ap left_at c.at_place-cursor.ensures ∙ ap (drop c.args.at) (left_at_first c.args.tokens.now)) d.stand))
 
 pub unreachable-requires : goal.unreachable-requires
 unreachable-requires c =

@@ -1,5 +1,6 @@
 use Rattle.std.proofs.Common.{rules}
 use Rattle.definitions.specs.Grammar as g
+use Rattle.definitions.specs.Limits.{most_index_columns}
 use Rattle.definitions.proofs.Grammar.{list_alike, name_alike}
 use Rattle.syntax_cursor.proofs.Outcomes.{flat_on, past_on, gives, past_fails, then_fails, answers}
 use Rattle.syntax_cursor.proofs.Places.{here, on, past}
@@ -16,11 +17,11 @@ returns-in_err-names-clause-reads c l k = answers _ _ (search rules) (past_on c.
 
 pub returns-in_err-expect_symbol-2-clause-reads : goal.returns-in_err-expect_symbol-2-clause-reads
 unfolding g.NamesAt
-returns-in_err-expect_symbol-2-clause-reads c l k = answers _ _ (search rules) (past_on c.in_ok-expect_symbol.ensures (flat_on (list_alike name_alike) c.in_ok-names.ensures.reads (past_fails c.in_err-expect_symbol-2.ensures)))
+returns-in_err-expect_symbol-2-clause-reads c l k = answers _ _ (search rules) (past_on c.in_ok-expect_symbol.ensures (flat_on (list_alike most_index_columns name_alike) c.in_ok-names.ensures.reads (past_fails c.in_err-expect_symbol-2.ensures)))
 
 pub returns-clause-reads : goal.returns-clause-reads
 unfolding g.NamesAt
-returns-clause-reads c l k = past_on c.in_ok-expect_symbol.ensures (flat_on (list_alike name_alike) c.in_ok-names.ensures.reads (past_on c.in_ok-expect_symbol-2.ensures gives))
+returns-clause-reads c l k = past_on c.in_ok-expect_symbol.ensures (flat_on (list_alike most_index_columns name_alike) c.in_ok-names.ensures.reads (past_on c.in_ok-expect_symbol-2.ensures gives))
 
 pub returns-clause-placed : goal.returns-clause-placed
 returns-clause-placed c = past refl (on (past refl here c.in_ok-expect_symbol.ensures) c.in_ok-names.ensures.placed) c.in_ok-expect_symbol-2.ensures

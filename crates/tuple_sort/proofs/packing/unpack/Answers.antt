@@ -1,4 +1,4 @@
-use Rattle.scans.specs.Composites.{numbers_in}
+use Rattle.filters.specs.Composites.{numbers_in}
 use Rattle.tuple_sort.specs.Packing.{row_in}
 use Rattle.tuple_sort.proofs.PackedRows.{next_unpacked}
 use Rattle.tuple_sort.proofs.packing.unpack.Goals as goal

@@ -1,6 +1,6 @@
 use Rattle.std.proofs.Common.{◌≡◌, ◌-◌, ◌++◌, map, replicate}
 use Rattle.std.specs.List.{range_with_len}
-use Rattle.scans.specs.Composites.{numbers_in}
+use Rattle.filters.specs.Composites.{numbers_in}
 use Rattle.tuple_sort.specs.Packing.{row_in}
 use Rattle.tuple_sort.proofs.packing.unpack.Given as goal
 

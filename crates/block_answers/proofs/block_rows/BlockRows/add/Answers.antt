@@ -2,8 +2,8 @@ use Rattle.std.proofs.Common.{◌≡◌, ◌∙◌, sym, ap, subst, length}
 use Rattle.std.specs.List.{AllByRecursion}
 use Rattle.std.proofs.lemmas.Result.{on_ok_weaker}
 use Rattle.query_tree.specs.Bound.{block_of}
-use Rattle.scans.specs.Composites.{numbers_in}
-use Rattle.scans.specs.Sources.{block_in, environment_at}
+use Rattle.filters.specs.Composites.{numbers_in}
+use Rattle.filters.specs.Sources.{block_in, environment_at}
 use Rattle.result_rows.specs.RowAt.{items_of, CanGive}
 use Rattle.block_answers.specs.Groups.{seen}
 use Rattle.block_answers.proofs.BlockTaking.{plain_more}

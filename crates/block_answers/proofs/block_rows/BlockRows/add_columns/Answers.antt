@@ -2,7 +2,7 @@ use Rattle.std.proofs.Common.{◌≡◌, ◌∙◌, ◌++◌, sym, ap, subst}
 use Rattle.std.specs.List.{AllByRecursion}
 use Rattle.std.proofs.lemmas.Result.{IfOk-weaker}
 use Rattle.query_tree.specs.Bound.{block_of}
-use Rattle.scans.specs.Sources.{block_in}
+use Rattle.filters.specs.Sources.{block_in}
 use Rattle.result_rows.specs.Batches.{GivesColumnOf}
 use Rattle.result_rows.specs.RowAt.{items_of}
 use Rattle.block_answers.specs.BlockRows.{TellsOf}

@@ -2,7 +2,7 @@ use Rattle.std.proofs.Common.{◌∙◌, refl, sym, subst, arith, List, ◌++◌
 use Rattle.std.proofs.lemmas.List.{append-nil, take_all}
 use Rattle.definitions_execution.specs.OfBlock.{combination_of}
 use Rattle.definitions_execution.specs.Stored.{Composite}
-use Rattle.scans.specs.Sources.{block_in}
+use Rattle.filters.specs.Sources.{block_in}
 use Rattle.block_answers.specs.BlockRows.{TellsOf}
 use Rattle.block_answers.proofs.BatchTaking.{next_taken, typed_before}
 use Rattle.block_answers.proofs.block_rows.BlockRows.add_each.Goals as goal

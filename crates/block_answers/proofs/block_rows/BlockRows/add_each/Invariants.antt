@@ -1,7 +1,7 @@
 use Rattle.std.proofs.Common.{◌≡◌, ◌++◌, List, map, take}
 use Rattle.definitions.specs.Queries.Evaluation.{Combination}
 use Rattle.definitions_execution.specs.OfBlock.{combination_of}
-use Rattle.scans.specs.Sources.{block_in}
+use Rattle.filters.specs.Sources.{block_in}
 use Rattle.result_rows.specs.Stores.{kind_of}
 use Rattle.block_answers.specs.BlockRows.{store_in, IsWellFor, TellsOf}
 use Rattle.block_answers.specs.Groups.{AreTyped}

@@ -12,7 +12,7 @@ use Rattle.sqlvalue.specs.Owned.{owned_value}
 use Rattle.sqlvalue.specs.Raises.{raise_of}
 use Rattle.result_rows.specs.Faults.{IfRaised}
 use Rattle.result_rows.specs.declared.fault.AnswerFault.TheVariants as f
-use Rattle.scans.specs.Sources.{block_in}
+use Rattle.filters.specs.Sources.{block_in}
 use Rattle.subqueries.specs.FirstValues.{values_in}
 use Rattle.block_answers.specs.BlockRows.{MayRaiseOn, TellsOf}
 use Rattle.block_answers.specs.Groups.{AreTyped}

@@ -1,7 +1,7 @@
 use Rattle.std.proofs.Common.{◌∙◌, sym, subst}
 use Rattle.std.proofs.lemmas.Result.{on_ok_weaker}
 use Rattle.definitions_answers.specs.Taking.{Says}
-use Rattle.scans.specs.Sources.{block_in}
+use Rattle.filters.specs.Sources.{block_in}
 use Rattle.subqueries.specs.Found.{said_in}
 use Rattle.block_answers.specs.Groups.{seen}
 use Rattle.block_answers.specs.Telling.{context_with}

@@ -2,9 +2,9 @@ use Rattle.std.proofs.Common.{◌≡◌, ◌∙◌, ◌<◌, ◌-◌, sym, ap, l
 use Rattle.std.proofs.lemmas.Bool.Decides.{nat_tests}
 use Rattle.definitions.specs.Queries.Evaluation.{cell}
 use Rattle.query_tree.specs.Bound.{column_of}
-use Rattle.scans.specs.Composites.{numbers_in}
-use Rattle.scans.specs.Sources.{block_in}
-use Rattle.scans.proofs.Cells.{cell_there, value_there}
+use Rattle.filters.specs.Composites.{numbers_in}
+use Rattle.filters.specs.Sources.{block_in}
+use Rattle.filters.proofs.Cells.{cell_there, value_there}
 use Rattle.subqueries.proofs.Nearest.{frame_at}
 use Rattle.subqueries.proofs.frames.FramesOuterRows.cell.Goals as goal
 

@@ -1,0 +1,46 @@
+-- The values in rows of a block's tables.
+use Rattle.std.proofs.Common.{◌≡◌, ◌∙◌, refl, ap, ℕ, zero, suc, ◌≤◌, List, [], ◌∷◌, length, get_or, Some, arith}
+use Rattle.std.specs.List.{AllByRecursion}
+use Rattle.definitions.specs.Value.{Value, Null}
+use Rattle.definitions.specs.Table.{Row, Table, Database}
+use Rattle.definitions.specs.Plans.Order.{BlockColumn}
+use Rattle.definitions.specs.Queries.BoundBlock.{Block}
+use Rattle.definitions.specs.Queries.Evaluation.{cell}
+use Rattle.definitions.specs.Estimates.BlockTables.{table_at}
+use Rattle.definitions_execution.specs.Stored.{Composite, row_number}
+use Rattle.definitions_execution.specs.OfBlock.{combination_of, rows_in}
+use Rattle.definitions_execution.proofs.BlockFits.{row_of}
+use Rattle.filters.proofs.Tables.{rows_are, no_rows}
+
+past : {X : Type 0} (xs : List X) (i : ℕ) (d : X) → length xs ≤ i → get_or xs i d ≡ d
+past [] i d h = refl
+past (x ∷ xs) zero d h = absurd (omega (arith, h))
+past (x ∷ xs) (suc i) d h = past xs i d (omega (arith, h))
+
+-- the row of a number, or none, has no value past its columns
+row_ends : (width : ℕ) (rows : List Row) (row column : ℕ) → AllByRecursion (λ r. length r ≡ width) rows → width ≤ column → get_or (get_or rows row []) column Null ≡ Null
+row_ends width [] row column all h = refl
+row_ends width (r ∷ rs) zero column all h = let long = all.0 in past r column Null (omega (arith, long, h))
+row_ends width (r ∷ rs) (suc row) column all h = row_ends width rs row column all.1 h
+
+abbrev pub value_there : Database → Block → (table column row : ℕ) → Value
+value_there db block table column row = get_or (get_or (rows_in db block table) row []) column Null
+
+module _ (db : Database) (block : Block) (table column row : ℕ) where
+  pub none_without_table : length block.tables ≤ table → value_there db block table column row ≡ Null
+  none_without_table h = ap (λ rows. get_or (get_or rows row []) column Null) (no_rows db block table h)
+
+  module _ (t : Table) (is : table_at db block table ≡ Some t) where
+    pub value_is : value_there db block table column row ≡ get_or (get_or t.rows row []) column Null
+    value_is = ap (λ rows. get_or (get_or rows row []) column Null) (rows_are db block table t is)
+
+    pub none_without_row : length t.rows ≤ row → value_there db block table column row ≡ Null
+    none_without_row h = value_is ∙ ap (λ (r : Row). get_or r column Null) (past t.rows row [] h)
+
+    pub none_without_column : AllByRecursion (λ r. length r ≡ length t.columns) t.rows → length t.columns ≤ column → value_there db block table column row ≡ Null
+    none_without_column all h = value_is ∙ row_ends (length t.columns) t.rows row column all h
+
+-- of the row that a composite has of its table
+pub cell_there : (db : Database) (block : Block) (composite : Composite) (column : BlockColumn)
+    → cell (combination_of db block composite) column ≡ value_there db block column.table column.number (row_number composite column.table)
+cell_there db block composite column = ap (λ (r : Row). get_or r column.number Null) (row_of db block composite column.table)

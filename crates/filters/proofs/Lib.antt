@@ -1,0 +1,13 @@
+pub mod Tables
+pub mod Cells
+pub mod Paths
+pub mod Evaluable
+pub mod WordRows
+pub mod Comparing
+pub mod Parts
+pub mod Coming
+pub mod Listed
+pub mod NullRows
+pub mod Tests
+pub mod Junctions
+pub mod Told

@@ -1,0 +1,10 @@
+pub mod Sources
+pub mod Inside
+pub mod Evaluable
+pub mod Composites
+pub mod Truths
+pub mod Comparisons
+pub mod Words
+pub mod JoinFilters
+pub mod SearchArguments
+pub mod Laws

@@ -1,0 +1,22 @@
+//! Filters: a block whose rows are read, composites of row numbers, and which rows of a table that comes to them pass early conjuncts.
+#![tactic(auto)]
+
+mod block_source;
+mod candidate_rows;
+mod comparison;
+mod composite;
+mod join_filter;
+mod laws;
+mod member_list;
+mod nulls;
+mod outer_rows;
+mod row_context;
+mod search_argument;
+mod testing;
+
+pub use block_source::BlockSource;
+pub use composite::Composite;
+pub use join_filter::JoinFilter;
+pub use outer_rows::{NoOuterRows, OuterRows};
+pub use row_context::RowContext;
+pub use search_argument::SearchArguments;
