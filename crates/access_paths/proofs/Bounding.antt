@@ -10,7 +10,7 @@ use Rattle.definitions.specs.Plans.Order.{BlockColumn}
 use Rattle.definitions.specs.Queries.BoundBlock.{ValueExpr, Condition}
 use Rattle.definitions.specs.Queries.Conjuncts.{tables_named}
 use Rattle.definitions.specs.Estimates.BlockTables.{has, is_within}
-use Rattle.definitions.specs.Estimates.Paths.{ColumnTerm, ByComparison, ByBounds, turned, column_term, is_known, is_range, is_equality, says}
+use Rattle.definitions.specs.Estimates.Paths.{ColumnTerm, ByComparison, ByBounds, column_term, is_known, is_range, is_equality, says}
 use Rattle.definitions.proofs.EstimateTheory.Tests.{left_of, right_of, eq_of}
 use Rattle.access_paths.specs.Bounds.{SargableTerm, tables_beside, comparison_bound, range_bound, bound_by, sargable_term}
 
@@ -127,12 +127,3 @@ module _ (tables : TableSet) where
 
   pub matches_as_bound : (column : BlockColumn) (c : Condition) → says (is_range tables column.table) column c ≡ is_met (sargable_term column c)
   matches_as_bound column c = (of_terms column.table (column_term column c)).0
-
--- turned round, an operator bounds the same
-pub turned_bounds : (op : ComparisonOperator) (required_outer : Option TableSet) → comparison_bound op required_outer ≡ comparison_bound (turned op) required_outer
-turned_bounds Equals required_outer = refl
-turned_bounds NotEquals required_outer = refl
-turned_bounds LessThan required_outer = refl
-turned_bounds GreaterThan required_outer = refl
-turned_bounds LessOrEquals required_outer = refl
-turned_bounds GreaterOrEquals required_outer = refl

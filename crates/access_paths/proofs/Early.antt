@@ -10,7 +10,7 @@ use Rattle.definitions.specs.Plans.Order.{BlockColumn}
 use Rattle.definitions.specs.Queries.BoundBlock.{Condition, Block}
 use Rattle.definitions.specs.Queries.Conjuncts.{conjuncts, is_late}
 use Rattle.definitions.specs.Estimates.PlanConjuncts.{plan_conjunct, plan_conjuncts}
-use Rattle.conjuncts.specs.Naming.{NamesFew}
+use Rattle.predicates.specs.Naming.{NamesFew}
 use Rattle.estimate.specs.PlanConjuncts.{condition_of_conjunct, conjunct_of}
 use Rattle.estimate.specs.declared.plan_conjunct.PlanConjunct.{PlanConjunct}
 use Rattle.estimate.proofs.Places.{twice_mapped}

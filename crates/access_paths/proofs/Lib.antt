@@ -7,3 +7,4 @@ mod Opening
 mod Costing
 mod Rooms
 mod Reading
+pub mod Saying

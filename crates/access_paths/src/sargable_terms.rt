@@ -2,16 +2,15 @@
 
 ghost use Rattle.std.specs.Prelude.{◌≡◌, option_map};
 ghost use Rattle.definitions.specs.Queries.Conjuncts.{tables_named};
-ghost use Rattle.definitions.specs.Estimates.Paths as paths;
 ghost use Rattle.query_tree.specs.Bound.{column_of, condition_of, value_of};
-ghost use Rattle.conjuncts.specs.Naming.{AreFew, NamesFew};
+ghost use Rattle.predicates.specs.Naming.{AreFew, NamesFew};
 ghost use Rattle.sqlvalue.specs.Meaning.{op_of};
 ghost use Rattle.plan_tree.specs.Sets.{set_of};
 ghost use Rattle.access_paths.specs.Bounds as spec;
 ghost use Rattle.access_paths.specs.Views.{sargable_term_of};
 
-use conjuncts::value_tables;
 use plan_tree::TableSet;
+use predicates::{ColumnTerm, column_terms, value_tables};
 use query_tree::{BlockColumn, Condition, ValueExpr};
 use sqlvalue::ComparisonOperator;
 
@@ -27,36 +26,19 @@ pub(crate) fn sargable_term(column: BlockColumn, condition: &Condition) -> Optio
     requires few { NamesFew (condition_of condition.now) }
     ensures exact { option_map sargable_term_of result ≡ spec.sargable_term (column_of column) (condition_of condition.now) }
 {
-    match condition {
-        Condition::Compare { op, left, right } => {
-            if is_column(column, left) {
-                comparison_bound(*op, tables_beside(column.table, right))
-            } else if is_column(column, right) {
-                comparison_bound(*op, tables_beside(column.table, left))
-            } else {
-                None
-            }
+    match column_terms(condition).of(column) {
+        Some(ColumnTerm::Comparison { op, value }) => {
+            comparison_bound(op, tables_beside(column.table, value))
         }
-        Condition::Between {
-            negated: false,
-            value,
-            low,
-            high,
-        } => {
-            if is_column(column, value) {
-                range_bound(
-                    tables_beside(column.table, low),
-                    tables_beside(column.table, high),
-                )
-            } else {
-                None
-            }
-        }
-        _ => None,
+        Some(ColumnTerm::Range { low, high }) => range_bound(
+            tables_beside(column.table, low),
+            tables_beside(column.table, high),
+        ),
+        None => None,
     }
 }
 
-/// What a comparison with a value of the tables bounds; turned round, an operator bounds the same.
+/// What a comparison with a value of the tables bounds.
 fn comparison_bound(
     op: ComparisonOperator,
     required_outer: Option<TableSet>,
@@ -100,16 +82,5 @@ fn tables_beside(table: usize, value: &ValueExpr) -> Option<TableSet>
         None
     } else {
         Some(tables)
-    }
-}
-
-fn is_column(column: BlockColumn, value: &ValueExpr) -> bool
-    ensures exact { result ≡ paths.is_column (column_of column) (value_of value.now) }
-{
-    match value {
-        ValueExpr::Column { column: own, .. } => {
-            own.table == column.table && own.number == column.number
-        }
-        _ => false,
     }
 }

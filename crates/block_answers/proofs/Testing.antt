@@ -4,7 +4,7 @@ use Rattle.std.specs.Prelude.{◌&&◌, filter, Contains}
 use Rattle.std.specs.Borrow.{Bor}
 use Rattle.std.specs.List.{AllByRecursion}
 use Rattle.std.proofs.lemmas.List.{map-append}
-use Rattle.std.proofs.lemmas.List.Elements.{All-from_recursion, All-get_or, Contains-append_left}
+use Rattle.std.proofs.lemmas.List.Elements.{Contains-append_left}
 use Rattle.definitions.specs.Arithmetic.{Raise, Meaning}
 use Rattle.definitions.specs.Truth.{Truth, is_true}
 use Rattle.definitions.specs.Queries.BoundBlock as b
@@ -14,8 +14,8 @@ use Rattle.definitions.specs.Queries.Combinations.{is_surely_true, raises_of}
 use Rattle.definitions.specs.Queries.Telling.{MayAnswer}
 use Rattle.query_tree.specs.Bound.{condition_of}
 use Rattle.query_tree.specs.declared.condition.Condition.{Condition}
-use Rattle.conjuncts.specs.Parts.{condition_in, IsJudged}
-use Rattle.conjuncts.specs.declared.split.Conjunct.{Conjunct}
+use Rattle.predicates.specs.Parts.{condition_in}
+use Rattle.predicates.specs.declared.conjunct.Conjunct.{Conjunct}
 use Rattle.filters.specs.Evaluable.{CanEvaluate}
 use Rattle.block_answers.specs.OneComposite.{are_true_in, raised_in}
 use Rattle.block_answers.specs.Views.{conditions_of}
@@ -28,21 +28,18 @@ module _ (xs : List Conjunct) (i : ℕ) (x : Conjunct) (h : i < length xs) (e : 
   abbrev left : ℕ → List b.Condition
   left k = filter is_late (map condition_in (drop k xs))
 
-  pub judged_at : AllByRecursion IsJudged xs → IsJudged x
-  judged_at all = subst IsJudged (sym e) (All-get_or IsJudged xs i x h (All-from_recursion IsJudged xs all))
+  here : left i ≡ cond x.late (condition_in x ∷ left (i + 1)) (left (i + 1))
+  here = ap (filter is_late) (next condition_in xs i x h e) ∙ ap (λ late. cond late (condition_in x ∷ left (i + 1)) (left (i + 1))) (sym x.judged)
 
-  here : IsJudged x → left i ≡ cond x.late (condition_in x ∷ left (i + 1)) (left (i + 1))
-  here judged = ap (filter is_late) (next condition_in xs i x h e) ∙ ap (λ late. cond late (condition_in x ∷ left (i + 1)) (left (i + 1))) (sym judged)
+  pub late_left_out : x.late ≡ false → left (i + 1) ≡ left i
+  late_left_out early = sym (here ∙ ap (λ late. cond late (condition_in x ∷ left (i + 1)) (left (i + 1))) early)
 
-  pub late_left_out : IsJudged x → x.late ≡ false → left (i + 1) ≡ left i
-  late_left_out judged early = sym (here judged ∙ ap (λ late. cond late (condition_in x ∷ left (i + 1)) (left (i + 1))) early)
-
-  pub late_taken_in : (before after : List (Bor Condition)) → IsJudged x → x.late ≡ true → after ≡ before ++ x.condition ∷ [] → conditions_of after ++ left (i + 1) ≡ conditions_of before ++ left i
-  late_taken_in before after judged late more =
+  pub late_taken_in : (before after : List (Bor Condition)) → x.late ≡ true → after ≡ before ++ x.condition ∷ [] → conditions_of after ++ left (i + 1) ≡ conditions_of before ++ left i
+  late_taken_in before after late more =
       ap (λ cs. conditions_of cs ++ left (i + 1)) more
       ∙ ap (λ cs. cs ++ left (i + 1)) (map-append (λ (c : Bor Condition). condition_of c.now) before (x.condition ∷ []))
       ∙ append_assoc (conditions_of before) (condition_in x ∷ []) (left (i + 1))
-      ∙ ap (λ cs. conditions_of before ++ cs) (sym (here judged ∙ ap (λ late. cond late (condition_in x ∷ left (i + 1)) (left (i + 1))) late))
+      ∙ ap (λ cs. conditions_of before ++ cs) (sym (here ∙ ap (λ late. cond late (condition_in x ∷ left (i + 1)) (left (i + 1))) late))
 
 -- ---- each of them evaluated
 

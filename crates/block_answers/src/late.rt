@@ -11,8 +11,8 @@ ghost use Rattle.sqlvalue.specs.Raises.{raise_of};
 ghost use Rattle.block_answers.specs.Views.{conditions_of};
 ghost use Rattle.block_answers.specs.OneComposite.{are_true_in, raised_in};
 
-use conjuncts::conjuncts;
 use expr::{Environment, truth};
+use predicates::conjuncts;
 use query_tree::{Block, Condition};
 use sqlvalue::Raise;
 use std::alloc::{AllocError, Global};

@@ -92,6 +92,14 @@ below_up u v p most below n s h l e i j =
     ∙ lt_as_not_le u (v *ℤ p) ∙ ap not (sym (saturated_le u _ h) ∙ ap (λ x. int_le x u) (sym i)) ∙ sym (lt_as_not_le u most)
     ∙ lt_as_le u most ∙ sym (le_saturated u _ h) ∙ ap (int_le u) (sym j)
 
+-- at the same scale the units are compared as they are
+pub at_most_same : (u v : ℤ) (n s : ℕ) → n ≡ s → int_le (u *ℤ pos (10 ^ n)) (v *ℤ pos (10 ^ s)) ≡ int_le u v
+at_most_same u v n s e = ap (λ k. int_le (u *ℤ pos (10 ^ k)) (v *ℤ pos (10 ^ s))) e ∙ le_product u v (10 ^ s) (power_is_positive s)
+
+pub below_same : (u v : ℤ) (n s : ℕ) → n ≡ s → int_lt (u *ℤ pos (10 ^ n)) (v *ℤ pos (10 ^ s)) ≡ int_le u (v -ℤ pos 1)
+below_same u v n s e =
+    ap (λ k. int_lt (u *ℤ pos (10 ^ k)) (v *ℤ pos (10 ^ s))) e ∙ lt_product u v (10 ^ s) (power_is_positive s) ∙ lt_as_le u v
+
 -- and at a greater one
 pub at_most_down : (u v p most : ℤ) (n s : ℕ) → s ≤ n → p ≡ pos (10 ^ (n - s)) → most ≡ int_div_euclid v p
     → int_le (u *ℤ pos (10 ^ n)) (v *ℤ pos (10 ^ s)) ≡ int_le u most

@@ -55,6 +55,24 @@ pub(crate) fn nearest(value: Num, scale: u8) -> Neighbours
     ensures at_most { (u : ℤ) → FitsSigned w64 u → int_le (u *ℤ pos (10 ^ value.scale))
         (value.units *ℤ pos (10 ^ scale)) ≡ int_le u result.at_most }
 {
+    // Most are at the scale, and neither a product nor a quotient has to be made of them.
+    if value.scale == scale {
+        return Neighbours {
+            below: value.units - 1,
+            at_most: value.units,
+        };
+    }
+    nearest_at_other(value, scale)
+}
+
+/// The same, whatever the number's scale.
+fn nearest_at_other(value: Num, scale: u8) -> Neighbours
+    requires { scale ≤ greatest_precision }
+    ensures below { (u : ℤ) → FitsSigned w64 u → int_lt (u *ℤ pos (10 ^ value.scale))
+        (value.units *ℤ pos (10 ^ scale)) ≡ int_le u result.below }
+    ensures at_most { (u : ℤ) → FitsSigned w64 u → int_le (u *ℤ pos (10 ^ value.scale))
+        (value.units *ℤ pos (10 ^ scale)) ≡ int_le u result.at_most }
+{
     if value.scale <= scale {
         let at_most = value
             .units

@@ -5,7 +5,7 @@ use Rattle.definitions.specs.Limits.{most_from_tables, most_conjuncts}
 use Rattle.definitions.specs.Queries.Conjuncts as queries
 use Rattle.definitions.specs.Estimates.PlanConjuncts.{plan_conjuncts}
 use Rattle.query_tree.specs.Bound.{block_of}
-use Rattle.conjuncts.specs.Naming.{NamesFew}
+use Rattle.predicates.specs.Naming.{NamesFew}
 use Rattle.estimate.specs.Tables.{tables_of, AreTablesOf}
 use Rattle.estimate.specs.Estimated.{Estimated}
 use Rattle.estimate.specs.PlanConjuncts.{condition_of_conjunct, conjunct_of}

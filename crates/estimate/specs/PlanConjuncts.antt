@@ -5,7 +5,7 @@ use Rattle.definitions.specs.Plans.TableSet.{TableSet, with_table}
 use Rattle.definitions.specs.Estimates.BlockTables.{has, is_within}
 use Rattle.definitions.specs.Queries.BoundBlock.{Condition}
 use Rattle.query_tree.specs.Bound.{condition_of}
-use Rattle.conjuncts.specs.Columns.{pair_of}
+use Rattle.predicates.specs.Columns.{pair_of}
 use Rattle.plan_tree.specs.Sets.{set_of}
 use Rattle.estimate.specs.declared.plan_conjunct.PlanConjunct.{PlanConjunct}
 

@@ -9,7 +9,7 @@ ghost use Rattle.definitions.specs.Estimates.BlockTables.{table_at};
 ghost use Rattle.definitions.specs.Estimates.Cardinality as spec;
 ghost use Rattle.definitions.specs.Estimates.PlanConjuncts as plans;
 ghost use Rattle.query_tree.specs.Bound.{block_of};
-ghost use Rattle.conjuncts.specs.Naming.{NamesFew};
+ghost use Rattle.predicates.specs.Naming.{NamesFew};
 ghost use Rattle.plan_tree.specs.Sets.{set_of};
 ghost use Rattle.estimate.specs.Tables.{tables_of, AreTablesOf};
 ghost use Rattle.estimate.specs.Estimated.{IsFormed};

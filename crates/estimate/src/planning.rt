@@ -6,15 +6,15 @@ ghost use Rattle.definitions.specs.Estimates.PlanConjuncts as spec;
 ghost use Rattle.definitions.specs.Queries.BoundBlock.{Block};
 ghost use Rattle.definitions.specs.Queries.Conjuncts.{conjuncts_of_option};
 ghost use Rattle.query_tree.specs.Bound.{condition_of};
-ghost use Rattle.conjuncts.specs.Naming.{NamesFew};
-ghost use Rattle.conjuncts.specs.Parts.{condition_in, HasItsTables, IsJudged};
+ghost use Rattle.predicates.specs.Naming.{NamesFew};
+ghost use Rattle.predicates.specs.Parts.{condition_in};
 ghost use Rattle.estimate.specs.Tables.{tables_of, AreTablesOf};
 ghost use Rattle.estimate.specs.PlanConjuncts.{condition_of_conjunct, conjunct_of};
 
 use crate::conditions::selectivity;
 use crate::plan_conjunct::PlanConjunct;
 use catalog::Table;
-use conjuncts::{Conjunct, conjuncts, equated_columns};
+use predicates::{Conjunct, conjuncts};
 use query_tree::Condition;
 use std::alloc::{AllocError, Global};
 
@@ -40,8 +40,6 @@ pub(crate) fn plan_conjuncts<'a>(
 }
 
 fn plan_conjunct<'a>(tables: &[&Table], conjunct: Conjunct<'a>) -> PlanConjunct<'a>
-    requires late { IsJudged conjunct }
-    requires tables { HasItsTables conjunct }
     ensures condition { condition_of_conjunct result ≡ condition_in conjunct.entry }
     ensures exact { (db : Database) (block : Block) → AreTablesOf db block (tables_of tables.now) →
         conjunct_of result ≡ spec.plan_conjunct db block (condition_in conjunct.entry) }
@@ -50,7 +48,7 @@ fn plan_conjunct<'a>(tables: &[&Table], conjunct: Conjunct<'a>) -> PlanConjunct<
         condition: conjunct.condition,
         early: !conjunct.late,
         tables: conjunct.tables,
-        equated: equated_columns(conjunct.condition),
+        equated: conjunct.equated,
         selectivity: selectivity(tables, conjunct.condition),
     }
 }

@@ -4,6 +4,7 @@ pub mod Evaluable
 pub mod Composites
 pub mod Truths
 pub mod Comparisons
+pub mod Compiled
 pub mod Words
 pub mod JoinFilters
 pub mod SearchArguments

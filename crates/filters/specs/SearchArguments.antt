@@ -12,7 +12,7 @@ use Rattle.definitions_execution.specs.Stored.{Composite}
 use Rattle.sqlvalue.specs.Meaning.{op_of, value_of}
 use Rattle.filters.specs.Sources.{BlockSource, block_in}
 use Rattle.filters.specs.JoinFilters.{true_with}
-use Rattle.filters.specs.Truths.{conditions_of}
+use Rattle.filters.specs.Compiled.{conditions_of}
 use Rattle.filters.specs.declared.join_filter.JoinFilter.{JoinFilter}
 use Rattle.filters.specs.declared.search_argument.SearchArgument.{SearchArgument}
 use Rattle.filters.specs.declared.search_argument.SearchArguments.{SearchArguments}
@@ -64,4 +64,4 @@ AreOfFirst source outer from table (condition ∷ others) arguments = AreArgumen
 abbrev pub AreToldOf : BlockSource → List Combination → Composite → JoinFilter → Option SearchArguments → Type 0
 AreToldOf source outer from join_filter None = ⊤
 AreToldOf source outer from join_filter (Some arguments) =
-    AreOfFirst source outer from join_filter.table (conditions_of join_filter.conditions.items) arguments
+    AreOfFirst source outer from join_filter.table (conditions_of join_filter.filters.items) arguments

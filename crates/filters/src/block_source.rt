@@ -10,14 +10,14 @@ ghost use Rattle.definitions.specs.Estimates.BlockTables.{index_columns, table_a
 ghost use Rattle.definitions.specs.Queries.Conjuncts as queries;
 ghost use Rattle.sqlvalue.specs.Meaning.{value_of};
 ghost use Rattle.query_tree.specs.Bound.{block_of};
-ghost use Rattle.conjuncts.specs.Parts.{condition_in, HasItsTables, IsJudged};
+ghost use Rattle.predicates.specs.Parts.{condition_in};
 ghost use Rattle.definitions_execution.specs.OfBlock.{index_run, rows_in};
 ghost use Rattle.filters.specs.Inside.{AreTablesOf, tables_of};
 ghost use Rattle.filters.specs.Sources.{block_in, IsIndexOf};
 
 use catalog::{Database, Index, Table};
-use conjuncts::{Conjunct, conjuncts};
 use definitions::indexes::run_is_one;
+use predicates::{Conjunct, conjuncts};
 use query_tree::{Block, BlockColumn};
 use sqlvalue::Value;
 use std::alloc::{AllocError, Global};
@@ -101,9 +101,7 @@ impl<'a> BlockSource<'a> {
 
     /// The conjuncts, in text order.
     pub fn conjuncts(&self) -> &[Conjunct<'_>]
-        ensures exact { map condition_in result.now ≡ queries.conjuncts (block_in self.now) }
-        ensures judged { AllByRecursion IsJudged result.now }
-        ensures tables { AllByRecursion HasItsTables result.now }
+        ensures { map condition_in result.now ≡ queries.conjuncts (block_in self.now) }
     {
         self.conjuncts.as_slice()
     }

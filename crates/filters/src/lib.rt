@@ -4,6 +4,7 @@
 mod block_source;
 mod candidate_rows;
 mod comparison;
+mod compiled_filter;
 mod composite;
 mod join_filter;
 mod laws;
@@ -15,6 +16,8 @@ mod search_argument;
 mod testing;
 
 pub use block_source::BlockSource;
+pub use comparison::{Comparison, Comparisons};
+pub use compiled_filter::CompiledFilter;
 pub use composite::Composite;
 pub use join_filter::JoinFilter;
 pub use outer_rows::{NoOuterRows, OuterRows};

@@ -1,20 +1,24 @@
 //! What conditions ask of the rows of a table, once the values that they compare with are known.
 
 ghost use Rattle.std.specs.Prelude.{ℕ, ◌≡◌, ◌≤◌, ◌<◌, ◌+◌, IfSome, length};
+ghost use Rattle.definitions.specs.Arithmetic.{Is};
 ghost use Rattle.definitions.specs.Queries.BoundBlock as spec;
+ghost use Rattle.definitions.specs.Queries.Evaluation as meaning;
 ghost use Rattle.definitions_execution.specs.OfBlock.{rows_in};
-ghost use Rattle.query_tree.specs.Bound.{condition_of};
-ghost use Rattle.filters.specs.Comparisons.{IsIn};
+ghost use Rattle.query_tree.specs.Bound.{condition_of, value_of as tree_of};
+ghost use Rattle.sqlvalue.specs.Meaning.{value_of};
+ghost use Rattle.filters.specs.Comparisons.{AreComparisonsOf, IsIn};
 ghost use Rattle.filters.specs.JoinFilters.{met_with, CanCome, IsEarlyPart};
 ghost use Rattle.filters.specs.SearchArguments.{meets, meets_all, AreArgumentsOf, AreOfTable, IsColumnOf};
-ghost use Rattle.filters.specs.Sources.{block_in};
+ghost use Rattle.filters.specs.Sources.{block_in, environment_at};
 ghost use Rattle.filters.specs.Words.{word_by};
 
 use crate::block_source::BlockSource;
-use crate::comparison::{Comparison, comparison_of, range_of};
+use crate::comparison::{Comparison, Comparisons, comparisons_of};
 use crate::outer_rows::OuterRows;
 use crate::row_context::RowContext;
 use expr::value;
+use predicates::column_terms;
 use query_tree::Condition;
 use sqlvalue::{ComparisonOperator, Value};
 
@@ -83,8 +87,8 @@ impl SearchArguments<'_> {
     }
 }
 
-/// What a condition asks of the rows of a table that come to a composite, where it compares columns of the table with others' values; none
-/// where it is no such condition, or they have none.
+/// What a part of an early conjunct asks of the rows of a table that come to a composite, where it says how columns of the table compare
+/// with others' values; none where it doesn't, or they have none.
 pub(crate) fn search_arguments<'v, A: OuterRows>(
     condition: &'v Condition,
     table: usize,
@@ -95,22 +99,43 @@ pub(crate) fn search_arguments<'v, A: OuterRows>(
     ensures { IfSome result (AreArgumentsOf context.now.source.now (A.combinations context.now.around.now)
         context.now.rows.now table (condition_of condition.now)) }
 {
-    if let Some(comparison) = comparison_of(condition, table) {
-        return match argument_of(comparison, table, context) {
+    match comparisons_of(column_terms(condition), table) {
+        Some(comparisons) => arguments_of(comparisons, table, context),
+        None => None,
+    }
+}
+
+/// What the comparisons of such a part ask, where their other sides have values.
+pub(crate) fn arguments_of<'v, A: OuterRows>(
+    comparisons: Comparisons<'v>,
+    table: usize,
+    context: &'v RowContext<'_, '_, A>,
+) -> Option<SearchArguments<'v>>
+    requires can { CanCome context.now.source.now (A.combinations context.now.around.now) table }
+    requires early { (condition : spec.Condition) × IsEarlyPart context.now.source.now condition ×
+        AreComparisonsOf table condition comparisons }
+    ensures { (condition : spec.Condition) → AreComparisonsOf table condition comparisons.entry →
+        IfSome result (AreArgumentsOf context.now.source.now (A.combinations context.now.around.now)
+        context.now.rows.now table condition) }
+{
+    match comparisons {
+        Comparisons::One(comparison) => match argument_of(comparison, table, context) {
             Some(argument) => Some(SearchArguments::One(argument)),
             None => None,
-        };
+        },
+        Comparisons::Both { low, high } => {
+            let Some(from) = argument_of(low, table, context) else {
+                return None;
+            };
+            let Some(to) = argument_of(high, table, context) else {
+                return None;
+            };
+            Some(SearchArguments::Both {
+                low: from,
+                high: to,
+            })
+        }
     }
-    let Some((from, to)) = range_of(condition, table) else {
-        return None;
-    };
-    let Some(low) = argument_of(from, table, context) else {
-        return None;
-    };
-    let Some(high) = argument_of(to, table, context) else {
-        return None;
-    };
-    Some(SearchArguments::Both { low, high })
 }
 
 /// A comparison of an early conjunct, where its other side has a value.
@@ -131,12 +156,34 @@ pub(crate) fn argument_of<'v, A: OuterRows>(
     if comparison.column >= context.source.table(table).width() || table >= context.rows.len() {
         return None;
     }
-    match value(comparison.other, context) {
-        Ok(value) => Some(SearchArgument {
+    match other_value(comparison, table, context) {
+        Some(value) => Some(SearchArgument {
             column: comparison.column,
             op: comparison.op,
             value,
         }),
-        Err(_) => None,
+        None => None,
+    }
+}
+
+/// The value that the other side of a comparison of an early conjunct has, if it has one. That of a literal was kept.
+fn other_value<'v, A: OuterRows>(
+    comparison: Comparison<'v>,
+    table: usize,
+    context: &'v RowContext<'_, '_, A>,
+) -> Option<Value<'v>>
+    requires can { CanCome context.now.source.now (A.combinations context.now.around.now) table }
+    requires early { (condition : spec.Condition) × IsEarlyPart context.now.source.now condition ×
+        IsIn table condition comparison }
+    ensures { IfSome result (λ v. meaning.value (environment_at context.now.source.now
+        (A.combinations context.now.around.now) context.now.rows.now) (tree_of comparison.entry.other.now)
+        ≡ Is (value_of v)) }
+{
+    match comparison.known {
+        Some(known) => Some(known),
+        None => match value(comparison.other, context) {
+            Ok(value) => Some(value),
+            Err(_) => None,
+        },
     }
 }

@@ -4,7 +4,7 @@ ghost use Rattle.std.specs.Prelude.{◌≡◌, ◌+◌, ◌*◌, ◌≤◌, IfOk
 ghost use Rattle.std.specs.Bool.{Decides};
 ghost use Rattle.query_tree.specs.Bound.{column_of};
 ghost use Rattle.interesting_orders.specs.Classes.{AreDistinct};
-ghost use Rattle.conjuncts.specs.Columns.{pair_of};
+ghost use Rattle.predicates.specs.Columns.{pair_of};
 ghost use Rattle.estimate.specs.PlanConjuncts.{conjunct_of};
 ghost use Rattle.interesting_orders.specs.Places.{given, sides_of, AreStated, HasColumn, HasSides, HaveSides, IsEquation, IsGrown, IsPlace};
 

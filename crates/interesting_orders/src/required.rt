@@ -8,8 +8,8 @@ ghost use Rattle.query_tree.specs.Bound as bound;
 ghost use Rattle.plan_tree.specs.Plans.{key_of, order_of};
 ghost use Rattle.interesting_orders.specs.Keys.{order_by};
 
-use conjuncts::column_of;
 use plan_tree::SortKey;
+use predicates::column_of;
 use query_tree::{Block, BlockColumn, Item, Key};
 use std::alloc::{AllocError, Global};
 

@@ -3,9 +3,9 @@
 use crate::paths_apart::{PathFault, path_fault};
 use crate::rule_words::write_rule;
 use certificate::{BlockSpace, PlanSummary, Space};
-use conjuncts::equated_columns;
 use plan_names::{BlockNames, last_step, plan_below};
 use plan_tree::{Inner, MAX_FROM_TABLES, Path, Plan, SortKey, TableSet};
+use predicates::equated_columns;
 use query_tree::BlockColumn;
 use std::fmt::{self, Display, Formatter};
 

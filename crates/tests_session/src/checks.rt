@@ -1,8 +1,9 @@
 //! What a checking run leaves in its session.
 
+use crate::runs::{Part, check, run};
+use crate::shelf::Shelf;
 use sqlr::{Ended, Session};
 use std::alloc::Global;
-use tests_devices::{Part, Shelf, check, run};
 
 /// A checking run that is refused at its second statement.
 const REFUSED: &str =

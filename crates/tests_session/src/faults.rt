@@ -2,12 +2,13 @@
 
 ghost use Rattle.std.specs.Prelude.{◌≡◌, ◌<◌};
 
+use crate::runs::{Part, Ran, run};
+use crate::shelf::Shelf;
 use crate::steps::{FILES, LOOK, script, seen_behind, steps_run, text};
 use sqlr::{Ended, Failures, FetchFault, Fetched, Library, RunFault, Session};
 use std::alloc::{AllocError, Global};
 use std::marker::Brand;
 use std::sync::ledger::{Blank, Ledger};
-use tests_devices::{Part, Ran, Shelf, run};
 
 /// A library that has one file more, which cannot be fetched.
 #[derive(Drop)]
@@ -19,7 +20,7 @@ struct Faulty<'a, L: Ledger> {
 
 impl<L: Ledger> Library for Faulty<'_, L> {
     ghost use Rattle.std.specs.Prelude.{◌≡◌};
-    ghost use Rattle.tests_devices.specs.Files.{bytes_of_file};
+    ghost use Rattle.tests_session.specs.Files.{bytes_of_file};
 
     ghost answers = { λ old name answer new. (new ≡ old) × (answer ≡ bytes_of_file old.shelf.files.now name) };
 

@@ -1,11 +1,12 @@
 //! Want of memory. `rt try --test --fail-alloc N` refuses the Nth allocation of each test: this one
 //! holds whichever that is, and says what it has cut short. `tools/fail_alloc.py` tries each.
 
+use crate::runs::{Part, Ran, run};
+use crate::shelf::Shelf;
 use crate::steps::{FILES, LOOK, STEPS, script, seen_behind, steps_printed};
 use sqlr::{Ended, RunFault, Session};
 use std::alloc::{AllocError, Global};
 use std::test::Fail;
-use tests_devices::{Part, Ran, Shelf, run};
 
 /// Room for all that is printed, so that no sink wants memory.
 const ROOM: usize = 256;

@@ -1,7 +1,7 @@
 //! A script in steps: what each prints, and what it leaves.
 
+use crate::shelf::File;
 use std::alloc::{AllocError, Global};
-use tests_devices::File;
 
 /// The files that the script loads.
 pub(crate) static FILES: [File; 2] = [

@@ -2,9 +2,10 @@
 //! it, whether a result is kept or not. By hand: a scan opens all rows of its table, 4 of each here; a match those of its key; and
 //! subqueries are evaluated on each row that passes the other conjuncts.
 
+use crate::runs::{Part, run};
+use crate::shelf::{File, Shelf};
 use sqlr::Session;
 use std::alloc::Global;
-use tests_devices::{File, Part, Shelf, run};
 
 static FILES: [File; 4] = [
     File {

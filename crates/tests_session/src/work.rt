@@ -1,8 +1,9 @@
 //! The work of a session: how many rows the last SELECT that printed rows has opened.
 
+use crate::runs::{Part, Ran, check, run};
+use crate::shelf::{File, Shelf};
 use sqlr::{Ended, Session};
 use std::alloc::Global;
-use tests_devices::{File, Part, Ran, Shelf, check, run};
 
 static FILES: [File; 5] = [
     File {

@@ -1,6 +1,5 @@
 use Rattle.std.proofs.Common.{◌∙◌, sym, ap}
 use Rattle.std.specs.Prelude.{option_map}
-use Rattle.definitions.specs.Queries.Conjuncts.{conjuncts}
 use Rattle.query_tree.specs.Bound.{block_of, column_of}
 use Rattle.estimate.specs.PlanConjuncts.{condition_of_conjunct}
 use Rattle.access_paths.specs.Views.{sargable_term_of, matching_term_of}

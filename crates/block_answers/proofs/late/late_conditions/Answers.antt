@@ -1,5 +1,5 @@
 use Rattle.query_tree.specs.Bound.{block_of}
-use Rattle.conjuncts.proofs.FormedBlocks.{formed_few}
+use Rattle.predicates.proofs.FormedBlocks.{formed_few}
 use Rattle.block_answers.proofs.late.late_conditions.Goals as goal
 
 pub conjuncts-requires : goal.conjuncts-requires

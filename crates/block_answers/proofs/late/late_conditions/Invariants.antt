@@ -1,7 +1,7 @@
 use Rattle.std.proofs.Common.{◌≡◌, ◌++◌, drop, map}
 use Rattle.std.specs.Prelude.{filter}
 use Rattle.definitions.specs.Queries.Conjuncts.{is_late}
-use Rattle.conjuncts.specs.Parts.{condition_in}
+use Rattle.predicates.specs.Parts.{condition_in}
 use Rattle.block_answers.specs.Views.{conditions_of}
 use Rattle.block_answers.proofs.late.late_conditions.Given as goal
 

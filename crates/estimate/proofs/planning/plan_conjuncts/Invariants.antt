@@ -2,8 +2,8 @@ use Rattle.std.proofs.Common.{◌≡◌, ◌++◌, drop, map}
 use Rattle.definitions.specs.Table.{Database}
 use Rattle.definitions.specs.Queries.BoundBlock.{Block}
 use Rattle.definitions.specs.Estimates.PlanConjuncts.{plan_conjunct}
-use Rattle.conjuncts.specs.Parts.{condition_in}
-use Rattle.conjuncts.specs.declared.split.Conjunct.{Conjunct}
+use Rattle.predicates.specs.Parts.{condition_in}
+use Rattle.predicates.specs.declared.conjunct.Conjunct.{Conjunct}
 use Rattle.estimate.specs.Tables.{tables_of, AreTablesOf}
 use Rattle.estimate.specs.PlanConjuncts.{condition_of_conjunct, conjunct_of}
 use Rattle.estimate.proofs.planning.plan_conjuncts.Given as goal

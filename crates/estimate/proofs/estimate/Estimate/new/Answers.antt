@@ -3,7 +3,7 @@ use Rattle.std.proofs.lemmas.List.{length-map}
 use Rattle.definitions.specs.Limits.{most_conjuncts}
 use Rattle.estimate.specs.PlanConjuncts.{condition_of_conjunct}
 use Rattle.query_tree.specs.Bound.{block_of}
-use Rattle.conjuncts.proofs.FormedBlocks.{formed_conjuncts_few, formed_few}
+use Rattle.predicates.proofs.FormedBlocks.{formed_conjuncts_few, formed_few}
 use Rattle.estimate.proofs.estimate.Estimate.new.Goals as goal
 
 pub plan_conjuncts-requires : goal.plan_conjuncts-requires

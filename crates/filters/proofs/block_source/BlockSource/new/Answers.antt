@@ -1,5 +1,5 @@
 use Rattle.query_tree.specs.Bound.{block_of}
-use Rattle.conjuncts.proofs.FormedBlocks.{formed_few}
+use Rattle.predicates.proofs.FormedBlocks.{formed_few}
 use Rattle.filters.proofs.block_source.BlockSource.new.Goals as goal
 
 pub conjuncts-requires : goal.conjuncts-requires
@@ -15,7 +15,5 @@ invariant_of-result c =
       tables = c.in_ok-tables.ensures.exact;
       count = c.in_ok-tables.ensures.count;
       few = formed.count;
-      judged = c.in_ok-conjuncts.ensures.late;
-      named = c.in_ok-conjuncts.ensures.tables;
-      conditions = c.in_ok-conjuncts.ensures.whole;
+      conditions = c.in_ok-conjuncts.ensures;
     }

@@ -1,3 +1,0 @@
-pub mod FormedBlocks
-pub mod Naming
-mod Splitting

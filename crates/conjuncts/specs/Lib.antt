@@ -1,4 +1,0 @@
-pub use Rattle.definitions.specs.Queries.Conjuncts
-pub mod Parts
-pub mod Naming
-pub mod Columns

@@ -1,0 +1,4 @@
+pub mod FormedBlocks
+pub mod Naming
+mod Splitting
+pub mod Saying

@@ -1,0 +1,6 @@
+pub use Rattle.definitions.specs.Queries.Conjuncts
+pub mod Parts
+pub mod Naming
+pub mod Columns
+pub mod Terms
+pub mod Views

@@ -1,0 +1,26 @@
+//! A conjunct, taken apart.
+
+ghost use Rattle.std.specs.Prelude.{◌≡◌, option_map};
+ghost use Rattle.definitions.specs.Estimates.PlanConjuncts as plans;
+ghost use Rattle.definitions.specs.Queries.Conjuncts.{condition_tables, is_late};
+ghost use Rattle.query_tree.specs.Bound.{condition_of};
+ghost use Rattle.plan_tree.specs.Sets.{set_of};
+ghost use Rattle.predicates.specs.Columns.{pair_of};
+
+use plan_tree::TableSet;
+use query_tree::{BlockColumn, Condition};
+
+/// A conjunct: a part of WHERE that every row has to meet, taken apart once.
+#[derive(Clone, Copy)]
+pub struct Conjunct<'a> {
+    pub condition: &'a Condition,
+    /// Whether it can raise, or names no table: then it is evaluated only where all early ones are true (own).
+    pub late: bool,
+    /// The tables of its block that it names.
+    pub tables: TableSet,
+    /// The two columns, where it is `column = column`.
+    pub equated: Option<(BlockColumn, BlockColumn)>,
+    pub ghost judged: { late ≡ is_late (condition_of condition.now) },
+    pub ghost named: { set_of tables ≡ condition_tables (condition_of condition.now) },
+    pub ghost equal: { option_map pair_of equated ≡ plans.equated_columns (condition_of condition.now) },
+}

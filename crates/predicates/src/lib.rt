@@ -1,0 +1,17 @@
+//! The conjuncts of a block's WHERE, each early or late, with the tables that it names and the columns that it equates; and what a condition
+//! says of columns.
+#![tactic(auto)]
+
+mod conjunct;
+mod equated;
+mod known;
+mod split;
+mod tables;
+mod terms;
+
+pub use conjunct::Conjunct;
+pub use equated::{column_of, equated_columns};
+pub use known::known_value;
+pub use split::conjuncts;
+pub use tables::value_tables;
+pub use terms::{ColumnTerm, ColumnTerms, SidedTerm, column_terms};
