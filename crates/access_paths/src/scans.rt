@@ -17,7 +17,7 @@ ghost use Rattle.access_paths.specs.Views.{index_match_of};
 use crate::index_matches::IndexMatch;
 use catalog::{Index, Table};
 use estimate::{Estimate, fraction, share};
-use plan_tree::saturate;
+use plan_tree::{saturate, saturating_sum};
 
 /// Pages that the buffer holds, so that none is fetched twice (own).
 const BUFFER_PAGES: u64 = 64;
@@ -64,15 +64,15 @@ impl IndexSize {
         ensures { (db : Database) (block : b.Block) (number : ℕ) → table_at db block number ≡ Some table.now →
             IsSizeOf db block number index.now.index result }
     {
-        let pages = u128::from(index.statistics().pages);
+        let pages = index.statistics().pages;
         let size = table.statistics();
         IndexSize {
             columns: index.columns().len(),
             unique: index.is_unique(),
             clustered: index.statistics().clustered,
             keys: index.statistics().keys,
-            pages_once: saturate(pages + u128::from(size.pages)),
-            pages_by_row: saturate(pages + u128::from(size.rows)),
+            pages_once: saturating_sum(pages, size.pages),
+            pages_by_row: saturating_sum(pages, size.rows),
         }
     }
 

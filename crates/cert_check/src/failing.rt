@@ -34,7 +34,10 @@ impl Listener for UntilBelow {
 
 /// The first step that leads to a state for less than its bound, by the first rule that fails: accesses, then joins, then sorts (own). It
 /// takes no memory, and looks at each step from each listed state at most once.
-pub fn first_below<'a>(space: &'a Space<'_>, certificate: &Certificate) -> Option<Comparison<'a>>
+pub(crate) fn first_below<'a>(
+    space: &'a Space<'_>,
+    certificate: &Certificate,
+) -> Option<Comparison<'a>>
     requires { IsCertificate (space_in space.now) (certificate_of certificate.now) }
     ensures first { IsFirstBelow (space_in space.now) (certificate_of certificate.now) (option_map comparison_of result) }
     ensures verdict { IfSome (option_map comparison_of result) (λ c. (plan : plan.Plan) →

@@ -17,7 +17,7 @@ use crate::comparison::{Comparison, PlanStep};
 use crate::listener::Listener;
 use crate::verdict::StateKey;
 use plan_space::{JoinRelation, Space};
-use plan_tree::{Certificate, State, TableSet, saturate};
+use plan_tree::{Certificate, State, TableSet, saturating_sum};
 
 /// Hands out the comparisons of the joins from listed states, each once, until the listener wants no more, and gives the one at which it
 /// stopped (own). It takes no memory.
@@ -131,7 +131,7 @@ fn compare_loops<'a, L: Listener>(
             step: PlanStep::Loop(item.path),
             from: Some(from),
             to,
-            cost: saturate(u128::from(from.cost) + u128::from(item.cost)),
+            cost: saturating_sum(from.cost, item.cost),
             bound,
         };
         if !listener.hear(&comparison) {
@@ -169,7 +169,7 @@ fn compare_merges<'a, L: Listener>(
             },
             from: Some(from),
             to,
-            cost: saturate(u128::from(from.cost) + u128::from(item.cost)),
+            cost: saturating_sum(from.cost, item.cost),
             bound,
         };
         if !listener.hear(&comparison) {

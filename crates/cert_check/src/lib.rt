@@ -5,6 +5,7 @@ mod accesses;
 mod comparison;
 mod failing;
 mod joins;
+mod kept_comparison;
 mod listener;
 mod rules;
 mod sorts;
@@ -13,8 +14,8 @@ mod verdict;
 
 pub use accesses::compare_accesses;
 pub use comparison::{Comparison, PlanStep};
-pub use failing::first_below;
 pub use joins::compare_joins;
+pub use kept_comparison::KeptComparison;
 pub use listener::Listener;
 pub use plan_space::{PlanSummary, Space};
 pub use rules::{check, check_outside};

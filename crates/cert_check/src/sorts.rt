@@ -15,7 +15,7 @@ use crate::comparison::{Comparison, PlanStep};
 use crate::listener::Listener;
 use crate::verdict::StateKey;
 use plan_space::Space;
-use plan_tree::{Certificate, State, saturate};
+use plan_tree::{Certificate, State, saturating_sum};
 
 /// Hands out the comparisons of the sorts from listed states, each once, until the listener wants no more, and gives the one at which it
 /// stopped (own). It takes no memory.
@@ -49,7 +49,7 @@ fn compare_sorts_from<'a, L: Listener>(
         listener.old (option_map comparison_of result) listener.new }
 {
     let tables = from.tables;
-    let cost = saturate(u128::from(from.cost) + u128::from(space.sort_cost(tables)));
+    let cost = saturating_sum(from.cost, space.sort_cost(tables));
     'orders: for into in space.sorts(tables) {
         let order = space.fold(tables, into);
         let comparison = Comparison {

@@ -1,5 +1,6 @@
-//! What a checker answers: that all rules hold, or the first that fails and a state where it does.
+//! What a checker answers: that all rules hold, or what makes the first fail that does.
 
+use crate::comparison::Comparison;
 use plan_tree::TableSet;
 
 /// The rules by which a certificate shows that its plan is least (own).
@@ -22,9 +23,12 @@ pub struct StateKey {
     pub order: usize,
 }
 
-/// A pass, or the first rule that fails and a state where it does.
-#[derive(Clone, Copy, PartialEq, Eq)]
-pub enum Verdict {
+/// A pass, or what makes the first rule fail that does.
+#[derive(Clone, Copy)]
+pub enum Verdict<'a> {
     Pass,
-    Refused { rule: Rule, place: StateKey },
+    /// The first comparison that fails.
+    Below(Comparison<'a>),
+    /// None fails, and the target isn't met, at this state of all tables.
+    Unmet(StateKey),
 }

@@ -15,7 +15,7 @@ ghost use Rattle.certificate_files.specs.Telling.{told_of, check_ended_of};
 
 use crate::cutting::{text_end, version_in};
 use crate::lines::{write_block, write_rest};
-use crate::telling::{Told, block_told};
+use crate::telling::{RefusedText, Told, block_told};
 use catalog::Database;
 use certificate::{PlanNote, Version};
 use query_tree::Block;
@@ -23,12 +23,12 @@ use std::alloc::{AllocError, Global};
 
 /// What is told of a file of certificates (own).
 #[derive(Drop)]
-pub struct FileTold {
+pub struct FileTold<'a> {
     /// What is printed of it.
     pub text: Vec<u8>,
     pub ended: FileEnded,
     /// What is told of each block, in the order of their numbers.
-    pub blocks: Vec<BlockTold>,
+    pub blocks: Vec<BlockTold<'a>>,
     /// Where in the file what is left behind the last text begins.
     pub rest: Option<usize>,
     /// What there is to know of the figures that the plans rest on which pass.
@@ -43,23 +43,25 @@ pub enum FileEnded {
 }
 
 /// What is told of the text of a block (own).
-#[derive(Clone, Copy)]
-pub struct BlockTold {
+#[derive(Drop)]
+pub struct BlockTold<'a> {
     /// The version of the plan space that the text speaks of.
     pub version: Version,
     /// Where in the file the text begins.
     pub start: usize,
     pub told: Told,
+    /// What the text was judged in, unless it passes.
+    pub refused: Option<RefusedText<'a>>,
 }
 
 /// What is told of a file of certificates for the blocks of a query (own): each block, in the order of their numbers, is checked by the
 /// next text. It fails where memory runs out.
-pub fn check_file(
+pub fn check_file<'a>(
     alloc: Global,
-    database: &Database,
-    blocks: &[Block],
+    database: &'a Database,
+    blocks: &'a [Block],
     file: &[u8],
-) -> Result<FileTold, AllocError>
+) -> Result<FileTold<'a>, AllocError>
     requires valid { IsDatabase database.now }
     requires formed { AllByRecursion (IsFormedSomewhere database.now) (map block_of blocks.now) }
     requires few { length blocks.now ≤ most_blocks }
@@ -77,13 +79,15 @@ pub fn check_file(
         let end = text_end(left);
         let version = version_in(left);
         let own = &left[..end];
-        let told = block_told(alloc, database, block, number, version, own, &mut notes)?;
-        write_block(&mut text, number, version, told)?;
+        let judged = block_told(alloc, database, block, number, version, own, &mut notes)?;
+        let told = judged.told;
         all.push(BlockTold {
             version,
             start,
             told,
+            refused: judged.refused,
         })?;
+        write_block(&mut text, number, version, told)?;
         ended = with_block(ended, told);
         start += end;
         number += 1;

@@ -6,9 +6,9 @@ mod cutting;
 mod lines;
 mod telling;
 
-pub use cert_check::{Comparison, PlanStep, Rule, StateKey, first_below};
+pub use cert_check::{Comparison, PlanStep, Rule, StateKey};
 pub use certificate::{
     BadState, Expected, Missing, PlanNote, PlanNoteKind, TextFault, Version, Word,
 };
 pub use checking::{BlockTold, FileEnded, FileTold, check_file};
-pub use telling::Told;
+pub use telling::{RefusedText, Told};

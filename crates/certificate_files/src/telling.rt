@@ -1,6 +1,6 @@
 //! What is told of the text of one block.
 
-ghost use Rattle.std.specs.Prelude.{ℕ, List, IfOk};
+ghost use Rattle.std.specs.Prelude.{ℕ, ◌≡◌, List, IfOk};
 ghost use Rattle.definitions.specs.Invariant.{IsDatabase};
 ghost use Rattle.definitions.specs.Binding.Formed.{IsFormedSomewhere};
 ghost use Rattle.definitions.specs.Plans.Certificate.{IsCertificate};
@@ -18,7 +18,7 @@ ghost use Rattle.certificate.specs.Planned.{space_in};
 ghost use Rattle.certificate_files.specs.Telling.{StandsFor, IsToldBy, IsOfText, told_of};
 
 use catalog::Database;
-use cert_check::{Rule, StateKey, Verdict, check, check_outside};
+use cert_check::{KeptComparison, Rule, StateKey, Verdict, check, check_outside};
 use certificate::{BlockSpace, PlanNote, Space, Spelled, TextFault, Version, read_text};
 use query_tree::Block;
 use std::alloc::{AllocError, Global};
@@ -34,31 +34,78 @@ pub enum Told {
     Faulty(TextFault),
 }
 
+/// What a text that is refused was judged in (own).
+#[derive(Drop)]
+pub struct RefusedText<'a> {
+    pub own: BlockSpace<'a>,
+    /// What it spells, unless it has a fault.
+    pub spelled: Option<Spelled>,
+    /// The first comparison that fails of it, if one does.
+    pub failing: Option<KeptComparison>,
+}
+
+/// What is told of a text, and what it was judged in unless it passes.
+#[derive(Drop)]
+pub(crate) struct TextTold<'a> {
+    pub told: Told,
+    pub refused: Option<RefusedText<'a>>,
+}
+
+/// What is told of a text, and the comparison that fails of it, if one does.
+#[derive(Drop)]
+struct Judgement {
+    told: Told,
+    failing: Option<KeptComparison>,
+}
+
 /// What is told of the text of the block of a number, in a version of its plan space (own). Where it passes, what there is to know of it
 /// is added to the notes. It fails where memory runs out.
-pub(crate) fn block_told(
+pub(crate) fn block_told<'a>(
     alloc: Global,
-    database: &Database,
-    block: &Block,
+    database: &'a Database,
+    block: &'a Block,
     number: u64,
     version: Version,
     bytes: &[u8],
     notes: &mut Vec<PlanNote>,
-) -> Result<Told, AllocError>
+) -> Result<TextTold<'a>, AllocError>
     requires valid { IsDatabase database.now }
     requires formed { IsFormedSomewhere database.now (block_of block.now) }
-    ensures told { IfOk result (λ told. IsTextVerdict (certified database.now number (block_of block.now)
-        (version_of version)) bytes.now (told_of told)) }
-    ensures text { IfOk result IsOfText }
+    ensures told { IfOk result (λ text. IsTextVerdict (certified database.now number (block_of block.now)
+        (version_of version)) bytes.now (told_of text.told)) }
+    ensures text { IfOk result (λ text. IsOfText text.told) }
 {
     let own = BlockSpace::new(alloc, database, block, number, version)?;
     match read_text(alloc, &own.certified_block(), bytes) {
         Ok(spelled) => {
-            let told = spelled_told(&own.space, &spelled);
-            add_notes(alloc, notes, &own, &spelled, told);
-            Ok(told)
+            let judged = spelled_told(&own.space, &spelled)?;
+            add_notes(alloc, notes, &own, &spelled, judged.told);
+            Ok(with_text(judged, own, Some(spelled)))
         }
-        Err(fault) => fault_told(fault),
+        Err(fault) => {
+            let judged = fault_told(fault)?;
+            Ok(with_text(judged, own, None))
+        }
+    }
+}
+
+/// What is told of a text, with what it was judged in unless it passes.
+fn with_text<'a>(judged: Judgement, own: BlockSpace<'a>, spelled: Option<Spelled>) -> TextTold<'a>
+    ensures { result.told ≡ judged.told }
+{
+    match judged.told {
+        Told::Passes => TextTold {
+            told: Told::Passes,
+            refused: None,
+        },
+        told => TextTold {
+            told,
+            refused: Some(RefusedText {
+                own,
+                spelled,
+                failing: judged.failing,
+            }),
+        },
     }
 }
 
@@ -78,34 +125,51 @@ fn add_notes(
 }
 
 /// What is told of a text that has a fault.
-fn fault_told(fault: TextFault) -> Result<Told, AllocError>
+fn fault_told(fault: TextFault) -> Result<Judgement, AllocError>
     ensures told { (block : CertifiedBlock) (bytes : List ℕ) → HasTextFault block bytes fault →
-        IfOk result (λ told. IsTextVerdict block bytes (told_of told)) }
-    ensures text { IfOk result IsOfText }
+        IfOk result (λ judged. IsTextVerdict block bytes (told_of judged.told)) }
+    ensures text { IfOk result (λ judged. IsOfText judged.told) }
 {
     match fault {
-        TextFault::Form { .. } | TextFault::Missing(_) | TextFault::States(_) => {
-            Ok(Told::Faulty(fault))
-        }
+        TextFault::Form { .. } | TextFault::Missing(_) | TextFault::States(_) => Ok(Judgement {
+            told: Told::Faulty(fault),
+            failing: None,
+        }),
         TextFault::Memory => Err(AllocError),
     }
 }
 
 /// What is told of what a text spells.
-fn spelled_told(space: &Space<'_>, spelled: &Spelled) -> Told
+fn spelled_told(space: &Space<'_>, spelled: &Spelled) -> Result<Judgement, AllocError>
     requires { IsCertificate (space_in space.now) (certificate_of spelled.now.certificate) }
-    ensures told { (plan : spec.Plan) → StandsFor (space_in space.now) plan spelled.now.plan →
-        IsToldBy (space_in space.now) plan (certificate_of spelled.now.certificate) (told_of result) }
-    ensures text { IsOfText result }
+    ensures told { IfOk result (λ judged. (plan : spec.Plan) → StandsFor (space_in space.now) plan spelled.now.plan →
+        IsToldBy (space_in space.now) plan (certificate_of spelled.now.certificate) (told_of judged.told)) }
+    ensures text { IfOk result (λ judged. IsOfText judged.told) }
 {
     match verdict_on(space, spelled) {
-        Verdict::Pass => Told::Passes,
-        Verdict::Refused { rule, place } => Told::Fails { rule, place },
+        Verdict::Pass => Ok(Judgement {
+            told: Told::Passes,
+            failing: None,
+        }),
+        Verdict::Below(failing) => Ok(Judgement {
+            told: Told::Fails {
+                rule: failing.rule(),
+                place: failing.place(),
+            },
+            failing: Some(KeptComparison::new(&failing)?),
+        }),
+        Verdict::Unmet(place) => Ok(Judgement {
+            told: Told::Fails {
+                rule: Rule::Target,
+                place,
+            },
+            failing: None,
+        }),
     }
 }
 
 /// The verdict on it.
-fn verdict_on(space: &Space<'_>, spelled: &Spelled) -> Verdict
+fn verdict_on<'a>(space: &'a Space<'_>, spelled: &Spelled) -> Verdict<'a>
     requires { IsCertificate (space_in space.now) (certificate_of spelled.now.certificate) }
     ensures { (plan : spec.Plan) → StandsFor (space_in space.now) plan spelled.now.plan →
         IsVerdict (space_in space.now) (certificate_of spelled.now.certificate) plan (verdict_of result) }

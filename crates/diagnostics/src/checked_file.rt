@@ -10,6 +10,6 @@ pub struct CheckedFile<'a> {
     pub file: &'a [u8],
     pub query: &'a Select,
     /// The blocks of the query, in the order of their numbers.
-    pub blocks: Vec<Block>,
-    pub told: FileTold,
+    pub blocks: &'a [Block],
+    pub told: FileTold<'a>,
 }

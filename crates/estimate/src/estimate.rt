@@ -20,7 +20,7 @@ use crate::planning::plan_conjuncts;
 use crate::shares::{left_by_completed, left_by_known};
 use crate::table_size::TableSize;
 use catalog::{Database, Table};
-use plan_tree::{TableSet, saturate};
+use plan_tree::{TableSet, saturate, saturating_product};
 use query_tree::Block;
 use std::alloc::{AllocError, Global};
 use std::marker::Model;
@@ -151,7 +151,7 @@ impl<'a> Estimate<'a> {
             table }
         ensures below { result ≤ limit }
     {
-        let product = saturate(u128::from(rows) * u128::from(self.sizes[table].rows));
+        let product = saturating_product(rows, self.sizes[table].rows);
         left_by_completed(&self.conjuncts, taken, table, product)
     }
 

@@ -15,7 +15,6 @@ ghost use Rattle.query_tree.specs.Bound.{block_of};
 ghost use Rattle.plan_space.specs.BlockPlans.{AreLeastOf};
 ghost use Rattle.executor.specs.ReadyBlocks.{blocks_in, database_in, total_at, AreReady, AreRight};
 
-use crate::nested::sum_of;
 use crate::ready_block::{ReadyBlock, ready_blocks};
 use crate::running::run_plan;
 use crate::taking::take_rows;
@@ -23,6 +22,7 @@ use crate::watch::{QueryWatch, WorkCount};
 use block_answers::BlockRows;
 use catalog::Database;
 use plan_space::BlockPlan;
+use plan_tree::saturating_sum;
 use query_tree::Block;
 use result_rows::AnswerFault;
 use std::alloc::{AllocError, Global};
@@ -94,7 +94,7 @@ pub fn run_select<'s, W: QueryWatch>(
     )?;
     let store = rows.finish(alloc, &first.source, first.block, &frames)?;
     let text = store.end(&first.block.order)?;
-    Ok((text, sum_of(pipeline.opened_rows(), inner)))
+    Ok((text, saturating_sum(pipeline.opened_rows(), inner)))
 }
 
 /// How many results are kept of a block that has parameters (own).

@@ -26,7 +26,7 @@ use crate::ready_block::ReadyBlock;
 use crate::running::run_plan;
 use block_answers::{KeptRows, row_at, try_all};
 use filters::{BlockSource, Composite, OuterRows};
-use plan_tree::saturate;
+use plan_tree::saturating_sum;
 use query_tree::Condition;
 use scans::TupleSource;
 use sqlvalue::Raise;
@@ -103,7 +103,7 @@ fn evaluate_block<'s, W: WorkWatch>(
     let mut inner = 0;
     'composites: while let Some(composite) = pipeline.next(&*frames) {
         let (late, work) = try_late(alloc, query, number, &composite, frames, results)?;
-        inner = sum_of(inner, work);
+        inner = saturating_sum(inner, work);
         rows.take(
             alloc,
             &ready.source,
@@ -114,7 +114,7 @@ fn evaluate_block<'s, W: WorkWatch>(
         )?;
     }
     let told = rows.end(alloc, &ready.source, ready.block, &*frames)?;
-    Ok((told, sum_of(pipeline.opened_rows(), inner)))
+    Ok((told, saturating_sum(pipeline.opened_rows(), inner)))
 }
 
 /// What the late conjuncts of a block say of a composite, and the sum of the totals of their subqueries there.
@@ -181,7 +181,7 @@ fn ask_subqueries<'s, W: WorkWatch>(
     'blocks: for block in &ready.subqueries {
         let existence = !ready.sees(*block);
         let own = ask_block(alloc, query, *block, existence, frames, results)?;
-        work = sum_of(work, own);
+        work = saturating_sum(work, own);
     }
     Ok(work)
 }
@@ -211,11 +211,4 @@ fn try_conjuncts<A: OuterRows>(
         results,
     };
     try_all(late, &env)
-}
-
-/// A sum of totals, which stops at the limit.
-pub(crate) fn sum_of(total: u64, more: u64) -> u64
-    ensures { result ≡ saturated (total + more) }
-{
-    saturate(u128::from(total) + u128::from(more))
 }

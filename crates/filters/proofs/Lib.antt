@@ -5,6 +5,7 @@ pub mod Evaluable
 pub mod WordRows
 pub mod Comparing
 pub mod Parts
+pub mod TestViews
 pub mod Coming
 pub mod Listed
 pub mod NullRows

@@ -8,12 +8,13 @@ use Rattle.definitions.specs.Queries.BoundBlock.{And, Condition, Conditions, NoP
 use Rattle.definitions.specs.Queries.Combinations.{is_surely_true}
 use Rattle.definitions.specs.Queries.Conjuncts.{values_of, values_of_parts}
 use Rattle.definitions.specs.Queries.Evaluation.{Environment, on_one, on_two, truth, truths}
-use Rattle.query_tree.specs.Bound.{condition_of, conditions}
-use Rattle.query_tree.specs.declared.condition.Condition as code
+use Rattle.query_tree.specs.Bound.{conditions}
 use Rattle.definitions_execution.specs.Lists.{In}
+use Rattle.filters.specs.Compiled.{condition_of_test}
 use Rattle.filters.specs.JoinFilters.{itself, under_and, under_or, IsEarly, IsEarlyPart, IsOneOf, IsPartOf}
 use Rattle.filters.specs.Sources.{BlockSource}
 use Rattle.filters.specs.Truths.{is_true_on}
+use Rattle.filters.specs.declared.row_test.RowTest.{RowTest}
 
 pub as_part : (source : BlockSource) (condition : Condition) → IsEarly source condition → IsEarlyPart source condition
 as_part source condition is = record { whole = condition; early = is; part = itself }
@@ -99,26 +100,26 @@ any_next (Is t) (Is us) ts e = either_true t (any_true us)
 any_next (Is t) (Raises r rs) ts e = absurd cc
 any_next (Raises r rs) ms ts e = absurd cc
 
-abbrev pub parts_of : List code.Condition → Conditions
-parts_of xs = conditions (map condition_of xs)
+abbrev pub parts_of : List RowTest → Conditions
+parts_of xs = conditions (map condition_of_test xs)
 
-all_parts : (env : Environment) (xs : List code.Condition) → is_true_on env (And (parts_of xs)) ≡ list_all (λ x. is_true_on env (condition_of x)) xs
+all_parts : (env : Environment) (xs : List RowTest) → is_true_on env (And (parts_of xs)) ≡ list_all (λ x. is_true_on env (condition_of_test x)) xs
 all_parts env [] = refl
 all_parts env (x ∷ xs) =
-    all_next (truth env (condition_of x)) (truths env (parts_of xs))
-    ∙ ap (λ b. is_true_on env (condition_of x) && b) (all_parts env xs)
+    all_next (truth env (condition_of_test x)) (truths env (parts_of xs))
+    ∙ ap (λ b. is_true_on env (condition_of_test x) && b) (all_parts env xs)
 
-any_parts : (env : Environment) (xs : List code.Condition) (ts : List Truth) → truths env (parts_of xs) ≡ Is ts → is_true_on env (Or (parts_of xs)) ≡ list_any (λ x. is_true_on env (condition_of x)) xs
+any_parts : (env : Environment) (xs : List RowTest) (ts : List Truth) → truths env (parts_of xs) ≡ Is ts → is_true_on env (Or (parts_of xs)) ≡ list_any (λ x. is_true_on env (condition_of_test x)) xs
 any_parts env [] ts e = refl
 any_parts env (x ∷ xs) ts e =
-    let rest = (told_two (truth env (condition_of x)) (truths env (parts_of xs)) ts e).1 in
-    any_next (truth env (condition_of x)) (truths env (parts_of xs)) ts e
-    ∙ ap (λ b. is_true_on env (condition_of x) || b) (any_parts env xs rest.0 rest.1)
+    let rest = (told_two (truth env (condition_of_test x)) (truths env (parts_of xs)) ts e).1 in
+    any_next (truth env (condition_of_test x)) (truths env (parts_of xs)) ts e
+    ∙ ap (λ b. is_true_on env (condition_of_test x) || b) (any_parts env xs rest.0 rest.1)
 
-pub all_of_parts : (env : Environment) (condition : Condition) (xs : List code.Condition) → condition ≡ And (parts_of xs) → list_all (λ x. is_true_on env (condition_of x)) xs ≡ is_true_on env condition
+pub all_of_parts : (env : Environment) (condition : Condition) (xs : List RowTest) → condition ≡ And (parts_of xs) → list_all (λ x. is_true_on env (condition_of_test x)) xs ≡ is_true_on env condition
 all_of_parts env condition xs same = sym (ap (is_true_on env) same ∙ all_parts env xs)
 
-pub any_of_parts : (env : Environment) (condition : Condition) (xs : List code.Condition) → condition ≡ Or (parts_of xs) → IsTold env condition → list_any (λ x. is_true_on env (condition_of x)) xs ≡ is_true_on env condition
+pub any_of_parts : (env : Environment) (condition : Condition) (xs : List RowTest) → condition ≡ Or (parts_of xs) → IsTold env condition → list_any (λ x. is_true_on env (condition_of_test x)) xs ≡ is_true_on env condition
 any_of_parts env condition xs same told =
     let (t, e) = subst (IsTold env) same told in
     let (ts, there) = told_parts any_true (truths env (parts_of xs)) t e in
@@ -126,15 +127,15 @@ any_of_parts env condition xs same told =
 
 -- ---- a part at its place
 
-one_at : (xs : List code.Condition) (i : ℕ) (x : code.Condition) → i < length xs → x ≡ get_or xs i x → IsOneOf (parts_of xs) (condition_of x)
+one_at : (xs : List RowTest) (i : ℕ) (x : RowTest) → i < length xs → x ≡ get_or xs i x → IsOneOf (parts_of xs) (condition_of_test x)
 one_at [] i x h e = absurd (omega (arith, h))
-one_at (y ∷ ys) zero x h e = inl (ap condition_of e)
+one_at (y ∷ ys) zero x h e = inl (ap condition_of_test e)
 one_at (y ∷ ys) (suc i) x h e = inr (one_at ys i x (omega (arith, h)) e)
 
-pub and_part : (source : BlockSource) (condition : Condition) (xs : List code.Condition) (i : ℕ) (x : code.Condition) → condition ≡ And (parts_of xs) → i < length xs → x ≡ get_or xs i x → IsEarlyPart source condition → IsEarlyPart source (condition_of x)
+pub and_part : (source : BlockSource) (condition : Condition) (xs : List RowTest) (i : ℕ) (x : RowTest) → condition ≡ And (parts_of xs) → i < length xs → x ≡ get_or xs i x → IsEarlyPart source condition → IsEarlyPart source (condition_of_test x)
 and_part source condition xs i x same h e is =
-    record { whole = is.whole; early = is.early; part = under_and (parts_of xs) (condition_of x) (subst (IsPartOf is.whole) same is.part) (one_at xs i x h e) }
+    record { whole = is.whole; early = is.early; part = under_and (parts_of xs) (condition_of_test x) (subst (IsPartOf is.whole) same is.part) (one_at xs i x h e) }
 
-pub or_part : (source : BlockSource) (condition : Condition) (xs : List code.Condition) (i : ℕ) (x : code.Condition) → condition ≡ Or (parts_of xs) → i < length xs → x ≡ get_or xs i x → IsEarlyPart source condition → IsEarlyPart source (condition_of x)
+pub or_part : (source : BlockSource) (condition : Condition) (xs : List RowTest) (i : ℕ) (x : RowTest) → condition ≡ Or (parts_of xs) → i < length xs → x ≡ get_or xs i x → IsEarlyPart source condition → IsEarlyPart source (condition_of_test x)
 or_part source condition xs i x same h e is =
-    record { whole = is.whole; early = is.early; part = under_or (parts_of xs) (condition_of x) (subst (IsPartOf is.whole) same is.part) (one_at xs i x h e) }
+    record { whole = is.whole; early = is.early; part = under_or (parts_of xs) (condition_of_test x) (subst (IsPartOf is.whole) same is.part) (one_at xs i x h e) }

@@ -26,7 +26,7 @@ onto : {X Z : Type 0} (f : X → Z) (xs : List X) (x : X) (zs : List Z) → map 
 onto f [] x zs = refl
 onto f (y ∷ ys) x zs = ap (λ rest. f y ∷ rest) (onto f ys x zs)
 
-next_mapped : {X Y Z : Type 0} (f : X → Z) (g : Y → Z) (before after : List X) (x : X) (ys : List Y) (i : ℕ) (y : Y) → i < length ys → y ≡ get_or ys i y → after ≡ before ++ x ∷ [] → f x ≡ g y
+pub next_mapped : {X Y Z : Type 0} (f : X → Z) (g : Y → Z) (before after : List X) (x : X) (ys : List Y) (i : ℕ) (y : Y) → i < length ys → y ≡ get_or ys i y → after ≡ before ++ x ∷ [] → f x ≡ g y
     → map f after ++ map g (drop (i + 1) ys) ≡ map f before ++ map g (drop i ys)
 next_mapped f g before after x ys i y h e more same =
     ap (λ xs. map f xs ++ map g (drop (i + 1) ys)) more

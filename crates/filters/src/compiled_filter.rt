@@ -1,43 +1,61 @@
 //! Conjuncts as rows of a table are tested by them, taken apart once when a plan is opened.
 
-ghost use Rattle.std.specs.Prelude.{ℕ, ◌≡◌, is_some};
-ghost use Rattle.predicates.specs.Parts.{condition_in};
-ghost use Rattle.filters.specs.Comparisons.{is_compared, is_kind};
+ghost use Rattle.std.specs.Prelude.{ℕ, ◌≡◌, IfOk, IfSome};
+ghost use Rattle.query_tree.specs.Bound.{condition_of};
+ghost use Rattle.filters.specs.Comparisons.{is_kind, AreComparisonsOf};
 ghost use Rattle.filters.specs.Compiled.{condition_of_filter, IsCompiled};
 
 use crate::comparison::{Comparisons, comparisons_of};
-use predicates::{Conjunct, column_terms};
+use crate::compiled_part::Scan;
+use crate::row_test::{RowTest, test_of};
+use predicates::column_terms;
 use query_tree::Condition;
+use std::alloc::{AllocError, Global};
 
-/// A conjunct, and the comparisons of columns of a table with values that are known before, if it is so much.
-#[derive(Clone, Copy)]
+/// A conjunct, and how rows of a table are tested by it.
+#[derive(Drop)]
 pub struct CompiledFilter<'s> {
     pub condition: &'s Condition,
-    pub comparisons: Option<Comparisons<'s>>,
+    pub(crate) test: RowTest<'s>,
 }
 
 /// A conjunct as rows of a table are tested by it.
-pub(crate) fn compiled<'s>(conjunct: &Conjunct<'s>, table: usize) -> CompiledFilter<'s>
-    ensures condition { condition_of_filter result ≡ condition_in conjunct.now }
-    ensures compiled { IsCompiled table result }
-    ensures compared { is_some result.comparisons ≡ is_compared table (condition_in conjunct.now) }
+pub(crate) fn compiled<'s>(
+    alloc: Global,
+    condition: &'s Condition,
+    table: usize,
+) -> Result<CompiledFilter<'s>, AllocError>
+    ensures condition { IfOk result (λ filter. condition_of_filter filter ≡ condition_of condition.now) }
+    ensures compiled { IfOk result (IsCompiled table) }
 {
-    CompiledFilter {
-        condition: conjunct.condition,
-        comparisons: comparisons_of(column_terms(conjunct.condition), table),
+    let test = test_of(alloc, condition, table)?;
+    Ok(CompiledFilter { condition, test })
+}
+
+/// Whether a condition is comparisons of columns of a table with values that are known before, or whether it is another.
+pub(crate) fn is_of_kind(condition: &Condition, table: usize, compared: bool) -> bool
+    ensures { result ≡ is_kind table compared (condition_of condition.now) }
+{
+    let comparisons = comparisons_of(column_terms(condition), table);
+    if compared {
+        comparisons.is_some()
+    } else {
+        comparisons.is_none()
     }
 }
 
-impl CompiledFilter<'_> {
-    /// Whether it is such comparisons, or whether it is another condition.
-    pub(crate) fn is_of_kind(&self, compared: bool) -> bool
-        ensures { (table : ℕ) → is_some self.now.comparisons ≡ is_compared table (condition_of_filter self.now) →
-            result ≡ is_kind table compared (condition_of_filter self.now) }
+impl<'s> CompiledFilter<'s> {
+    /// The comparisons that a conjunct is, if it is so much.
+    pub(crate) fn comparisons(&self) -> Option<Comparisons<'s>>
+        ensures { (table : ℕ) → IsCompiled table self.now →
+            IfSome result (AreComparisonsOf table (condition_of_filter self.now)) }
     {
-        if compared {
-            self.comparisons.is_some()
-        } else {
-            self.comparisons.is_none()
+        let RowTest::Part(part) = &self.test else {
+            return None;
+        };
+        match part.scan {
+            Scan::Compared(comparisons) => Some(comparisons),
+            _ => None,
         }
     }
 }

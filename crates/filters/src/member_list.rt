@@ -1,10 +1,10 @@
 //! Lists of IN and NOT IN, and how the words of rows that pass their members are put together.
 
-ghost use Rattle.std.specs.Prelude.{ℕ, ◌≡◌, ◌≤◌, map, IfSome, is_some};
-ghost use Rattle.definitions.specs.Queries.BoundBlock.{InList};
+ghost use Rattle.std.specs.Prelude.{ℕ, ◌≡◌, ◌≤◌, IfSome, is_some};
 ghost use Rattle.sqlvalue.specs.Meaning.{op_of};
-ghost use Rattle.query_tree.specs.Bound.{condition_of, member_of, value_of as tree_of};
+ghost use Rattle.query_tree.specs.Bound.{condition_of};
 ghost use Rattle.filters.specs.Comparisons.{is_list, member_op};
+ghost use Rattle.filters.specs.Compiled.{IsListOf};
 ghost use Rattle.filters.specs.Words.{word_by, words_together};
 
 use columns::all_rows;
@@ -13,17 +13,16 @@ use sqlvalue::ComparisonOperator;
 
 /// A condition `value IN (members)`, or `value NOT IN (members)`.
 #[derive(Clone, Copy)]
-pub(crate) struct MemberList<'a> {
-    pub negated: bool,
-    pub value: &'a ValueExpr,
-    pub members: &'a [Option<ValueExpr>],
+pub struct MemberList<'a> {
+    pub(crate) negated: bool,
+    pub(crate) value: &'a ValueExpr,
+    pub(crate) members: &'a [Option<ValueExpr>],
 }
 
 /// A condition as such a list; none where it is none.
 pub(crate) fn list_of(condition: &Condition) -> Option<MemberList<'_>>
     ensures some { is_some result ≡ is_list (condition_of condition.now) }
-    ensures same { IfSome result (λ list. condition_of condition.now ≡
-        InList list.negated (tree_of list.value.now) (map member_of list.members.now)) }
+    ensures same { IfSome result (IsListOf (condition_of condition.now)) }
 {
     match condition {
         Condition::InList {

@@ -5,7 +5,7 @@ ghost use Rattle.definitions.specs.Arithmetic.{Is};
 ghost use Rattle.definitions.specs.Queries.BoundBlock as spec;
 ghost use Rattle.definitions.specs.Queries.Evaluation as meaning;
 ghost use Rattle.definitions_execution.specs.OfBlock.{rows_in};
-ghost use Rattle.query_tree.specs.Bound.{condition_of, value_of as tree_of};
+ghost use Rattle.query_tree.specs.Bound.{value_of as tree_of};
 ghost use Rattle.sqlvalue.specs.Meaning.{value_of};
 ghost use Rattle.filters.specs.Comparisons.{AreComparisonsOf, IsIn};
 ghost use Rattle.filters.specs.JoinFilters.{met_with, CanCome, IsEarlyPart};
@@ -14,12 +14,10 @@ ghost use Rattle.filters.specs.Sources.{block_in, environment_at};
 ghost use Rattle.filters.specs.Words.{word_by};
 
 use crate::block_source::BlockSource;
-use crate::comparison::{Comparison, Comparisons, comparisons_of};
+use crate::comparison::{Comparison, Comparisons};
 use crate::outer_rows::OuterRows;
 use crate::row_context::RowContext;
 use expr::value;
-use predicates::column_terms;
-use query_tree::Condition;
 use sqlvalue::{ComparisonOperator, Value};
 
 /// A comparison of a column of a table with a value (Selinger et al. 1979, section 3: search arguments).
@@ -87,25 +85,7 @@ impl SearchArguments<'_> {
     }
 }
 
-/// What a part of an early conjunct asks of the rows of a table that come to a composite, where it says how columns of the table compare
-/// with others' values; none where it doesn't, or they have none.
-pub(crate) fn search_arguments<'v, A: OuterRows>(
-    condition: &'v Condition,
-    table: usize,
-    context: &'v RowContext<'_, '_, A>,
-) -> Option<SearchArguments<'v>>
-    requires can { CanCome context.now.source.now (A.combinations context.now.around.now) table }
-    requires early { IsEarlyPart context.now.source.now (condition_of condition.now) }
-    ensures { IfSome result (AreArgumentsOf context.now.source.now (A.combinations context.now.around.now)
-        context.now.rows.now table (condition_of condition.now)) }
-{
-    match comparisons_of(column_terms(condition), table) {
-        Some(comparisons) => arguments_of(comparisons, table, context),
-        None => None,
-    }
-}
-
-/// What the comparisons of such a part ask, where their other sides have values.
+/// What the comparisons of a part of an early conjunct ask of the rows of a table that come to a composite, where their other sides have values.
 pub(crate) fn arguments_of<'v, A: OuterRows>(
     comparisons: Comparisons<'v>,
     table: usize,

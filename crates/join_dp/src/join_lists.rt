@@ -14,8 +14,8 @@ ghost use Rattle.plan_space.specs.Relation.{IsRelation};
 
 use crate::cheapest_path::cheapest_path;
 use crate::step::{AddedJoin, Join};
-use plan_space::{JoinRelation, Space};
-use plan_tree::{TableSet, saturate};
+use plan_space::{JoinRelation, Space, loop_cost};
+use plan_tree::TableSet;
 use std::alloc::{AllocError, Global};
 
 /// Where the joins on top of the plans of a set stand.
@@ -119,7 +119,7 @@ fn push_loop<'a>(
     let Some(item) = cheapest_path(space, outer.tables, table) else {
         return Ok(u64::MAX);
     };
-    let cost = saturate(u128::from(outer.rows) * u128::from(item.cost));
+    let cost = loop_cost(outer.rows, item.cost);
     joins.push(AddedJoin {
         table,
         join: Join::Loop { path: item.path },

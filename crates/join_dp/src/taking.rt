@@ -22,7 +22,7 @@ use crate::join_lists::{JoinLists, Places};
 use crate::states::{StatePlan, States};
 use crate::step::{AddedJoin, Candidate, Join, Step};
 use plan_space::{JoinRelation, Space};
-use plan_tree::saturate;
+use plan_tree::saturating_sum;
 use std::alloc::AllocError;
 
 /// Takes the steps from the state at a place.
@@ -127,7 +127,7 @@ fn sorted_cost(space: &Space<'_>, state: StatePlan<'_>) -> u64
 {
     match state.found.sorted {
         Some(_) => state.found.cost,
-        None => saturate(u128::from(state.found.cost) + u128::from(space.sort_cost(state.tables))),
+        None => saturating_sum(state.found.cost, space.sort_cost(state.tables)),
     }
 }
 
@@ -192,7 +192,7 @@ fn take_join<'a>(
             join: added.join,
         },
         sorted: None,
-        cost: saturate(u128::from(state.found.cost) + u128::from(added.cost)),
+        cost: saturating_sum(state.found.cost, added.cost),
     };
     states.offer(tables, space.fold(tables, state.order), found)
 }

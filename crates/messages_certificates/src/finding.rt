@@ -1,11 +1,5 @@
 //! Why the text of a block is refused, and where.
 
-ghost use Rattle.definitions.specs.Binding.Formed.{IsFormedSomewhere};
-ghost use Rattle.definitions.specs.Plans.Certificate.{IsCertificate};
-ghost use Rattle.query_tree.specs.Bound.{block_of};
-ghost use Rattle.plan_tree.specs.Certificates.{certificate_of};
-ghost use Rattle.certificate.specs.Planned.{space_in};
-
 use crate::lacking::{missing_found, state_found};
 use crate::naming::Naming;
 use crate::places::{Spot, offset_of};
@@ -13,13 +7,15 @@ use crate::reason::{Ending, Reason};
 use crate::steps::{low_step, state_at};
 use crate::target::target_missed;
 use catalog::Database;
-use certificate::{BlockSpace, Spelled, Version, read_text};
-use certificate_files::{Expected, FileTold, Rule, StateKey, TextFault, Told, Word, first_below};
+use certificate::{BlockSpace, Version};
+use certificate_files::{
+    Comparison, Expected, FileTold, RefusedText, StateKey, TextFault, Told, Word,
+};
 use parse_tree::Select;
 use plan_texts::BlockNames;
 use plan_tree::Certificate;
 use query_tree::Block;
-use std::alloc::{AllocError, Global};
+use std::alloc::Global;
 
 /// What is told of a block whose text is refused.
 #[derive(Drop)]
@@ -40,12 +36,13 @@ pub(crate) struct Query<'a> {
     pub blocks: &'a [Block],
 }
 
-/// A text that is refused, of the block of a number, from 0.
+/// A text that is refused, of the block of a number, from 0, and what it was judged in.
 #[derive(Clone, Copy)]
 pub(crate) struct Refused<'a> {
-    pub number: u64,
+    pub number: usize,
     pub version: Version,
     pub text: &'a [u8],
+    pub judged: &'a RefusedText<'a>,
 }
 
 /// Where in a text it is refused, and why.
@@ -62,22 +59,20 @@ pub(crate) fn block_message(
     alloc: Global,
     database: &Database,
     query: Query<'_>,
-    block: &Block,
     number: usize,
     file: &[u8],
-    told: &FileTold,
-) -> Option<Message>
-    requires { IsFormedSomewhere database.now (block_of block.now) }
-{
+    told: &FileTold<'_>,
+) -> Option<Message> {
     let own = told.blocks.get(number)?;
     let refused = Refused {
-        number: number as u64,
+        number,
         version: own.version,
         text: file
             .get(own.start..end_of(file, told, number))
             .unwrap_or(&[]),
+        judged: own.refused.as_ref()?,
     };
-    let found = refusal(alloc, database, query, block, refused, own.told)?;
+    let found = refusal(alloc, database, query, refused, own.told)?;
     Some(Message {
         block: number,
         offset: own.start.saturating_add(found.at),
@@ -87,7 +82,7 @@ pub(crate) fn block_message(
 }
 
 /// Where the text of the block of a number ends.
-fn end_of(file: &[u8], told: &FileTold, number: usize) -> usize {
+fn end_of(file: &[u8], told: &FileTold<'_>, number: usize) -> usize {
     match told.blocks.get(number.saturating_add(1)) {
         Some(next) => next.start,
         None => told.rest.unwrap_or(file.len()),
@@ -99,24 +94,19 @@ fn refusal(
     alloc: Global,
     database: &Database,
     query: Query<'_>,
-    block: &Block,
     refused: Refused<'_>,
     told: Told,
-) -> Option<Found>
-    requires { IsFormedSomewhere database.now (block_of block.now) }
-{
+) -> Option<Found> {
     match told {
         Told::Passes => None,
         Told::Faulty(TextFault::Form { at, expected }) => Some(form_found(refused, at, expected)),
-        Told::Faulty(TextFault::Missing(missing)) => {
-            Some(missing_found(alloc, database, block, refused, missing))
-        }
+        Told::Faulty(TextFault::Missing(missing)) => Some(missing_found(refused, missing)),
         Told::Faulty(TextFault::States(bad)) => Some(state_found(alloc, refused, bad)),
         Told::Faulty(TextFault::Memory) => Some(plain(told)),
-        Told::Fails { rule, place } => {
-            match rule_found(alloc, database, query, block, refused, rule, place) {
-                Ok(Some(found)) => Some(found),
-                Ok(None) | Err(_) => Some(plain(told)),
+        Told::Fails { place, .. } => {
+            match rule_found(alloc, database, query, refused, place) {
+                Some(found) => Some(found),
+                None => Some(plain(told)),
             }
         }
     }
@@ -176,52 +166,30 @@ fn behind_last_word(left: &[u8], expected: Expected) -> Option<&[u8]> {
     left.strip_prefix(word.bytes().strip_suffix(b"\n")?)
 }
 
-/// What makes a rule fail of a text.
+/// What makes a rule fail of a text; none where memory runs out.
 fn rule_found(
     alloc: Global,
     database: &Database,
     query: Query<'_>,
-    block: &Block,
     refused: Refused<'_>,
-    rule: Rule,
     place: StateKey,
-) -> Result<Option<Found>, AllocError>
-    requires { IsFormedSomewhere database.now (block_of block.now) }
-{
-    let own = BlockSpace::new(alloc, database, block, refused.number, refused.version)?;
-    let names = BlockNames::new(
-        alloc,
-        database,
-        query.tree,
-        query.blocks,
-        refused.number as usize,
-    )?;
+) -> Option<Found> {
+    let judged = refused.judged;
+    let spelled = judged.spelled.as_ref()?;
+    let names = BlockNames::new(alloc, database, query.tree, query.blocks, refused.number).ok()?;
     let naming = Naming {
         alloc,
         names: &names,
     };
-    match read_text(alloc, &own.certified_block(), refused.text) {
-        Ok(spelled) => Ok(rule_failing(naming, &own, &spelled, refused.text, rule, place)),
-        Err(_) => Ok(None),
-    }
-}
-
-/// What makes a rule fail of what a text spells.
-fn rule_failing(
-    naming: Naming<'_, '_>,
-    own: &BlockSpace<'_>,
-    spelled: &Spelled,
-    text: &[u8],
-    rule: Rule,
-    place: StateKey,
-) -> Option<Found>
-    requires { IsCertificate (space_in own.now.space) (certificate_of spelled.now.certificate) }
-{
-    match rule {
-        Rule::Target => Some(target_missed(naming, own, spelled, text, place)),
-        Rule::Accesses | Rule::Joins | Rule::Sorts => {
-            step_failing(naming, own, &spelled.certificate, text)
-        }
+    match &judged.failing {
+        Some(kept) => step_failing(
+            naming,
+            &judged.own,
+            &spelled.certificate,
+            refused.text,
+            &kept.comparison(),
+        ),
+        None => Some(target_missed(naming, &judged.own, spelled, refused.text, place)),
     }
 }
 
@@ -231,10 +199,8 @@ fn step_failing(
     own: &BlockSpace<'_>,
     certificate: &Certificate,
     text: &[u8],
-) -> Option<Found>
-    requires { IsCertificate (space_in own.now.space) (certificate_of certificate.now) }
-{
-    let failing = first_below(&own.space, certificate)?;
+    failing: &Comparison<'_>,
+) -> Option<Found> {
     // the bound of a state that isn't listed is the target
     let spot = match state_at(certificate, failing.place()) {
         Some(number) => Spot::StateTables(number),
@@ -242,7 +208,7 @@ fn step_failing(
     };
     Some(Found {
         at: offset_of(text, spot),
-        reason: Reason::Step(low_step(own, &failing, certificate.target)?),
-        named: naming.step(own, &failing),
+        reason: Reason::Step(low_step(own, failing, certificate.target)?),
+        named: naming.step(own, failing),
     })
 }

@@ -1,40 +1,23 @@
 //! Numbers of texts that aren't there, and states that can't stand where they do.
 
-ghost use Rattle.definitions.specs.Binding.Formed.{IsFormedSomewhere};
-ghost use Rattle.query_tree.specs.Bound.{block_of};
-
 use crate::finding::{Found, Refused};
 use crate::numbers::offset_of_missing;
 use crate::places::{Spot, offset_of};
 use crate::reason::{Lack, Reason};
 use crate::spelling::StateName;
-use catalog::Database;
 use certificate::BlockSpace;
 use certificate_files::{BadState, Missing, TextFault, Told};
 use certificate_syntax::{Written, WrittenState, written_in};
-use query_tree::Block;
 use std::alloc::Global;
 
 /// A number that isn't there, and how many are.
-pub(crate) fn missing_found(
-    alloc: Global,
-    database: &Database,
-    block: &Block,
-    refused: Refused<'_>,
-    missing: Missing,
-) -> Found
-    requires { IsFormedSomewhere database.now (block_of block.now) }
-{
-    let count = match BlockSpace::new(alloc, database, block, refused.number, refused.version) {
-        Ok(own) => count_of(&own, missing),
-        Err(_) => None,
-    };
+pub(crate) fn missing_found(refused: Refused<'_>, missing: Missing) -> Found {
     Found {
         at: offset_of_missing(refused.text, missing),
         reason: Reason::Missing(Lack {
             missing,
             version: refused.version,
-            count,
+            count: count_of(&refused.judged.own, missing),
         }),
         named: None,
     }

@@ -1,6 +1,6 @@
 //! What people are told of texts of certificates that are refused, beside their printed lines: where in the file each is refused, and
 //! why, by numbers as texts have them and by the names of the script. The step and the numbers by which a rule fails are those of the
-//! check itself, which is asked once more; no printed line depends on the words.
+//! check itself, which hands them on; no printed line depends on the words.
 #![tactic(auto)]
 
 mod finding;

@@ -1,10 +1,5 @@
 //! Messages on a file of certificates, as they are shown.
 
-ghost use Rattle.std.specs.Prelude.{map};
-ghost use Rattle.std.specs.List.{AllByRecursion};
-ghost use Rattle.definitions.specs.Binding.Formed.{IsFormedSomewhere};
-ghost use Rattle.query_tree.specs.Bound.{block_of};
-
 use crate::finding::{Message, Query, block_message};
 use crate::page::Page;
 use catalog::Database;
@@ -35,10 +30,8 @@ impl<'r> FileReport<'r> {
         database: &Database,
         query: &Select,
         blocks: &[Block],
-        told: &FileTold,
-    ) -> FileReport<'r>
-        requires { AllByRecursion (IsFormedSomewhere database.now) (map block_of blocks.now) }
-    {
+        told: &FileTold<'_>,
+    ) -> FileReport<'r> {
         FileReport {
             name,
             file,
@@ -144,19 +137,15 @@ fn messages(
     database: &Database,
     tree: &Select,
     blocks: &[Block],
-    told: &FileTold,
-) -> Vec<Message>
-    requires { AllByRecursion (IsFormedSomewhere database.now) (map block_of blocks.now) }
-{
+    told: &FileTold<'_>,
+) -> Vec<Message> {
     let query = Query { tree, blocks };
     let mut messages = Vec::new(alloc);
-    let mut number: usize = 0;
-    'texts: for block in blocks {
-        if let Some(message) = block_message(alloc, database, query, block, number, file, told) {
+    for number in 0..blocks.len() {
+        if let Some(message) = block_message(alloc, database, query, number, file, told) {
             // no room: one message fewer
             let _ = messages.push(message);
         }
-        number = number.saturating_add(1);
     }
     messages
 }

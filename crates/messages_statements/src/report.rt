@@ -1,10 +1,5 @@
 //! Messages as they are shown.
 
-ghost use Rattle.std.specs.Prelude.{map};
-ghost use Rattle.std.specs.List.{AllByRecursion};
-ghost use Rattle.definitions.specs.Binding.Formed.{IsFormedSomewhere};
-ghost use Rattle.query_tree.specs.Bound.{block_of};
-
 use crate::create::write_create;
 use crate::exceptions::ExceptionReport;
 use crate::index::write_index;
@@ -122,16 +117,14 @@ impl<'a> Reporter<'a> {
         name: &'r str,
         checked: &'r CheckedFile<'r>,
         database: &'r Database,
-    ) -> FileReport<'r>
-        requires { AllByRecursion (IsFormedSomewhere database.now) (map block_of checked.now.blocks.items) }
-    {
+    ) -> FileReport<'r> {
         FileReport::new(
             self.alloc,
             name,
             checked.file,
             database,
             checked.query,
-            &checked.blocks,
+            checked.blocks,
             &checked.told,
         )
     }

@@ -20,7 +20,7 @@ mod summarising;
 pub use block_plan::BlockPlan;
 pub use interesting_orders::{Sorts, Version};
 pub use join_relation::JoinRelation;
-pub use loop_joins::{CostedLoop, Loops};
+pub use loop_joins::{CostedLoop, Loops, loop_cost};
 pub use merge_joins::{CostedMerge, Merges};
 pub use merge_lists::BlockMerges;
 pub use notes::{PlanNote, PlanNoteKind};

@@ -1,10 +1,11 @@
 //! The nested loop joins that may bring a table, given one after another with their costs.
 
-ghost use Rattle.std.specs.Prelude.{◌≡◌, map};
+ghost use Rattle.std.specs.Prelude.{◌≡◌, ◌*◌, map};
+ghost use Rattle.definitions.specs.Plans.Cost.{saturated};
 ghost use Rattle.plan_space.specs.Loop.{with_scans};
 
 use crate::paths::Paths;
-use plan_tree::{Path, saturate};
+use plan_tree::{Path, saturating_product};
 use std::marker::Model;
 
 /// A loop over a path of one more table, and what it adds to the cost of the outer plan: a scan of the path for each outer row
@@ -56,9 +57,16 @@ impl<'a> Iterator for Loops<'a> {
         match self.paths.next() {
             Some(item) => Some(CostedLoop {
                 path: item.path,
-                cost: saturate(u128::from(self.outer_rows) * u128::from(item.cost)),
+                cost: loop_cost(self.outer_rows, item.cost),
             }),
             None => None,
         }
     }
+}
+
+/// What a loop adds to the cost of the outer plan: a scan of the path, which costs so much, for each outer row (Selinger et al. 1979, section 5).
+pub fn loop_cost(outer_rows: u64, path_cost: u64) -> u64
+    ensures { result ≡ saturated (outer_rows * path_cost) }
+{
+    saturating_product(outer_rows, path_cost)
 }

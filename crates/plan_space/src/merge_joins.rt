@@ -7,7 +7,7 @@ ghost use Rattle.plan_space.specs.Merge.{open_merges, with_pairs};
 
 use crate::listed::MergeJoinPath;
 use estimate::share;
-use plan_tree::{Path, TableSet, saturate};
+use plan_tree::{Path, TableSet, saturating_sum};
 use std::marker::Model;
 
 /// A merge with one more table: its conjunct, the path of its inner side and whether the rows of that are sorted, and what it adds
@@ -86,5 +86,5 @@ impl<'a> Iterator for Merges<'a> {
 fn cost(merge: &MergeJoinPath, pairs: u64) -> u64
     ensures { result ≡ (with_pairs pairs (found_merge_of merge.now)).cost }
 {
-    saturate(u128::from(merge.cost) + u128::from(share(pairs, merge.selectivity)))
+    saturating_sum(merge.cost, share(pairs, merge.selectivity))
 }

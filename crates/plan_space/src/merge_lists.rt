@@ -25,7 +25,7 @@ use crate::path_lists::BlockPaths;
 use crate::paths::{CostedPath, Paths};
 use estimate::Estimate;
 use interesting_orders::{EquivalenceClasses, InterestingOrders};
-use plan_tree::{Path, TableSet, saturate};
+use plan_tree::{Path, TableSet, saturating_sum};
 use std::alloc::{AllocError, Global};
 
 /// The merges that may bring each table of a block, on top of plans on any set of tables.
@@ -166,7 +166,7 @@ fn add_path(
         OnOk result (AddsPath space clause.table clause.conjunct (path_of item.entry.path.now)
         (map found_merge_of merges.old.items) (map found_merge_of merges.new.items)) }
 {
-    let sorted = saturate(u128::from(item.cost) + u128::from(clause.sort_cost));
+    let sorted = saturating_sum(item.cost, clause.sort_cost);
     merges.push(merge_path(clause, item.path, true, sorted)?)?;
     let alone = TableSet::only(clause.table);
     if uses.goes_by(classes, alone, item.order, clause.conjunct, clause.other) {

@@ -35,7 +35,7 @@ use crate::plan_summary::PlanSummary;
 use crate::summarising::summarise;
 use estimate::Estimate;
 use interesting_orders::{InterestingOrders, SortOrders, Sorts, Version, required_order};
-use plan_tree::{Plan, SortKey, TableSet, saturate};
+use plan_tree::{Plan, SortKey, TableSet, saturating_product};
 use std::alloc::{AllocError, Global};
 use std::marker::Model;
 
@@ -184,8 +184,8 @@ impl<'a> Space<'a> {
         requires table { table < (space_in self.now).table_count }
         ensures { AreMerges (space_in self.now) (set_of outer.now.tables) table result }
     {
-        let pairs = u128::from(outer.rows) * u128::from(self.table_rows(table));
-        self.merges.merges(outer.tables, table, saturate(pairs))
+        let pairs = saturating_product(outer.rows, self.table_rows(table));
+        self.merges.merges(outer.tables, table, pairs)
     }
 
     /// Whether rows of a set of tables may be sorted into an order.

@@ -2,14 +2,14 @@
 //! number); and certificates by which a plan is shown to be least.
 #![tactic(auto)]
 
-mod limits;
+mod cost;
 mod order;
 mod path;
 mod plan;
 mod states;
 mod table_set;
 
-pub use limits::{LIMIT, saturate};
+pub use cost::{LIMIT, saturate, saturating_product, saturating_sum};
 pub use order::SortKey;
 pub use path::{MAX_MATCHED, Path};
 pub use plan::{Inner, Plan};

@@ -3,7 +3,9 @@
 use crate::searches::size_of;
 use indexmap::IndexSet;
 use plan_pages::{Edge, Graph, Node, NodeKind};
-use planned_queries::{BlockView, Kept, MANY_STATES, PlanStep, StateKey, Way, key_of, state_of};
+use planned_queries::{
+    BlockView, KeptComparison, MANY_STATES, PlanStep, StateKey, Way, key_of, state_of,
+};
 use std::alloc::{AllocError, Global};
 
 /// The states of a block's certificate, its plan's last one, and those that aren't listed and are told of comparisons, with the steps that
@@ -110,7 +112,7 @@ fn add_node(
     Ok(())
 }
 
-fn is_from(kept: &Kept, way: &Way) -> bool {
+fn is_from(kept: &KeptComparison, way: &Way) -> bool {
     match &kept.from {
         Some(from) => way.has(key_of(from)),
         None => false,
@@ -118,13 +120,13 @@ fn is_from(kept: &Kept, way: &Way) -> bool {
 }
 
 /// The places of the two states of a step, if it is no access.
-fn ends_of(kept: &Kept, keys: &IndexSet<StateNumbers>) -> Option<(usize, usize)> {
+fn ends_of(kept: &KeptComparison, keys: &IndexSet<StateNumbers>) -> Option<(usize, usize)> {
     let from = keys.get_index_of(&numbers_of(key_of(kept.from.as_ref()?)))?;
     Some((from, keys.get_index_of(&numbers_of(kept.to))?))
 }
 
 /// `loop +1000`, or `sort +947: 287 too much`.
-fn label_of(alloc: Global, kept: &Kept) -> Result<String, AllocError> {
+fn label_of(alloc: Global, kept: &KeptComparison) -> Result<String, AllocError> {
     let word = match kept.step() {
         PlanStep::Access(_) => "access",
         PlanStep::Loop(_) => "loop",

@@ -3,7 +3,9 @@
 use crate::tables::{add_row, number, table, words};
 use crate::trees::order_words;
 use plan_pages::{Cell, Part, Table};
-use planned_queries::{BlockView, Kept, Ledger, MANY_STATES, StateKey, Way, key_of, state_of};
+use planned_queries::{
+    BlockView, KeptComparison, Ledger, MANY_STATES, StateKey, Way, key_of, state_of,
+};
 use std::alloc::{AllocError, Global};
 
 /// The parts of a search: how much there is, the states with the steps that led there, and the comparisons.
@@ -133,7 +135,7 @@ fn add_state(
 pub(crate) fn kept_words(
     alloc: Global,
     block: &BlockView<'_>,
-    kept: &Kept,
+    kept: &KeptComparison,
 ) -> Result<String, AllocError> {
     let orders = block.space().orders();
     let step = block.names.step(orders, kept.step());

@@ -4,7 +4,7 @@ use crate::searches::kept_words;
 use crate::tables::{add_row, number, table, words};
 use plan_pages::{Cell, Part, Table};
 use planned_queries::{
-    BlockView, Kept, PlanStep, PlanSteps, are_one_state, is_same_path, key_of, state_of,
+    BlockView, KeptComparison, PlanStep, PlanSteps, are_one_state, is_same_path, key_of, state_of,
 };
 use std::alloc::{AllocError, Global};
 
@@ -57,7 +57,7 @@ fn add_tie(
     alloc: Global,
     rows: &mut Table,
     block: &BlockView<'_>,
-    kept: &Kept,
+    kept: &KeptComparison,
 ) -> Result<(), AllocError> {
     let step = kept_words(alloc, block, kept)?;
     let orders = block.space().orders();
@@ -68,7 +68,7 @@ fn add_tie(
 }
 
 /// Whether a step leads to a state of the plan's way, and isn't the plan's own.
-fn is_tie(block: &BlockView<'_>, steps: &PlanSteps<'_>, kept: &Kept) -> bool {
+fn is_tie(block: &BlockView<'_>, steps: &PlanSteps<'_>, kept: &KeptComparison) -> bool {
     for place in 0..steps.len() {
         if let Some(shown) = steps.shown(place)
             && are_one_state(state_of(block.space(), shown.summary), kept.to)
@@ -80,7 +80,12 @@ fn is_tie(block: &BlockView<'_>, steps: &PlanSteps<'_>, kept: &Kept) -> bool {
 }
 
 /// Whether a step is that of the plan at a place, from the same state on.
-fn is_own(block: &BlockView<'_>, steps: &PlanSteps<'_>, place: usize, kept: &Kept) -> bool {
+fn is_own(
+    block: &BlockView<'_>,
+    steps: &PlanSteps<'_>,
+    place: usize,
+    kept: &KeptComparison,
+) -> bool {
     let is_step = match steps.shown(place) {
         Some(shown) => are_one_step(shown.step, kept.step()),
         None => false,

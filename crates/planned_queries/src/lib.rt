@@ -6,7 +6,6 @@
 mod asked;
 mod block_views;
 mod inner_blocks;
-mod kept;
 mod listening;
 mod planning_script;
 mod steps;
@@ -18,9 +17,8 @@ mod writing;
 pub use asked::Asker;
 pub use block_views::{BlockView, Query};
 pub use catalog::{IndexStatistics, KeyRange, TableStatistics};
-pub use cert_check::{PlanStep, Space, StateKey};
+pub use cert_check::{KeptComparison, PlanStep, Space, StateKey};
 pub use inner_blocks::is_correlated;
-pub use kept::Kept;
 pub use listening::Ledger;
 pub use plan_texts::{PlanTextFault, outside, read_plan};
 pub use planning_script::{PlannedColumn, PlannedIndex, PlannedTable, PlanningScript};

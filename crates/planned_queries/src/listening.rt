@@ -5,11 +5,12 @@ ghost use Rattle.definitions.specs.Plans.Certificate.{IsCertificate};
 ghost use Rattle.plan_tree.specs.Certificates.{certificate_of};
 ghost use Rattle.cert_check.specs.Planned.{space_in};
 
-use crate::kept::Kept;
 use crate::views::Interest;
 use crate::wanted::Wanted;
 use crate::ways::are_one_state;
-use cert_check::{Comparison, Listener, StateKey, compare_accesses, compare_joins, compare_sorts};
+use cert_check::{
+    Comparison, KeptComparison, Listener, StateKey, compare_accesses, compare_joins, compare_sorts,
+};
 use plan_texts::BlockNames;
 use plan_tree::Certificate;
 use planner::PlannedBlock;
@@ -19,7 +20,7 @@ use std::alloc::{AllocError, Global};
 #[derive(Drop)]
 pub struct Ledger {
     wanted: Option<Wanted>,
-    pub kept: Vec<Kept>,
+    pub kept: Vec<KeptComparison>,
     pub heard: u64,
     ran_out: bool,
 }
@@ -78,13 +79,13 @@ impl Ledger {
     }
 
     fn keep(&mut self, comparison: &Comparison<'_>) -> Result<(), AllocError> {
-        let kept = Kept::new(comparison)?;
+        let kept = KeptComparison::new(comparison)?;
         self.kept.push(kept)?;
         Ok(())
     }
 
     /// The first step that leads to a state at its bound.
-    pub fn reaching(&self, to: StateKey) -> Option<&Kept> {
+    pub fn reaching(&self, to: StateKey) -> Option<&KeptComparison> {
         self.kept
             .iter()
             .find(|kept| are_one_state(kept.to, to) && kept.above() == 0)

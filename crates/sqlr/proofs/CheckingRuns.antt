@@ -22,9 +22,9 @@ use Rattle.sqlr.specs.Devices.{Took, TookBeginning}
 use Rattle.sqlr.specs.Sessions.{ended_of, BreaksLine, IsLibraryBlamed, IsSinkBlamed, Prints}
 use Rattle.query_tree.specs.Bound.{block_of}
 use Rattle.certificate_files.specs.Telling.{check_ended_of}
-use Rattle.sqlr.specs.declared.checked.Checked.TheVariants as c
+use Rattle.sqlr.specs.declared.checked.Bound.TheVariants as b
 use Rattle.diagnostics.specs.declared.checked_file.CheckedFile.{CheckedFile}
-use Rattle.sqlr.specs.Checking.{IsChecked, end_of_file, ArePrepared, BreaksChecking, BreaksLast, BreaksPreparing, Checks, ChecksLast, LastChecked, QueryChecked, refused, told}
+use Rattle.sqlr.specs.Checking.{IsBound, IsChecked, end_of_file, ArePrepared, BreaksChecking, BreaksLast, BreaksPreparing, Checks, ChecksLast, LastChecked, QueryChecked, refused, told}
 use Rattle.sqlr.proofs.Running.{took_all, took_nothing, took_up_to}
 
 -- ---- a text that is put as a whole
@@ -161,35 +161,34 @@ module _ (db : Database) (s : Statement) (file : List ℕ) (taken taken' : Optio
   query_asked q text how is h = subst (λ o. LastChecked db o file text how) is h
 
   -- the line of a refused query
-  pub refused_put : (q : Select) (p : Printed) (result : Result Ended RunFault) → Some q ≡ asked s → IsChecked db q file (c.Refused p)
+  pub refused_put : (q : Select) (p : Printed) (result : Result Ended RunFault) → Some q ≡ asked s → IsBound db q (b.Refused p)
       → IfOk result (λ own. own ≡ p.ended) → OnOk result (Took taken p.text.items taken') → IfOk result (ChecksLast db s file taken taken')
-  refused_put q p result is h same took = last_put p.text.items ends.Faulted p.ended result (query_asked q p.text.items ends.Faulted is h.1) h.0 same took
+  refused_put q p result is h same took = last_put p.text.items ends.Faulted p.ended result (query_asked q p.text.items ends.Faulted is (h.1 file)) h.0 same took
 
-  pub refused_begun : (q : Select) (p : Printed) (result : Result Ended RunFault) → Some q ≡ asked s → IsChecked db q file (c.Refused p)
+  pub refused_begun : (q : Select) (p : Printed) (result : Result Ended RunFault) → Some q ≡ asked s → IsBound db q (b.Refused p)
       → IfErr result (λ f. f ≡ r.Sink) → OnErr result (TookBeginning taken p.text.items taken') → IfErr result (BreaksLast db s file taken taken')
-  refused_begun q p result is h sink begun = last_begun p.text.items ends.Faulted result (query_asked q p.text.items ends.Faulted is h.1) sink begun
+  refused_begun q p result is h sink begun = last_begun p.text.items ends.Faulted result (query_asked q p.text.items ends.Faulted is (h.1 file)) sink begun
 
   -- what is told of its certificates
-  all_told : (q : Select) (checked : CheckedFile) → IsChecked db q file (c.Told checked) → QueryChecked db q file checked.told.text.items (check_ended_of checked.told.ended)
-  all_told q checked h = told (map block_of checked.blocks.items) h.0 h.1
+  all_told : (q : Select) (checked : CheckedFile) → IsChecked db q file checked → QueryChecked db q file checked.told.text.items (check_ended_of checked.told.ended)
+  all_told q checked h = told (map block_of checked.blocks.now) h.0 h.1
 
-  pub told_put : (q : Select) (checked : CheckedFile) (ended : Ended) (result : Result Ended RunFault) → Some q ≡ asked s → IsChecked db q file (c.Told checked)
+  pub told_put : (q : Select) (checked : CheckedFile) (ended : Ended) (result : Result Ended RunFault) → Some q ≡ asked s → IsChecked db q file checked
       → ended ≡ end_of_file checked.told.ended → IfOk result (λ own. own ≡ ended) → OnOk result (Took taken checked.told.text.items taken') → IfOk result (ChecksLast db s file taken taken')
   told_put q checked ended result is h end same took =
       last_put checked.told.text.items (check_ended_of checked.told.ended) ended result (query_asked q checked.told.text.items (check_ended_of checked.told.ended) is (all_told q checked h)) end same took
 
-  pub told_begun : (q : Select) (checked : CheckedFile) (result : Result Ended RunFault) → Some q ≡ asked s → IsChecked db q file (c.Told checked)
+  pub told_begun : (q : Select) (checked : CheckedFile) (result : Result Ended RunFault) → Some q ≡ asked s → IsChecked db q file checked
       → IfErr result (λ f. f ≡ r.Sink) → OnErr result (TookBeginning taken checked.told.text.items taken') → IfErr result (BreaksLast db s file taken taken')
   told_begun q checked result is h sink begun =
       last_begun checked.told.text.items (check_ended_of checked.told.ended) result (query_asked q checked.told.text.items (check_ended_of checked.told.ended) is (all_told q checked h)) sink begun
 
 -- ---- the query
 
-pub query_refused : (db : Database) (q : Select) (file : List ℕ) (p : Printed) (refusal : Refusal) → binding.QueryFaulty db q refusal → p.text.items ≡ refusal_text refusal → p.ended ≡ e.Faulted
-    → (p.ended ≡ e.Faulted) × QueryChecked db q file p.text.items ends.Faulted
-query_refused db q file p refusal faulty own ended = (ended, refused refusal faulty own refl)
+pub query_refused : (db : Database) (q : Select) (p : Printed) (refusal : Refusal) → binding.QueryFaulty db q refusal → p.text.items ≡ refusal_text refusal → p.ended ≡ e.Faulted → IsBound db q (b.Refused p)
+query_refused db q p refusal faulty own ended = (ended, λ file. refused refusal faulty own refl)
 
-pub binds_of : (db : Database) (q : Select) (file : List ℕ) (checked : CheckedFile) → IsChecked db q file (c.Told checked) → binding.Binds db q (map block_of checked.blocks.items)
+pub binds_of : (db : Database) (q : Select) (file : List ℕ) (checked : CheckedFile) → IsChecked db q file checked → binding.Binds db q (map block_of checked.blocks.now)
 binds_of db q file checked h = h.0
 
 -- ---- who is blamed

@@ -16,8 +16,9 @@ use Rattle.definitions_execution.specs.CheckingRun.{asked, nothing_text, Prepare
 use Rattle.query_tree.specs.Bound.{block_of}
 use Rattle.certificate_files.specs.Telling.{check_ended_of}
 use Rattle.certificate_files.specs.declared.checking.FileEnded.{FileEnded}
-use Rattle.sqlr.specs.declared.checked.Checked as own
-use Rattle.sqlr.specs.declared.checked.Checked.TheVariants as c
+use Rattle.diagnostics.specs.declared.checked_file.CheckedFile.{CheckedFile}
+use Rattle.sqlr.specs.declared.checked.Bound.{Bound}
+use Rattle.sqlr.specs.declared.checked.Bound.TheVariants as b
 use Rattle.sqlr.specs.declared.ended.Ended.{Ended}
 use Rattle.sqlr.specs.declared.ended.Ended.TheVariants as e
 use Rattle.sqlr.specs.declared.ended.RunFault.{RunFault}
@@ -100,10 +101,15 @@ BreaksLast db s file taken taken' (r.Library offset) = ⊥
 BreaksLast db s file taken taken' r.Sink = (text : List ℕ) × (how : ends.Ended) × LastChecked db (asked s) file text how
     × TookBeginning taken text taken'
 
--- what comes of a query's certificates
-abbrev pub IsChecked : Database → Select → List ℕ → own.Checked → Type 0
-IsChecked db q file (c.Refused p) = (p.ended ≡ e.Faulted) × QueryChecked db q file p.text.items ends.Faulted
-IsChecked db q file (c.Told checked) =
-    Binds db q (map block_of checked.blocks.items)
-    × AreTold current_version (certified_from db 0 (map block_of checked.blocks.items)) (lines_of file)
+-- what comes of a query whose certificates are to be checked
+abbrev pub IsBound : Database → Select → Bound → Type 0
+IsBound db q (b.Refused p) = (p.ended ≡ e.Faulted)
+    × ((file : List ℕ) → QueryChecked db q file p.text.items ends.Faulted)
+IsBound db q (b.Blocks blocks) = Binds db q (map block_of blocks.items)
+
+-- what comes of its certificates
+abbrev pub IsChecked : Database → Select → List ℕ → CheckedFile → Type 0
+IsChecked db q file checked =
+    Binds db q (map block_of checked.blocks.now)
+    × AreTold current_version (certified_from db 0 (map block_of checked.blocks.now)) (lines_of file)
     checked.told.text.items (check_ended_of checked.told.ended)

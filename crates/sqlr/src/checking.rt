@@ -1,17 +1,20 @@
 //! A checking run: the statements before the last, and then the certificates of the last one's query.
 
-ghost use Rattle.std.specs.Prelude.{ℕ, ◌≡◌, ◌≢◌, ◌<◌, List, IfOk, IfErr, OnOk, OnErr};
+ghost use Rattle.std.specs.Prelude.{ℕ, ◌≡◌, ◌≢◌, ◌<◌, List, Some, IfOk, IfErr, OnOk, OnErr, map};
+ghost use Rattle.definitions.specs.Binding.Faults.{Binds};
 ghost use Rattle.definitions.specs.Estimates.Version.{current_version};
+ghost use Rattle.definitions_execution.specs.CheckingRun.{asked};
 ghost use Rattle.definitions_execution.specs.Headline.{IsCheckedLeast};
 ghost use Rattle.definitions_execution.specs.Step.{AreStatements};
-ghost use Rattle.parse_tree.specs.Trees.{statement_of, statements_of};
+ghost use Rattle.parse_tree.specs.Trees.{select_of, statement_of, statements_of};
+ghost use Rattle.query_tree.specs.Bound.{block_of};
 ghost use Rattle.sqlr.specs.declared.ended.Ended.TheVariants as ended;
 ghost use Rattle.sqlr.specs.declared.ended.RunFault.TheVariants as fault;
 ghost use Rattle.sqlr.specs.Devices.{Took, TookBeginning};
 ghost use Rattle.sqlr.specs.Checking.{ArePrepared, BreaksChecking, BreaksLast, BreaksPrepared, BreaksPreparing, Checks, ChecksLast, IsIfRefused, IsPrepared};
 ghost use Rattle.sqlr.specs.Sessions.{IsLibraryBlamed, IsSinkBlamed, IsStepBlamed};
 
-use crate::checked::{Checked, check_query, end_of, query_of};
+use crate::checked::{Bound, bind_query, check_blocks, end_of, query_of};
 use crate::ended::{Ended, RunFault};
 use crate::library::Library;
 use crate::outcome::{Printed, StepFault};
@@ -20,7 +23,8 @@ use crate::session::{Session, place_of, tell_cause};
 use crate::sink::Sink;
 use catalog::Database;
 use diagnostics::Planned;
-use syntax::{LongList, Statement};
+use query_tree::Block;
+use syntax::{LongList, Select, Statement};
 
 /// The line of a script whose last statement has no query.
 const NOTHING: &[u8] = b"nothing to check\n";
@@ -147,14 +151,39 @@ impl<L: Library> Session<L> {
         let Some(query) = query_of(last) else {
             return put_text(NOTHING, Ended::Faulted, sink);
         };
-        match check_query(self.alloc, &self.database, query, certificates) {
-            Ok(Checked::Refused(printed)) => {
-                put_refused(&printed, long_lists, &self.database, sink)
-            }
-            Ok(Checked::Told(checked)) => {
+        match bind_query(self.alloc, &self.database, query) {
+            Ok(Bound::Refused(printed)) => put_refused(&printed, long_lists, &self.database, sink),
+            Ok(Bound::Blocks(blocks)) => self.check_bound(last, query, &blocks, certificates, sink),
+            Err(_) => Err(RunFault::Memory {
+                offset: place_of(last),
+            }),
+        }
+    }
+
+    /// Checks the certificates for the last statement, whose query has these blocks.
+    fn check_bound<S: Sink>(
+        &self,
+        last: &Statement,
+        query: &Select,
+        blocks: &[Block],
+        certificates: &[u8],
+        sink: &mut S,
+    ) -> Result<Ended, RunFault>
+        requires query { Some (select_of query.now) ≡ asked (statement_of last.now) }
+        requires blocks { Binds self.now.database (select_of query.now) (map block_of blocks.now) }
+        ensures checks { IfOk result (ChecksLast self.now.database (statement_of last.now) certificates.now
+            (S.taken sink.old) (S.taken sink.new)) }
+        ensures breaks { IfErr result (BreaksLast self.now.database (statement_of last.now) certificates.now
+            (S.taken sink.old) (S.taken sink.new)) }
+        ensures sink { IsSinkBlamed (S.failures sink.old) (S.failures sink.new) result }
+    {
+        // A look at the tables tells what holds of a database.
+        let _tables = self.database.tables();
+        match check_blocks(self.alloc, &self.database, query, blocks, certificates) {
+            Ok(checked) => {
                 let planned = Planned {
                     query,
-                    blocks: &checked.blocks,
+                    blocks: checked.blocks,
                     notes: &checked.told.notes,
                 };
                 sink.report_plans(planned, &self.database);

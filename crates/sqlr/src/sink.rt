@@ -58,7 +58,7 @@ pub trait Sink {
     /// Is told what was told of the certificates of a query's blocks, before its lines are put, with the
     /// database that the query is over (own). It does nothing, unless a sink has another body.
     fn report_certificates(&mut self, _checked: &CheckedFile, _database: &Database)
-        requires { AllByRecursion (IsFormedSomewhere _database.now) (map block_of _checked.now.blocks.items) }
+        requires { AllByRecursion (IsFormedSomewhere _database.now) (map block_of _checked.now.blocks.now) }
         ensures taken { taken self.new ≡ taken self.old }
         ensures counted { failures self.new ≡ failures self.old }
     {}

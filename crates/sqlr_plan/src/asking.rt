@@ -151,7 +151,7 @@ impl Sink for Asking<'_> {
             self.query,
             self.question,
             checked,
-            &checked.blocks,
+            checked.blocks,
             database,
         ));
     }

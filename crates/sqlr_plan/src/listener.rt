@@ -95,7 +95,7 @@ impl<R: Runtime + AllocGlobal> Sink for Listener<'_, '_, R> {
 
     fn report_certificates(&mut self, checked: &CheckedFile, database: &Database) {
         let alloc = self.rt.alloc();
-        self.planned = Some(PlanningScript::new(alloc, self.query, &checked.blocks, database));
+        self.planned = Some(PlanningScript::new(alloc, self.query, checked.blocks, database));
         if let Some(name) = self.certificates_name {
             let report = self.reporter.report_certificates(name, checked, database);
             self.standard_error.print(report);

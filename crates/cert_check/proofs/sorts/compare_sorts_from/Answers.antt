@@ -1,4 +1,4 @@
-use Rattle.std.proofs.Common.{◌≡◌, ◌∙◌, ◌+◌}
+use Rattle.std.proofs.Common.{◌≡◌, ◌+◌, refl}
 use Rattle.definitions.specs.Plans.Cost.{saturated}
 use Rattle.plan_space.specs.InterestingOrders.Sorts.{AreSorts}
 use Rattle.plan_space.specs.Planned.{space_in}
@@ -21,12 +21,12 @@ orders-preserved g c =
     let certificate = certificate_of c.args.certificate.now in
     let from = state_of c.args.from in
     let into = c.in-Some.into in
-    let x = sort_with space certificate from into c.fold-order.result c.saturate-cost.result c.bound.result in
-    let cost : c.saturate-cost.result ≡ saturated (from.cost + space.sort_cost from.tables) = sum_is _ _ _ _ _ c.saturate-cost.ensures.exact c.from.ensures (c.from-2.ensures ∙ c.sort_cost.ensures.exact) in
+    let x = sort_with space certificate from into c.fold-order.result c.saturating_sum-cost.result c.bound.result in
+    let cost : c.saturating_sum-cost.result ≡ saturated (from.cost + space.sort_cost from.tables) = sum_is _ _ _ _ _ c.saturating_sum-cost.ensures.exact refl c.sort_cost.ensures.exact in
     item_more g.L.Listener.hears (SortBy space certificate from) (AreSorts space from.tables) _ _ _ _ _ into c.in-Some.ensures.steps c.orders.invariant
     (λ done are. sort_apart space certificate from done _ into are) (goes_on g.L.Listener.hears (SortBy space certificate from into) _ _ x c.if-not-hear.ensures
-    (is_sort space certificate from into c.fold-order.result c.saturate-cost.result c.bound.result cost c.bound.ensures c.fold-order.ensures.exact)
-    (one_is space certificate from into c.fold-order.result c.saturate-cost.result c.bound.result cost c.bound.ensures c.fold-order.ensures.exact))
+    (is_sort space certificate from into c.fold-order.result c.saturating_sum-cost.result c.bound.result cost c.bound.ensures c.fold-order.ensures.exact)
+    (one_is space certificate from into c.fold-order.result c.saturating_sum-cost.result c.bound.result cost c.bound.ensures c.fold-order.ensures.exact))
 
 pub returns-then-not-hear : goal.returns-then-not-hear
 returns-then-not-hear g c =
@@ -34,12 +34,12 @@ returns-then-not-hear g c =
     let certificate = certificate_of c.args.certificate.now in
     let from = state_of c.args.from in
     let into = c.in-Some.into in
-    let x = sort_with space certificate from into c.fold-order.result c.saturate-cost.result c.bound.result in
-    let cost : c.saturate-cost.result ≡ saturated (from.cost + space.sort_cost from.tables) = sum_is _ _ _ _ _ c.saturate-cost.ensures.exact c.from.ensures (c.from-2.ensures ∙ c.sort_cost.ensures.exact) in
+    let x = sort_with space certificate from into c.fold-order.result c.saturating_sum-cost.result c.bound.result in
+    let cost : c.saturating_sum-cost.result ≡ saturated (from.cost + space.sort_cost from.tables) = sum_is _ _ _ _ _ c.saturating_sum-cost.ensures.exact refl c.sort_cost.ensures.exact in
     item_stops g.L.Listener.hears (SortBy space certificate from) (AreSorts space from.tables) _ _ _ _ _ into c.in-Some.ensures.steps c.orders.invariant
     (λ done are. sort_apart space certificate from done _ into are) (IsSortFrom space certificate from) x (sort_of_item space certificate from)
     (stops g.L.Listener.hears (SortBy space certificate from into) _ _ x c.if-not-hear.ensures
-    (is_sort space certificate from into c.fold-order.result c.saturate-cost.result c.bound.result cost c.bound.ensures c.fold-order.ensures.exact))
+    (is_sort space certificate from into c.fold-order.result c.saturating_sum-cost.result c.bound.result cost c.bound.ensures c.fold-order.ensures.exact))
 
 pub returns : goal.returns
 returns g c =

@@ -19,9 +19,9 @@ texts-preserved c =
     let within : end ≤ length (drop start file) = rw (whole_left file start) at c.text_end-end.ensures.within in
     record {
       told = next_in_file c.args.database.now (map block_of c.args.blocks.now) file start end c.texts.number c.texts.block-index (block_of c.block-item.result) _ c.texts.text.items
-          c.write_block.new.text.items (check_ended_of c.texts.ended) (check_ended_of c.with_block-ended.result) (version_of c.version_in-version.result) (told_of c.in_ok-told.told)
+          c.write_block.new.text.items (check_ended_of c.texts.ended) (check_ended_of c.with_block-ended.result) (version_of c.version_in-version.result) (told_of c.in_ok-judged.judged.told)
           (whole_left file start) c.texts.invariant.number (first_of c.args.blocks.now c.texts.block-index c.block-item.result c.texts-test.true c.block-item.is) c.version_in-version.ensures
-          c.text_end-end.ensures.own c.text_end-end.ensures.rest c.in_ok-told.ensures.told c.in_ok-write_block.ensures c.with_block-ended.ensures c.texts.invariant.told;
+          c.text_end-end.ensures.own c.text_end-end.ensures.rest c.in_ok-judged.ensures.told c.in_ok-write_block.ensures c.with_block-ended.ensures c.texts.invariant.told;
       number = ap (λ (n : ℕ). n + 1) c.texts.invariant.number;
       within = omega (arith, within, length-drop start file, c.texts.invariant.within);
     }

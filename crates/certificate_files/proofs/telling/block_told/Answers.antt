@@ -12,20 +12,20 @@ read_text-requires c =
     let own = certified c.args.database.now c.args.number (block_of c.args.block.now) (version_of c.args.version) in
     record { few = few_tables c.args.database.now (block_of c.args.block.now) _ c.requires.formed (c.certified_block.ensures own c.in_ok-own.ensures).tables }
 
-pub spelled_told-told-requires : goal.spelled_told-told-requires
-spelled_told-told-requires c =
+pub spelled_told-requires : goal.spelled_told-requires
+spelled_told-requires c =
     let own = certified c.args.database.now c.args.number (block_of c.args.block.now) (version_of c.args.version) in
     is_certificate c.args.database.now c.args.number (block_of c.args.block.now) (version_of c.args.version) (space_in c.in_ok-own.own.space) c.in_ok-own.ensures.space c.args.bytes.now
     (certificate_of c.in-Ok.spelled.certificate) c.in-Ok.spelled.plan (c.in-Ok.ensures.ok own (c.certified_block.ensures own c.in_ok-own.ensures))
 
-pub returns-in-Ok-clause-told : goal.returns-in-Ok-clause-told
-returns-in-Ok-clause-told c =
+pub returns-in_ok-judged-in-Ok-clause-told : goal.returns-in_ok-judged-in-Ok-clause-told
+returns-in_ok-judged-in-Ok-clause-told c =
     let own = certified c.args.database.now c.args.number (block_of c.args.block.now) (version_of c.args.version) in
-    told_of_read c.args.database.now c.args.number (block_of c.args.block.now) (version_of c.args.version) (space_in c.in_ok-own.own.space) c.in_ok-own.ensures.space c.args.bytes.now
+    rw c.with_text.ensures (told_of_read c.args.database.now c.args.number (block_of c.args.block.now) (version_of c.args.version) (space_in c.in_ok-own.own.space) c.in_ok-own.ensures.space c.args.bytes.now
     (certificate_of c.in-Ok.spelled.certificate) c.requires.valid c.in-Ok.spelled.plan (c.in-Ok.ensures.ok own (c.certified_block.ensures own c.in_ok-own.ensures))
-    (told_of c.spelled_told-told.result) c.spelled_told-told.ensures.told
+    (told_of c.in_ok-judged-in-Ok.judged.told) c.in_ok-judged-in-Ok.ensures.told)
 
-pub returns-clause-told : goal.returns-clause-told
-returns-clause-told c =
+pub returns-in_ok-judged-in-Err-clause-told : goal.returns-in_ok-judged-in-Err-clause-told
+returns-in_ok-judged-in-Err-clause-told c =
     let own = certified c.args.database.now c.args.number (block_of c.args.block.now) (version_of c.args.version) in
-    c.fault_told.ensures.told own c.args.bytes.now (c.in-Err.ensures.err own (c.certified_block.ensures own c.in_ok-own.ensures))
+    rw c.with_text-in-Err.ensures (c.in_ok-judged-in-Err.ensures.told own c.args.bytes.now (c.in-Err.ensures.err own (c.certified_block.ensures own c.in_ok-own.ensures)))

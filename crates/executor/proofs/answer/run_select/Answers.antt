@@ -140,4 +140,4 @@ returns-clause-total g c =
     let opened : c.opened_rows.result ≡ work (space_of current_version r.source.database (block_in r.source)) (stored_in r.source []) (plan_of r.plan) =
     c.opened_rows.ensures ∙ c.in_ok-inner.ensures.opened ∙ work_is in
     let arranged = subst (λ o. ArrangePassing r.source o (left_of c.in_ok-pipeline.pipeline o)) c.new-frames.ensures c.in_ok-pipeline.ensures.arranged in
-    c.sum_of.ensures ∙ whole query c.requires.query 0 r at_block [] c.requires.stands c.opened_rows.result c.in_ok-inner.inner whole_list arranged opened c.in_ok-inner.ensures.total
+    c.saturating_sum.ensures.exact ∙ whole query c.requires.query 0 r at_block [] c.requires.stands c.opened_rows.result c.in_ok-inner.inner whole_list arranged opened c.in_ok-inner.ensures.total

@@ -232,7 +232,7 @@ ask_subqueries-blocks-2-preserved g t c =
           one_later (IsToldLast query seen outer c.ask_block.new.results) list i
           (stays_all query seen outer j (take i list) c.blocks-2.results c.ask_block.new.results c.in_ok-own.ensures.left (rising_before list i j rising c.blocks-2-test.true (index_is list i c.blocks-2-test.true)) c.blocks-2.invariant.told own) c.blocks-2-test.true own;
       total =
-          c.sum_of-work.ensures
+          c.saturating_sum-work.ensures.exact
           ∙ ap₂ (λ a b. saturated (a + b)) c.blocks-2.invariant.total worth
           ∙ sum_stops (sum_by (total_at query outer) (take i list)) (total_at query outer j) (sum_by (total_at query outer) (take (i + 1) list)) (sum_later (total_at query outer) list i c.blocks-2-test.true);
       right = c.in_ok-own.ensures.right;
@@ -489,7 +489,7 @@ evaluate_block-composites-preserved g t c =
         done ++ numbers_in width composite ∷ [],
         split_later (left_of c.in_ok-pipeline.pipeline outer) done (left_of c.next.new.self outer) (left_of pipeline outer) (numbers_in width composite) split is,
         grows query c.requires.query number r at_block outer c.requires.stands c.in_ok-late.late c.composites.rows c.take.new.self composite done takes said have,
-        c.sum_of-inner.ensures ∙ costs query c.requires.query number r at_block outer c.requires.stands c.composites.inner c.in_ok-late.work composite done counted worth,
+        c.saturating_sum-inner.ensures.exact ∙ costs query c.requires.query number r at_block outer c.requires.stands c.composites.inner c.in_ok-late.work composite done counted worth,
       );
       good = subst (λ o. IsWellFor r.source o (rows_in c.take.new.self)) frames c.in_ok-take.ensures.well;
       kind = c.take.ensures.kind ∙ c.composites.invariant.kind;
@@ -570,4 +570,4 @@ evaluate_block-returns-clause-total g t c =
     c.opened_rows.ensures ∙ c.in_default.ensures.spent refl ∙ c.in_default.ensures.work ∙ ap (opened_of c.composites.pipeline) same ∙ c.composites.invariant.opened ∙ c.in_ok-pipeline.ensures.work in
     let asked : c.composites.inner ≡ saturated (sum_by (totals_in query outer r) (map (combination_of r.source.database (block_in r.source)) whole_list)) =
     counted ∙ ap (λ cs. saturated (sum_by (totals_in query outer r) (map (combination_of r.source.database (block_in r.source)) cs))) all in
-    c.sum_of.ensures ∙ whole query c.requires.query number r at_block outer c.requires.stands c.opened_rows.result c.composites.inner whole_list c.in_ok-pipeline.ensures.arranged opened asked
+    c.saturating_sum.ensures.exact ∙ whole query c.requires.query number r at_block outer c.requires.stands c.opened_rows.result c.composites.inner whole_list c.in_ok-pipeline.ensures.arranged opened asked

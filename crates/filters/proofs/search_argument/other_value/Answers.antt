@@ -1,5 +1,3 @@
-use Rattle.std.proofs.Common.{Option, subst}
-use Rattle.std.specs.Prelude.{IfSome}
 use Rattle.query_tree.specs.Bound.{value_of as tree_of}
 use Rattle.sqlvalue.specs.Meaning.{value_of}
 use Rattle.filters.proofs.Coming.{one_fits, one_typed, told_value}

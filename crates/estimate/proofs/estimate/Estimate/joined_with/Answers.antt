@@ -1,4 +1,4 @@
-use Rattle.std.proofs.Common.{ap, ◌∙◌, ◌<◌, length, map, arith}
+use Rattle.std.proofs.Common.{refl, ap, ◌∙◌, ◌<◌, length, map, arith}
 use Rattle.query_tree.specs.Bound.{block_of}
 use Rattle.plan_tree.specs.Sets.{set_of}
 use Rattle.estimate.specs.Estimated.{Estimated}
@@ -15,4 +15,4 @@ returns-clause-exact c =
     let within : c.args.table < length c.self.inside.sizes.items = omega (arith, c.requires, c.self.invariant.measured, same) in
     let rows = rows_told db b c.self.inside.sizes.items c.self.inside.tables.items c.args.table c.index.result.now c.self.invariant.tables c.self.invariant.sizes within c.index.ensures in
     let planned = ap (map conjunct_of) c.deref.ensures.value ∙ c.self.invariant.planned in
-    rw (← c.self.view_is) (joined_told db b c.deref.result.now planned (set_of c.args.taken) c.args.table c.args.rows c.left_by_completed.result c.saturate-product.result c.from.result c.from-2.result c.left_by_completed.ensures.exact c.saturate-product.ensures.exact c.from.ensures (c.from-2.ensures ∙ rows))
+    rw (← c.self.view_is) (joined_told db b c.deref.result.now planned (set_of c.args.taken) c.args.table c.args.rows c.left_by_completed.result c.saturating_product-product.result c.args.rows c.index.result.now.rows c.left_by_completed.ensures.exact c.saturating_product-product.ensures.exact refl rows)
