@@ -229,7 +229,10 @@ class Closure:
             name, word = waiting.pop()
             own = module(name)
             definition = own and own.defines(word)
-            if definition is None:
+            if definition is None and own and word in own.names:
+                # the file hands on a definition of another, by a `pub use` line
+                waiting.append(own.names[word])
+            elif definition is None:
                 self.end(name, word)
             else:
                 while definition and definition.label not in self.found:

@@ -1,10 +1,9 @@
 //! What scans cost (Selinger et al. 1979, table 2; the numbers are own).
 
-ghost use Rattle.std.specs.Prelude.{ℕ, ◌≡◌, ◌<◌, ◌≤◌, ◌∷◌, [], ◌||◌, if◌then◌else◌, length, nat_le, Some};
+ghost use Rattle.std.specs.Prelude.{ℕ, ◌≡◌, ◌<◌, ◌∷◌, [], ◌||◌, if◌then◌else◌, length, nat_le, Some};
 ghost use Rattle.std.specs.List.{AllByRecursion};
 ghost use Rattle.definitions.specs.Table as table;
 ghost use Rattle.definitions.specs.Table.{Database};
-ghost use Rattle.definitions.specs.Plans.Cost.{limit};
 ghost use Rattle.definitions.specs.Queries.BoundBlock as b;
 ghost use Rattle.definitions.specs.Queries.Conjuncts as queries;
 ghost use Rattle.definitions.specs.Estimates.BlockTables.{table_at};
@@ -17,7 +16,7 @@ ghost use Rattle.access_paths.specs.Views.{index_match_of};
 use crate::index_matches::IndexMatch;
 use catalog::{Index, Table};
 use estimate::{Estimate, fraction, share};
-use plan_tree::{saturate, saturating_sum};
+use plan_tree::{Cost, saturating_sum};
 
 /// Pages that the buffer holds, so that none is fetched twice (own).
 const BUFFER_PAGES: u64 = 64;
@@ -34,13 +33,12 @@ pub enum ScanCost {
 impl ScanCost {
     /// What a scan costs that hands on so many rows: 10 for each page and 1 for each row, at most 10^18 (Selinger et al. 1979,
     /// section 4; the weight is own).
-    pub fn cost(self, rows: u64) -> u64
-        ensures exact { result ≡ cost_with (scan_cost_of self) rows }
-        ensures below { result ≤ limit }
+    pub fn cost(self, rows: u64) -> Cost
+        ensures { result.number ≡ cost_with (scan_cost_of self) rows }
     {
         match self {
-            ScanCost::OneRow => 21,
-            ScanCost::Pages(pages) => saturate(10 * u128::from(pages) + u128::from(rows)),
+            ScanCost::OneRow => Cost::of(21),
+            ScanCost::Pages(pages) => Cost::of(10 * u128::from(pages) + u128::from(rows)),
         }
     }
 }

@@ -2,31 +2,30 @@
 
 ghost use Rattle.std.specs.Prelude.{◌≡◌, [], Contains, IfErr, IfOk, OnOk};
 ghost use Rattle.std.specs.List.{AllByRecursion};
-ghost use Rattle.definitions.specs.Table.{Database};
-ghost use Rattle.definitions.specs.Binding.Formed.{IsFormedSomewhere};
+ghost use Rattle.definitions.specs.Queries.BoundBlock.{Block};
 ghost use Rattle.definitions.specs.Queries.Conjuncts.{late_conjuncts};
-ghost use Rattle.query_tree.specs.Bound.{block_of};
+ghost use Rattle.predicates.specs.Parts.{AreConjunctsOf};
 ghost use Rattle.filters.specs.Evaluable.{CanEvaluate};
 ghost use Rattle.sqlvalue.specs.Raises.{raise_of};
 ghost use Rattle.block_answers.specs.Views.{conditions_of};
 ghost use Rattle.block_answers.specs.OneComposite.{are_true_in, raised_in};
 
 use expr::{Environment, truth};
-use predicates::conjuncts;
-use query_tree::{Block, Condition};
+use predicates::Conjunct;
+use query_tree::Condition;
 use sqlvalue::Raise;
 use std::alloc::{AllocError, Global};
 
-/// The late conjuncts of a block, in text order.
+/// Those of a block's conjuncts that are late, in text order. It fails where memory runs out.
 pub fn late_conditions<'s>(
     alloc: Global,
-    block: &'s Block,
+    conjuncts: &[Conjunct<'s>],
 ) -> Result<Vec<&'s Condition>, AllocError>
-    requires formed { (database : Database) × IsFormedSomewhere database (block_of block.now) }
-    ensures { IfOk result (λ conditions. conditions_of conditions.items ≡ late_conjuncts (block_of block.now)) }
+    ensures { IfOk result (λ conditions. (block : Block) → AreConjunctsOf block conjuncts.now →
+        conditions_of conditions.items ≡ late_conjuncts block) }
 {
     let mut conditions = Vec::new(alloc);
-    'conjuncts: for conjunct in &conjuncts(alloc, &block.condition)? {
+    'conjuncts: for conjunct in conjuncts {
         if conjunct.late {
             conditions.push(conjunct.condition)?;
         }

@@ -7,7 +7,7 @@ ghost use Rattle.query_tree.specs.Bound.{block_of};
 use crate::answer::{Answer, BAR, DOWN, number_of};
 use crate::running::{add_run, space_of};
 use catalog::Database;
-use estimate::Estimate;
+use estimate::{Estimate, conjuncts};
 use join_dp::{Tried, optimise};
 use plan_space::{JoinRelation, Space, Version};
 use plan_tree::TableSet;
@@ -46,7 +46,8 @@ fn add_share(
 ) -> Result<(), AllocError>
     requires { IsFormed database.now (block_of block.now) }
 {
-    let estimate = Estimate::new(alloc, database, block)?;
+    let conjuncts = conjuncts(alloc, block)?;
+    let estimate = Estimate::new(alloc, database, block, &conjuncts)?;
     let place = (conjunct as usize).wrapping_sub(1);
     let Some(found) = estimate.conjuncts().get(place) else {
         answer.fail();
@@ -114,7 +115,7 @@ fn ask_set(space: &Space<'_>, kind: &str, set: u64, answer: &mut Answer) {
     };
     match kind {
         "rows" => answer.add(space.cardinality(tables)),
-        "sort" => answer.add(space.sort_cost(tables)),
+        "sort" => answer.add(space.sort_cost(tables).number),
         "sorts" => add_sorts(space, tables, answer),
         "folds" => add_folds(space, tables, answer),
         "serves" => add_serves(space, tables, answer),

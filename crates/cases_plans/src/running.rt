@@ -8,7 +8,7 @@ ghost use Rattle.scans.specs.Sources.{block_in};
 use crate::answer::{Answer, BAR, NONE};
 use catalog::Database;
 use certificate::{BlockSpace, read_text};
-use estimate::Estimate;
+use estimate::{Estimate, conjuncts};
 use operators::open;
 use plan_space::{Plan, Space, Version};
 use plan_tree::MAX_FROM_TABLES;
@@ -73,7 +73,8 @@ pub(crate) fn space_of<'a>(
     ensures database { IfOk result (λ space. space.database ≡ database.now) }
     ensures block { IfOk result (λ space. space.block ≡ block.now) }
 {
-    let estimate = Estimate::new(alloc, database, block)?;
+    let conjuncts = conjuncts(alloc, block)?;
+    let estimate = Estimate::new(alloc, database, block, &conjuncts)?;
     Space::new(alloc, estimate, version)
 }
 
@@ -89,7 +90,8 @@ fn run_in(
     requires database { space.now.database ≡ database.now }
     requires block { space.now.block ≡ block.now }
 {
-    let source = BlockSource::new(alloc, database, block)?;
+    let conjuncts = conjuncts(alloc, block)?;
+    let source = BlockSource::new(alloc, database, block, conjuncts)?;
     run(alloc, &source, space, plan, answer)
 }
 

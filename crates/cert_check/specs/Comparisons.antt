@@ -26,7 +26,7 @@ comparison_of c =
       step = step_of c.step;
       tables = set_of c.to.tables;
       order = c.to.order;
-      cost = c.cost;
+      cost = c.cost.number;
       bound = c.bound;
     }
 
@@ -44,6 +44,6 @@ kept_comparison_of c =
       step = kept_step_of c.step;
       tables = set_of c.to.tables;
       order = c.to.order;
-      cost = c.cost;
+      cost = c.cost.number;
       bound = c.bound;
     }

@@ -1,14 +1,15 @@
 //! What the rules of a certificate compare.
 
-ghost use Rattle.std.specs.Prelude.{◌≡◌};
+ghost use Rattle.std.specs.Prelude.{◌≡◌, ◌+◌};
 ghost use Rattle.definitions.specs.Plans.Checking.{rule_of_step};
+ghost use Rattle.definitions.specs.Plans.Cost.{saturated};
 ghost use Rattle.plan_tree.specs.Sets.{set_of};
 ghost use Rattle.cert_check.specs.Compared.{told_tables, told_order};
 ghost use Rattle.cert_check.specs.Comparisons.{comparison_of};
 ghost use Rattle.cert_check.specs.Verdicts.{rule_of};
 
 use crate::verdict::{Rule, StateKey};
-use plan_tree::{Path, State};
+use plan_tree::{Cost, Path, State};
 
 /// A step of the plan space; its path is the space's own.
 #[derive(Clone, Copy)]
@@ -33,8 +34,8 @@ pub struct Comparison<'a> {
     pub from: Option<State>,
     /// The state that it leads to.
     pub to: StateKey,
-    /// What the step comes to there, at most 10^18.
-    pub cost: u64,
+    /// What the step comes to there.
+    pub cost: Cost,
     pub bound: u64,
 }
 
@@ -63,4 +64,11 @@ impl Comparison<'_> {
             None => self.to,
         }
     }
+}
+
+/// What a step from a listed state comes to: the state's bound, whatever the certificate claims it to be, and what the step adds.
+pub(crate) fn cost_from(from: State, added: Cost) -> Cost
+    ensures { result.number ≡ saturated (from.cost + added.number) }
+{
+    Cost::of(u128::from(from.cost)).plus(added)
 }

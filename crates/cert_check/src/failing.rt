@@ -28,7 +28,7 @@ impl Listener for UntilBelow {
     ghost hears = { λ old c more new. Decides more (c.bound ≤ c.cost) };
 
     fn hear(&mut self, comparison: &Comparison<'_>) -> bool {
-        comparison.bound <= comparison.cost
+        comparison.bound <= comparison.cost.number
     }
 }
 

@@ -13,11 +13,11 @@ ghost use Rattle.cert_check.specs.Handing.{HandsOut};
 ghost use Rattle.plan_space.specs.Planned.{space_in};
 ghost use Rattle.plan_space.specs.Relation.{IsRelation};
 
-use crate::comparison::{Comparison, PlanStep};
+use crate::comparison::{Comparison, PlanStep, cost_from};
 use crate::listener::Listener;
 use crate::verdict::StateKey;
 use plan_space::{JoinRelation, Space};
-use plan_tree::{Certificate, State, TableSet, saturating_sum};
+use plan_tree::{Certificate, State, TableSet};
 
 /// Hands out the comparisons of the joins from listed states, each once, until the listener wants no more, and gives the one at which it
 /// stopped (own). It takes no memory.
@@ -131,7 +131,7 @@ fn compare_loops<'a, L: Listener>(
             step: PlanStep::Loop(item.path),
             from: Some(from),
             to,
-            cost: saturating_sum(from.cost, item.cost),
+            cost: cost_from(from, item.cost),
             bound,
         };
         if !listener.hear(&comparison) {
@@ -169,7 +169,7 @@ fn compare_merges<'a, L: Listener>(
             },
             from: Some(from),
             to,
-            cost: saturating_sum(from.cost, item.cost),
+            cost: cost_from(from, item.cost),
             bound,
         };
         if !listener.hear(&comparison) {

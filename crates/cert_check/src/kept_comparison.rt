@@ -5,7 +5,7 @@ ghost use Rattle.cert_check.specs.Comparisons.{comparison_of, kept_comparison_of
 
 use crate::comparison::{Comparison, PlanStep};
 use crate::verdict::StateKey;
-use plan_tree::{Path, State};
+use plan_tree::{Cost, Path, State};
 use std::alloc::AllocError;
 
 /// A comparison that outlives the one who made it.
@@ -15,7 +15,7 @@ pub struct KeptComparison {
     /// The state that the step begins from; none for an access.
     pub from: Option<State>,
     pub to: StateKey,
-    pub cost: u64,
+    pub cost: Cost,
     pub bound: u64,
 }
 
@@ -85,9 +85,9 @@ impl KeptComparison {
 
     /// How much it costs more than the bound of the state that it leads to.
     pub fn above(&self) -> u64
-        ensures { result ≡ self.now.cost - self.now.bound }
+        ensures { result ≡ self.now.cost.number - self.now.bound }
     {
-        self.cost.saturating_sub(self.bound)
+        self.cost.number.saturating_sub(self.bound)
     }
 }
 

@@ -11,11 +11,11 @@ ghost use Rattle.cert_check.specs.Comparisons.{comparison_of};
 ghost use Rattle.cert_check.specs.Handing.{HandsOut};
 ghost use Rattle.plan_space.specs.Planned.{space_in};
 
-use crate::comparison::{Comparison, PlanStep};
+use crate::comparison::{Comparison, PlanStep, cost_from};
 use crate::listener::Listener;
 use crate::verdict::StateKey;
 use plan_space::Space;
-use plan_tree::{Certificate, State, saturating_sum};
+use plan_tree::{Certificate, State};
 
 /// Hands out the comparisons of the sorts from listed states, each once, until the listener wants no more, and gives the one at which it
 /// stopped (own). It takes no memory.
@@ -49,7 +49,7 @@ fn compare_sorts_from<'a, L: Listener>(
         listener.old (option_map comparison_of result) listener.new }
 {
     let tables = from.tables;
-    let cost = saturating_sum(from.cost, space.sort_cost(tables));
+    let cost = cost_from(from, space.sort_cost(tables));
     'orders: for into in space.sorts(tables) {
         let order = space.fold(tables, into);
         let comparison = Comparison {

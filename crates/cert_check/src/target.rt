@@ -53,6 +53,6 @@ pub(crate) fn is_met(
         return false;
     };
     summary.tables.place() == all.place()
-        && summary.cost == certificate.target
+        && summary.cost.number == certificate.target
         && space.gives_required(summary.order)
 }

@@ -17,8 +17,8 @@ use Rattle.certificate.specs.Blocks.{columns_in}
 use Rattle.estimate.specs.Estimated.{Estimated}
 use Rattle.estimate.specs.PlanConjuncts.{conjunct_of}
 use Rattle.estimate.specs.declared.plan_conjunct.PlanConjunct.{PlanConjunct}
-use Rattle.plan_space.specs.InterestingOrders.Versions.{version_of}
-use Rattle.plan_space.specs.InterestingOrders.Version.{Version}
+use Rattle.plan_tree.specs.Versions.{version_of}
+use Rattle.plan_tree.specs.declared.version.Version.{Version}
 use Rattle.plan_space.specs.Planned.{Planned, space_in}
 use Rattle.certificate.specs.Spaces.{IsBlockSpace}
 

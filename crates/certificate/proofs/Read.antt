@@ -7,7 +7,7 @@ use Rattle.definitions.specs.Certificates.Text.{Written}
 use Rattle.definitions.specs.Certificates.Spelling.{plan_meant, AreBelow, AreThere, Spells}
 use Rattle.definitions.specs.Certificates.Form.{Says}
 use Rattle.plan_tree.specs.declared.plan.Plan.{Plan}
-use Rattle.plan_space.specs.InterestingOrders.Versions.{version_of}
+use Rattle.plan_tree.specs.Versions.{version_of}
 use Rattle.certificate.specs.Blocks.{IsOf, block_in}
 use Rattle.certificate.specs.Reads.{PlanIsMeant, IsMeant, IsLacking, PlanIsRead, IsRead, HasTextFault}
 use Rattle.certificate.specs.declared.certified.CertifiedBlock.{CertifiedBlock}

@@ -9,7 +9,7 @@ use Rattle.definitions.specs.Certificates.Text.{number_of_version}
 use Rattle.definitions.specs.Certificates.Text.{plan_text, state_line, end_line}
 use Rattle.definitions.specs.Certificates.Writing.{plan_written, text_written}
 use Rattle.certificate.specs.Blocks.{IsOf, block_in}
-use Rattle.plan_space.specs.InterestingOrders.Versions.{version_of}
+use Rattle.plan_tree.specs.Versions.{version_of}
 use Rattle.certificate.specs.Lines.{lines_of}
 use Rattle.certificate.specs.declared.certified.CertifiedBlock.{CertifiedBlock}
 use Rattle.certificate.proofs.Same.{plan_same}

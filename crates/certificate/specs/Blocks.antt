@@ -5,7 +5,7 @@ use Rattle.definitions.specs.Plans.Conjunct.{Conjunct}
 use Rattle.definitions.specs.Plans.Space.{Space}
 use Rattle.definitions.specs.Certificates.CertifiedBlock as c
 use Rattle.plan_tree.specs.Plans.{orders_in}
-use Rattle.plan_space.specs.InterestingOrders.Versions.{version_of}
+use Rattle.plan_tree.specs.Versions.{version_of}
 use Rattle.certificate.specs.declared.certified.CertifiedBlock.{CertifiedBlock}
 
 -- the columns of indexes

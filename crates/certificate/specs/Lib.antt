@@ -1,6 +1,5 @@
 pub use Rattle.definitions.specs.Certificates
 pub use Rattle.definitions.specs.Certificates.Explaining
-pub use Rattle.plan_space.specs.InterestingOrders.Versions
 pub use Rattle.plan_space.specs.Planned
 pub mod Blocks
 pub mod Lines

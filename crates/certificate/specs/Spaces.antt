@@ -2,7 +2,7 @@
 use Rattle.std.specs.Prelude.{◌≡◌, length, map}
 use Rattle.definitions.specs.Certificates.CertifiedBlock as c
 use Rattle.certificate.specs.Blocks.{columns_in}
-use Rattle.plan_space.specs.InterestingOrders.Versions.{version_of}
+use Rattle.plan_tree.specs.Versions.{version_of}
 use Rattle.plan_space.specs.Planned.{space_in}
 use Rattle.certificate.specs.declared.block_space.BlockSpace.{BlockSpace}
 

@@ -1,6 +1,6 @@
 //! Whether states rise and stay below the target.
 
-ghost use Rattle.std.specs.Prelude.{OnOk, OnErr, map};
+ghost use Rattle.std.specs.Prelude.{IfNone, OnErr, OnOk, OnSome, map};
 ghost use Rattle.std.specs.Bool.{Decides};
 ghost use Rattle.definitions.specs.Plans.Certificate as c;
 ghost use Rattle.definitions.specs.Certificates.Spelling.{AreBelow};
@@ -17,24 +17,33 @@ pub(crate) fn states_below(target: u64, states: &[State]) -> Result<(), BadState
 {
     let mut before = None;
     'states: for (place, state) in states.iter().enumerate() {
-        if !follows(before, *state) {
-            return Err(BadState::NotBehind { state: place });
+        if let Some(before) = not_behind(before, *state) {
+            return Err(BadState::NotBehind {
+                place,
+                before,
+                own: *state,
+            });
         }
         if target <= state.cost {
-            return Err(BadState::NotBelow { state: place });
+            return Err(BadState::NotBelow {
+                place,
+                cost: state.cost,
+                target,
+            });
         }
         before = Some(*state);
     }
     Ok(())
 }
 
-/// Whether a state stands behind the one before it, if there is one.
-fn follows(before: Option<State>, state: State) -> bool
-    ensures { Decides result (Follows before (state_of state)) }
+/// The state before another, if there is one that the other doesn't stand behind.
+fn not_behind(before: Option<State>, state: State) -> Option<State>
+    ensures some { OnSome result (Follows before (state_of state) → ⊥) }
+    ensures none { IfNone result (Follows before (state_of state)) }
 {
     match before {
-        Some(other) => precedes(other, state),
-        None => true,
+        Some(other) if !precedes(other, state) => Some(other),
+        _ => None,
     }
 }
 

@@ -7,12 +7,12 @@ ghost use Rattle.definitions.specs.Certificates.Explaining.{certified, index_col
 ghost use Rattle.definitions.specs.Certificates.Explaining.{columns_of_indexes};
 ghost use Rattle.query_tree.specs.Bound.{block_of};
 ghost use Rattle.certificate.specs.Blocks.{IsOf, columns_in};
-ghost use Rattle.plan_space.specs.InterestingOrders.Versions.{version_of};
+ghost use Rattle.plan_tree.specs.Versions.{version_of};
 ghost use Rattle.certificate.specs.Spaces.{IsBlockSpace};
 
 use crate::certified::CertifiedBlock;
 use catalog::{Database, Table};
-use estimate::Estimate;
+use estimate::{Estimate, conjuncts};
 use plan_space::{Space, Version};
 use query_tree::Block;
 use std::alloc::{AllocError, Global};
@@ -41,7 +41,8 @@ impl<'a> BlockSpace<'a> {
         requires formed { IsFormedSomewhere database.now (block_of block.now) }
         ensures { IfOk result (IsBlockSpace (certified database.now number (block_of block.now) (version_of version))) }
     {
-        let estimate = Estimate::new(alloc, database, block)?;
+        let conjuncts = conjuncts(alloc, block)?;
+        let estimate = Estimate::new(alloc, database, block, &conjuncts)?;
         let indexes = indexes_of(alloc, &estimate)?;
         let conjunct_count = estimate.conjuncts().len();
         let space = Space::new(alloc, estimate, version)?;

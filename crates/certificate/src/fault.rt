@@ -1,6 +1,7 @@
 //! What can be wrong with the text of a plan and its certificate.
 
 use certificate_syntax::Expected;
+use plan_tree::State;
 
 /// A number of a text that isn't there, as it is written.
 #[derive(Clone, Copy)]
@@ -18,13 +19,21 @@ pub enum Missing {
     StateOrder { state: usize, order: u64 },
 }
 
-/// A state that can't stand where it does, by its place in the list.
+/// A state that can't stand at its place in the list.
 #[derive(Clone, Copy)]
 pub enum BadState {
     /// It doesn't stand behind the one before it: states go by their sets of tables, then by their orders.
-    NotBehind { state: usize },
+    NotBehind {
+        place: usize,
+        before: State,
+        own: State,
+    },
     /// It doesn't cost less than the target.
-    NotBelow { state: usize },
+    NotBelow {
+        place: usize,
+        cost: u64,
+        target: u64,
+    },
 }
 
 /// Why a text is no spelling of a plan and a certificate of a block (own).

@@ -7,7 +7,7 @@ ghost use Rattle.definitions.specs.Certificates.CertifiedBlock.{indexes_of};
 ghost use Rattle.definitions.specs.Certificates.Spelling as spec;
 ghost use Rattle.certificate_syntax.specs.Said.{path_said, plan_said};
 ghost use Rattle.plan_tree.specs.Plans.{inner_of, plan_of};
-ghost use Rattle.plan_space.specs.InterestingOrders.Versions.{version_of};
+ghost use Rattle.plan_tree.specs.Versions.{version_of};
 ghost use Rattle.certificate.specs.Blocks.{block_in};
 ghost use Rattle.certificate.specs.Reads.{PathIsMeant, InnerIsMeant, PlanIsMeant};
 

@@ -5,7 +5,7 @@ ghost use Rattle.std.specs.Bool.{Decides};
 ghost use Rattle.definitions.specs.Certificates.CertifiedBlock.{indexes_of};
 ghost use Rattle.definitions.specs.Certificates.Spelling.{IsOneOf, IndexIsThere, TableIsThere, ConjunctIsThere, OrderIsThere, PathIsThere, PlanIsThere};
 ghost use Rattle.certificate_syntax.specs.Said.{path_said, plan_said};
-ghost use Rattle.plan_space.specs.InterestingOrders.Versions.{version_of};
+ghost use Rattle.plan_tree.specs.Versions.{version_of};
 ghost use Rattle.certificate.specs.Blocks.{block_in, columns_of};
 
 use crate::certified::{CertifiedBlock, from_zero};

@@ -6,7 +6,7 @@ ghost use Rattle.definitions.specs.Certificates.CertifiedBlock as c;
 ghost use Rattle.definitions.specs.Certificates.Text as spec;
 ghost use Rattle.definitions.specs.Certificates.Writing.{path_written, plan_written, text_written};
 ghost use Rattle.plan_tree.specs.Plans.{path_of, plan_of};
-ghost use Rattle.plan_space.specs.InterestingOrders.Versions.{version_of};
+ghost use Rattle.plan_tree.specs.Versions.{version_of};
 ghost use Rattle.plan_tree.specs.Certificates.{state_of, certificate_of};
 ghost use Rattle.certificate.specs.Blocks.{IsOf, block_in};
 ghost use Rattle.certificate.specs.Lines.{lines_of};

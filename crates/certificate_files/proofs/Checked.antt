@@ -18,7 +18,7 @@ use Rattle.certificate_files.specs.Telling.{check_ended_of}
 use Rattle.certificate_files.specs.declared.checking.FileEnded.{FileEnded}
 use Rattle.certificate_files.specs.declared.checking.FileEnded.TheVariants as e
 
-next : (n : ℕ) → n + 1 ≡ suc n
+pub next : (n : ℕ) → n + 1 ≡ suc n
 next n = omega arith
 
 all_ended : (a b c : Ended) → both_ended (both_ended a b) c ≡ both_ended a (both_ended b c)
@@ -72,7 +72,7 @@ next_in_file db blocks file start end number index block left text new ended end
     (subst (λ (t : List ℕ). TellsTo db blocks whole (index + 1) (lines_behind (lines_of left)) t ended') text_then
     (subst (λ (e : Ended). TellsTo db blocks whole (index + 1) (lines_behind (lines_of left)) (text ++ told_line index version told) e) (sym ends) next))
 
-past : {X : Type 0} (xs : List X) (n : ℕ) → length xs ≤ n → drop n xs ≡ []
+pub past : {X : Type 0} (xs : List X) (n : ℕ) → length xs ≤ n → drop n xs ≡ []
 past [] zero h = refl
 past [] (suc n) h = refl
 past (x ∷ xs) zero h = absurd (omega (arith, h))

@@ -2,3 +2,4 @@ mod FirstLines
 mod LongMatches
 mod TextsTold
 mod Checked
+mod Kept

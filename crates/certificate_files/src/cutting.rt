@@ -5,7 +5,7 @@ ghost use Rattle.definitions.specs.Certificates.File as spec;
 ghost use Rattle.definitions.specs.Certificates.File.{lines_of, own_text, lines_behind, earlier, version_among};
 ghost use Rattle.definitions.specs.Certificates.Text.{end_line};
 ghost use Rattle.definitions.specs.Estimates.Version.{current_version};
-ghost use Rattle.certificate.specs.Versions.{version_of};
+ghost use Rattle.plan_tree.specs.Versions.{version_of};
 ghost use Rattle.certificate_files.specs.FirstLine.{IsFirstLine};
 
 use certificate::{Version, Word};

@@ -6,7 +6,7 @@ ghost use Rattle.definitions.specs.Certificates.File.{lines_of};
 ghost use Rattle.definitions.specs.Certificates.Verdicts.{verdict_text, rest_text, space_text};
 ghost use Rattle.definitions.specs.Certificates.Verdicts as verdicts;
 ghost use Rattle.cert_check.specs.Verdicts.{rule_of};
-ghost use Rattle.certificate.specs.Versions.{version_of};
+ghost use Rattle.plan_tree.specs.Versions.{version_of};
 ghost use Rattle.certificate_files.specs.BlockLine.{told_line};
 ghost use Rattle.certificate_files.specs.Telling.{told_of, fault_of};
 

@@ -1,6 +1,6 @@
 //! What is told of the text of one block.
 
-ghost use Rattle.std.specs.Prelude.{ℕ, ◌≡◌, List, IfOk};
+ghost use Rattle.std.specs.Prelude.{ℕ, ◌≡◌, List, None, IfOk, IfSome, option_map};
 ghost use Rattle.definitions.specs.Invariant.{IsDatabase};
 ghost use Rattle.definitions.specs.Binding.Formed.{IsFormedSomewhere};
 ghost use Rattle.definitions.specs.Plans.Certificate.{IsCertificate};
@@ -11,15 +11,20 @@ ghost use Rattle.definitions.specs.Certificates.Explaining.{certified};
 ghost use Rattle.definitions.specs.Certificates.Verdicts.{IsTextVerdict};
 ghost use Rattle.query_tree.specs.Bound.{block_of};
 ghost use Rattle.plan_tree.specs.Certificates.{certificate_of};
-ghost use Rattle.certificate.specs.Reads.{HasTextFault};
-ghost use Rattle.cert_check.specs.Verdicts.{verdict_of};
-ghost use Rattle.certificate.specs.Versions.{version_of};
+ghost use Rattle.certificate.specs.Reads.{HasTextFault, IsRead};
+ghost use Rattle.certificate.specs.Spaces.{IsBlockSpace};
+ghost use Rattle.cert_check.specs.Compared.{IsFirstBelow};
+ghost use Rattle.cert_check.specs.Comparisons.{kept_comparison_of};
+ghost use Rattle.cert_check.specs.Verdicts.{below_of, verdict_of};
+ghost use Rattle.plan_tree.specs.Versions.{version_of};
 ghost use Rattle.certificate.specs.Planned.{space_in};
+ghost use Rattle.certificate_files.specs.Judged.{IsFirstFailing, IsJudgedIn};
 ghost use Rattle.certificate_files.specs.Telling.{StandsFor, IsToldBy, IsOfText, told_of};
 
 use catalog::Database;
 use cert_check::{KeptComparison, Rule, StateKey, Verdict, check, check_outside};
 use certificate::{BlockSpace, PlanNote, Space, Spelled, TextFault, Version, read_text};
+use plan_tree::Cost;
 use query_tree::Block;
 use std::alloc::{AllocError, Global};
 
@@ -74,6 +79,8 @@ pub(crate) fn block_told<'a>(
     ensures told { IfOk result (λ text. IsTextVerdict (certified database.now number (block_of block.now)
         (version_of version)) bytes.now (told_of text.told)) }
     ensures text { IfOk result (λ text. IsOfText text.told) }
+    ensures kept { IfOk result (λ text. IfSome text.refused (IsJudgedIn (certified database.now number
+        (block_of block.now) (version_of version)) bytes.now)) }
 {
     let own = BlockSpace::new(alloc, database, block, number, version)?;
     match read_text(alloc, &own.certified_block(), bytes) {
@@ -91,7 +98,10 @@ pub(crate) fn block_told<'a>(
 
 /// What is told of a text, with what it was judged in unless it passes.
 fn with_text<'a>(judged: Judgement, own: BlockSpace<'a>, spelled: Option<Spelled>) -> TextTold<'a>
-    ensures { result.told ≡ judged.told }
+    ensures told { result.told ≡ judged.told }
+    ensures kept { (block : CertifiedBlock) (bytes : List ℕ) → IsBlockSpace block own.entry →
+        IfSome spelled (IsRead block bytes) → IsFirstFailing (space_in own.entry.space) spelled judged.failing →
+        IfSome result.refused (IsJudgedIn block bytes) }
 {
     match judged.told {
         Told::Passes => TextTold {
@@ -118,7 +128,7 @@ fn add_notes(
     told: Told,
 ) {
     if let Told::Passes = told {
-        let least = spelled.certificate.target;
+        let least = Cost::of(u128::from(spelled.certificate.target));
         own.space
             .add_notes(alloc, notes, own.number as usize, least);
     }
@@ -129,6 +139,7 @@ fn fault_told(fault: TextFault) -> Result<Judgement, AllocError>
     ensures told { (block : CertifiedBlock) (bytes : List ℕ) → HasTextFault block bytes fault →
         IfOk result (λ judged. IsTextVerdict block bytes (told_of judged.told)) }
     ensures text { IfOk result (λ judged. IsOfText judged.told) }
+    ensures none { IfOk result (λ judged. judged.failing ≡ None) }
 {
     match fault {
         TextFault::Form { .. } | TextFault::Missing(_) | TextFault::States(_) => Ok(Judgement {
@@ -145,6 +156,8 @@ fn spelled_told(space: &Space<'_>, spelled: &Spelled) -> Result<Judgement, Alloc
     ensures told { IfOk result (λ judged. (plan : spec.Plan) → StandsFor (space_in space.now) plan spelled.now.plan →
         IsToldBy (space_in space.now) plan (certificate_of spelled.now.certificate) (told_of judged.told)) }
     ensures text { IfOk result (λ judged. IsOfText judged.told) }
+    ensures first { IfOk result (λ judged. IsFirstBelow (space_in space.now) (certificate_of spelled.now.certificate)
+        (option_map kept_comparison_of judged.failing)) }
 {
     match verdict_on(space, spelled) {
         Verdict::Pass => Ok(Judgement {
@@ -171,8 +184,9 @@ fn spelled_told(space: &Space<'_>, spelled: &Spelled) -> Result<Judgement, Alloc
 /// The verdict on it.
 fn verdict_on<'a>(space: &'a Space<'_>, spelled: &Spelled) -> Verdict<'a>
     requires { IsCertificate (space_in space.now) (certificate_of spelled.now.certificate) }
-    ensures { (plan : spec.Plan) → StandsFor (space_in space.now) plan spelled.now.plan →
+    ensures verdict { (plan : spec.Plan) → StandsFor (space_in space.now) plan spelled.now.plan →
         IsVerdict (space_in space.now) (certificate_of spelled.now.certificate) plan (verdict_of result) }
+    ensures first { IsFirstBelow (space_in space.now) (certificate_of spelled.now.certificate) (below_of result) }
 {
     match &spelled.plan {
         Some(plan) => check(space, plan, &spelled.certificate),

@@ -1,7 +1,7 @@
 -- How the words of this crate are written.
 use Rattle.std.specs.Prelude.{ℕ, List, codes}
 use Rattle.definitions.specs.Certificates.Text.{first_line, end_line}
-use Rattle.interesting_orders.specs.Versions.{version_of}
+use Rattle.plan_tree.specs.Versions.{version_of}
 use Rattle.certificate_syntax.specs.declared.words.Word.{Word}
 use Rattle.certificate_syntax.specs.declared.words.Word.TheVariants as w
 

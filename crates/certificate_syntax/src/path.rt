@@ -3,7 +3,7 @@
 ghost use Rattle.std.specs.Prelude.{◌≡◌, ℕ, List, IsTrue, MatchOption, true, false, length, slice_index};
 ghost use Rattle.std.specs.List.{list_all};
 ghost use Rattle.definitions.specs.Certificates.Form.{is_number, is_direction, is_match};
-ghost use Rattle.interesting_orders.specs.Versions.{version_of};
+ghost use Rattle.plan_tree.specs.Versions.{version_of};
 ghost use Rattle.certificate_syntax.specs.Said.{path_said};
 ghost use Rattle.certificate_syntax.specs.Reading.{Reads, IsBehindDigits, DirectionIn, AllIn, SlashedIn, MatchIn, PathIn};
 
@@ -12,7 +12,7 @@ use crate::number::{first_byte, number, number_between};
 use crate::stop::{TextStop, stop_before};
 use crate::words::{Word, pass};
 use crate::written::WrittenPath;
-use interesting_orders::Version;
+use plan_tree::Version;
 use std::alloc::Global;
 
 pub(crate) fn path<'a>(

@@ -1,7 +1,7 @@
 //! Reads a plan from the text of a certificate.
 
 ghost use Rattle.std.specs.Prelude.{◌≡◌, ◌<◌, ℕ, slice_index};
-ghost use Rattle.interesting_orders.specs.Versions.{version_of};
+ghost use Rattle.plan_tree.specs.Versions.{version_of};
 ghost use Rattle.certificate_syntax.specs.Said.{plan_said};
 ghost use Rattle.certificate_syntax.specs.Reading.{Reads, AroundIn, SortedIn, WrappedIn, PlanIn, around_text};
 ghost use Rattle.certificate_syntax.specs.Words.{word_text};
@@ -13,7 +13,7 @@ use crate::path::path;
 use crate::stop::{TextStop, stop_before};
 use crate::words::{Word, pass};
 use crate::written::WrittenPlan;
-use interesting_orders::Version;
+use plan_tree::Version;
 use std::alloc::Global;
 
 /// What a plan does with the plan below it.

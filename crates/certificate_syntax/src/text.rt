@@ -2,7 +2,7 @@
 
 ghost use Rattle.std.specs.Prelude.{IfOk, IfErr, map};
 ghost use Rattle.definitions.specs.Certificates.Form.{Says};
-ghost use Rattle.interesting_orders.specs.Versions.{version_of};
+ghost use Rattle.plan_tree.specs.Versions.{version_of};
 ghost use Rattle.certificate_syntax.specs.Said.{plan_said, state_said, said_of};
 ghost use Rattle.certificate_syntax.specs.Reading.{Reads, AllIn, StateIn, BlockIn, PlanLineIn, TextIn, SaysAll, SaysNothing, IsFaultOf};
 
@@ -12,7 +12,7 @@ use crate::plan::plan;
 use crate::stop::{TextStop, stop_before};
 use crate::words::{Word, pass};
 use crate::written::{Written, WrittenPlan, WrittenState};
-use interesting_orders::Version;
+use plan_tree::Version;
 use std::alloc::Global;
 
 /// A plan has at most so many words.

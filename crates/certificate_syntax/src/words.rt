@@ -2,13 +2,13 @@
 
 ghost use Rattle.std.specs.Prelude.{◌≡◌};
 ghost use Rattle.definitions.specs.Certificates.Text.{first_line};
-ghost use Rattle.interesting_orders.specs.Versions.{version_of};
+ghost use Rattle.plan_tree.specs.Versions.{version_of};
 ghost use Rattle.certificate_syntax.specs.Words.{word_text};
 ghost use Rattle.certificate_syntax.specs.Reading.{ReadsWord};
 
 use crate::fault::Expected;
 use crate::stop::{TextStop, stop_before};
-use interesting_orders::Version;
+use plan_tree::Version;
 
 /// A word or a mark that stands in texts, with the spaces and the bracket that belong to it, as `bytes` tells.
 #[derive(Clone, Copy, Debug)]

@@ -1,4 +1,5 @@
 pub use Rattle.definitions.specs.Estimates
+pub use Rattle.predicates.specs.Parts
 pub mod Ranges
 pub mod Views
 pub mod Tables

@@ -10,6 +10,7 @@ ghost use Rattle.definitions.specs.Estimates.Cardinality as spec;
 ghost use Rattle.definitions.specs.Estimates.PlanConjuncts as plans;
 ghost use Rattle.query_tree.specs.Bound.{block_of};
 ghost use Rattle.predicates.specs.Naming.{NamesFew};
+ghost use Rattle.predicates.specs.Parts.{AreConjunctsOf};
 ghost use Rattle.plan_tree.specs.Sets.{set_of};
 ghost use Rattle.estimate.specs.Tables.{tables_of, AreTablesOf};
 ghost use Rattle.estimate.specs.Estimated.{IsFormed};
@@ -20,7 +21,8 @@ use crate::planning::plan_conjuncts;
 use crate::shares::{left_by_completed, left_by_known};
 use crate::table_size::TableSize;
 use catalog::{Database, Table};
-use plan_tree::{TableSet, saturate, saturating_product};
+use plan_tree::{Cost, TableSet, saturate, saturating_product};
+use predicates::Conjunct;
 use query_tree::Block;
 use std::alloc::{AllocError, Global};
 use std::marker::Model;
@@ -55,19 +57,22 @@ impl<'a> Model for Estimate<'a> {
 }
 
 impl<'a> Estimate<'a> {
-    /// The estimates of a block, whose statistics are those that the database has now.
+    /// The estimates of a block with the conjuncts of its WHERE, whose statistics are those that the database has now. It fails where
+    /// memory runs out.
     pub fn new(
         alloc: Global,
         database: &'a Database,
         block: &'a Block,
+        conjuncts: &[Conjunct<'a>],
     ) -> Result<Estimate<'a>, AllocError>
         requires formed { IsFormed database.now (block_of block.now) }
+        requires conjuncts { AreConjunctsOf (block_of block.now) conjuncts.now }
         ensures database { IfOk result (λ e. e.database ≡ database.now) }
         ensures block { IfOk result (λ e. e.block ≡ block.now) }
     {
         let tables = block_tables(alloc, database, block)?;
         let sizes = TableSize::all(alloc, &tables)?;
-        let conjuncts = plan_conjuncts(alloc, &tables, &block.condition)?;
+        let conjuncts = plan_conjuncts(alloc, &tables, conjuncts)?;
         Ok(Estimate {
             database,
             block,
@@ -197,20 +202,18 @@ impl<'a> Estimate<'a> {
     }
 
     /// What a sort of the rows of a set of tables costs: it writes and reads each page, and handles each row.
-    pub fn sort_cost(&self, tables: TableSet) -> u64
-        ensures exact { result ≡ spec.sort_cost self.now.database (block_of self.now.block) (set_of tables) }
-        ensures below { result ≤ limit }
+    pub fn sort_cost(&self, tables: TableSet) -> Cost
+        ensures { result.number ≡ spec.sort_cost self.now.database (block_of self.now.block) (set_of tables) }
     {
         self.sort_cost_of(tables, self.cardinality(tables))
     }
 
     /// What a sort of the rows of a set of tables costs, where it is known how many they are.
-    pub fn sort_cost_of(&self, tables: TableSet, rows: u64) -> u64
+    pub fn sort_cost_of(&self, tables: TableSet, rows: u64) -> Cost
         requires { rows ≡ spec.cardinality self.now.database (block_of self.now.block) (set_of tables) }
-        ensures exact { result ≡ spec.sort_cost self.now.database (block_of self.now.block) (set_of tables) }
-        ensures below { result ≤ limit }
+        ensures { result.number ≡ spec.sort_cost self.now.database (block_of self.now.block) (set_of tables) }
     {
-        saturate(20 * u128::from(self.pages_of(tables, rows)) + u128::from(rows))
+        Cost::of(20 * u128::from(self.pages_of(tables, rows)) + u128::from(rows))
     }
 }
 

@@ -18,4 +18,5 @@ pub use conditions::selectivity;
 pub use estimate::Estimate;
 pub use fractions::{MILLION, fraction, share};
 pub use plan_conjunct::PlanConjunct;
+pub use predicates::{Conjunct, conjuncts};
 pub use selectivity_shares::one_key;

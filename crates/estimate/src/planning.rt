@@ -1,12 +1,9 @@
-//! From the conjuncts of a condition to those that plans see.
+//! From the conjuncts of a block to those that plans see.
 
-ghost use Rattle.std.specs.Prelude.{◌≡◌, IfOk, IfSome, map, option_map};
+ghost use Rattle.std.specs.Prelude.{◌≡◌, IfOk, map};
 ghost use Rattle.definitions.specs.Table.{Database};
 ghost use Rattle.definitions.specs.Estimates.PlanConjuncts as spec;
 ghost use Rattle.definitions.specs.Queries.BoundBlock.{Block};
-ghost use Rattle.definitions.specs.Queries.Conjuncts.{conjuncts_of_option};
-ghost use Rattle.query_tree.specs.Bound.{condition_of};
-ghost use Rattle.predicates.specs.Naming.{NamesFew};
 ghost use Rattle.predicates.specs.Parts.{condition_in};
 ghost use Rattle.estimate.specs.Tables.{tables_of, AreTablesOf};
 ghost use Rattle.estimate.specs.PlanConjuncts.{condition_of_conjunct, conjunct_of};
@@ -14,27 +11,22 @@ ghost use Rattle.estimate.specs.PlanConjuncts.{condition_of_conjunct, conjunct_o
 use crate::conditions::selectivity;
 use crate::plan_conjunct::PlanConjunct;
 use catalog::Table;
-use predicates::{Conjunct, conjuncts};
-use query_tree::Condition;
+use predicates::Conjunct;
 use std::alloc::{AllocError, Global};
 
-/// The conjuncts of a condition over the tables of a block, in text order.
+/// Conjuncts over the tables of a block, each with its selectivity, in their order.
 pub(crate) fn plan_conjuncts<'a>(
     alloc: Global,
     tables: &[&Table],
-    condition: &'a Option<Condition>,
+    conjuncts: &[Conjunct<'a>],
 ) -> Result<Vec<PlanConjunct<'a>>, AllocError>
-    requires few { IfSome (option_map condition_of condition.now) NamesFew }
-    ensures conditions { IfOk result (λ cs. map condition_of_conjunct cs.items
-        ≡ conjuncts_of_option (option_map condition_of condition.now)) }
+    ensures conditions { IfOk result (λ cs. map condition_of_conjunct cs.items ≡ map condition_in conjuncts.now) }
     ensures exact { IfOk result (λ cs. (db : Database) (block : Block) → AreTablesOf db block (tables_of tables.now) →
-        map conjunct_of cs.items ≡ map (spec.plan_conjunct db block)
-        (conjuncts_of_option (option_map condition_of condition.now))) }
+        map conjunct_of cs.items ≡ map (spec.plan_conjunct db block) (map condition_in conjuncts.now)) }
 {
-    let parts = conjuncts(alloc, condition)?;
     let mut planned = Vec::new(alloc);
-    'parts: for part in &parts {
-        planned.push(plan_conjunct(tables, *part))?;
+    'conjuncts: for conjunct in conjuncts {
+        planned.push(plan_conjunct(tables, *conjunct))?;
     }
     Ok(planned)
 }

@@ -11,6 +11,7 @@ ghost use Rattle.definitions.specs.Queries.BoundBlock.{Blocks};
 ghost use Rattle.definitions_answers.specs.Parameters.{parameters as parameters_of};
 ghost use Rattle.query_tree.specs.Bound.{block_of};
 ghost use Rattle.plan_space.specs.BlockPlans.{AreLeastOf};
+ghost use Rattle.plan_space.specs.Parts.{AreConjunctsOf};
 ghost use Rattle.plan_space.specs.Planned.{space_in};
 ghost use Rattle.plan_tree.specs.Plans.{plan_of};
 ghost use Rattle.filters.specs.Sources.{block_in};
@@ -42,30 +43,35 @@ pub struct ReadyBlock<'s> {
 }
 
 impl<'s> ReadyBlock<'s> {
-    /// A block with a plan of its space that gives the order that the block asks for, whatever it costs. Its parameters
-    /// are those that `block_parameters` tells of it (Selinger et al. 1979, sections 4 to 6).
+    /// A block with a plan of its space that gives the order that the block asks for, whatever it costs, and the conjuncts of its WHERE. Its
+    /// parameters are those that `block_parameters` tells of it (Selinger et al. 1979, sections 4 to 6).
     pub fn new(
         alloc: Global,
         database: &'s Database,
         block: &'s Block,
-        space: Space<'s>,
-        plan: Plan,
+        chosen: BlockPlan<'s>,
         parameters: &[OuterColumn],
     ) -> Result<ReadyBlock<'s>, AllocError>
         requires formed { IsFormedSomewhere database.now (block_of block.now) }
         requires answerable { IsAnswerable (block_of block.now) }
-        requires space { space_in space ≡ space_of current_version database.now (block_of block.now) }
-        requires within { InSpace (space_of current_version database.now (block_of block.now)) (plan_of plan) }
-        requires required { GivesRequired (space_of current_version database.now (block_of block.now)) (plan_of plan) }
+        requires conjuncts { AreConjunctsOf (block_of block.now) chosen.conjuncts.items }
+        requires space { space_in chosen.space ≡ space_of current_version database.now (block_of block.now) }
+        requires within { InSpace (space_of current_version database.now (block_of block.now)) (plan_of chosen.plan) }
+        requires required { GivesRequired (space_of current_version database.now (block_of block.now)) (plan_of chosen.plan) }
         ensures ready { IfOk result (λ r. (blocks : Blocks) (number : ℕ) →
             outer_columns_of parameters.now ≡ parameters_of blocks number → IsReadyIn database.now blocks number r) }
         ensures block { IfOk result (λ r. block_in r.source ≡ block_of block.now) }
-        ensures plan { IfOk result (λ r. plan_of r.plan ≡ plan_of plan) }
+        ensures plan { IfOk result (λ r. plan_of r.plan ≡ plan_of chosen.entry.plan) }
     {
         // A look at its tables tells what holds of a database.
         let _tables = database.tables();
-        let source = BlockSource::new(alloc, database, block)?;
-        let late = late_conditions(alloc, block)?;
+        let BlockPlan {
+            conjuncts,
+            space,
+            plan,
+        } = chosen;
+        let late = late_conditions(alloc, &conjuncts)?;
+        let source = BlockSource::new(alloc, database, block, conjuncts)?;
         let subqueries = blocks_asked(alloc, &late)?;
         let seen = blocks_seen(alloc, &late)?;
         let mut own = Vec::new(alloc);
@@ -113,8 +119,7 @@ pub fn ready_blocks<'s>(
     'taking: while let Some(chosen) = rest.next() {
         let number = query.len();
         let block = &blocks[number];
-        let BlockPlan { space, plan } = chosen;
-        let ready = ReadyBlock::new(alloc, database, block, space, plan, &parameters[number])?;
+        let ready = ReadyBlock::new(alloc, database, block, chosen, &parameters[number])?;
         query.push(ready)?;
     }
     Ok(query)

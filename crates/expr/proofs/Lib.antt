@@ -5,5 +5,4 @@ mod Telling
 mod Members
 mod Parts
 mod Sizes
-mod RaisingParts
 mod Shorts

@@ -12,4 +12,4 @@ mod short;
 pub use condition::truth;
 pub use environments::Environment;
 pub use evaluation::value;
-pub use raising::{can_raise, condition_can_raise};
+pub use raising::can_raise;

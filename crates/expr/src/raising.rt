@@ -1,15 +1,12 @@
 //! What can raise, known before any row is read (own).
 
-ghost use Rattle.std.specs.Prelude.{◌≡◌, [], ◌∷◌, map, option_map};
-ghost use Rattle.std.specs.List.{list_any};
+ghost use Rattle.std.specs.Prelude.{◌≡◌, option_map};
 ghost use Rattle.definitions.specs.Queries.CanRaise as raising;
-ghost use Rattle.definitions.specs.Queries.Conjuncts as conjuncts;
-ghost use Rattle.definitions.specs.Queries.Conjuncts.{member_values};
 ghost use Rattle.sqlvalue.specs.Meaning.{type_of};
-ghost use Rattle.query_tree.specs.Bound.{condition_of, literal_of, member_of, operator_of, value_of as tree_of};
+ghost use Rattle.query_tree.specs.Bound.{literal_of, operator_of, value_of as tree_of};
 ghost use Rattle.expr.specs.Sizes.{capped, size_of, safe_joined, safe_size as safe_size_of};
 
-use query_tree::{Condition, NumberLiteral, Operator, ValueExpr};
+use query_tree::{NumberLiteral, Operator, ValueExpr};
 use sqlvalue::SqlType;
 
 /// How many digits a number may have (own).
@@ -21,53 +18,6 @@ const MAX_DIGITS: u16 = 38;
 pub(crate) struct Size {
     digits: u8,
     scale: u8,
-}
-
-/// Whether a condition can raise: it holds a subquery, or a value that can (own).
-pub fn condition_can_raise(condition: &Condition) -> bool
-    ensures { result ≡ conjuncts.condition_can_raise (condition_of condition.now) }
-{
-    match condition {
-        Condition::Compare { left, right, .. } => can_raise(left) || can_raise(right),
-        Condition::IsNull { value, .. } | Condition::Like { value, .. } => can_raise(value),
-        Condition::Between {
-            value,
-            low,
-            high,
-            ..
-        } => can_raise(value) || can_raise(low) || can_raise(high),
-        Condition::InList { value, members, .. } => can_raise(value) || member_can_raise(members),
-        Condition::Quantified { .. } | Condition::InQuery { .. } | Condition::Exists { .. } => true,
-        Condition::Not(operand) => condition_can_raise(operand),
-        Condition::And(parts) | Condition::Or(parts) => {
-            for part in parts {
-                if condition_can_raise(part) {
-                    return true;
-                }
-            }
-            false
-        }
-    }
-}
-
-fn member_can_raise(members: &[Option<ValueExpr>]) -> bool
-    ensures { result ≡ list_any raising.can_raise (member_values (map member_of members.now)) }
-{
-    for member in members {
-        if is_raising(member) {
-            return true;
-        }
-    }
-    false
-}
-
-fn is_raising(member: &Option<ValueExpr>) -> bool
-    ensures { result ≡ list_any raising.can_raise (member_values (member_of member.now ∷ [])) }
-{
-    match member {
-        Some(value) => can_raise(value),
-        None => false,
-    }
 }
 
 /// Whether a value can raise: it holds a division, a subquery, a set function, or a part of more than 38 digits (own).

@@ -1,15 +1,15 @@
 -- Columns that are equal to a member of a list, or to none.
-use Rattle.std.proofs.Common.{◌≡◌, ◌∙◌, refl, sym, ap, ap₂, subst, ℕ, zero, suc, ◌+◌, ◌*◌, ◌-◌, ◌<◌, ◌≤◌, ◌^◌, inl, inr, List, [], ◌∷◌, Bool, true, false, cond, Option, Some, None, length, map, drop, get_or, set, arith}
-use Rattle.std.specs.Prelude.{◌||◌, IfSome, bit_or, option_map}
+use Rattle.std.proofs.Common.{◌≡◌, ◌∙◌, refl, sym, ap, ap₂, subst, ℕ, zero, suc, ◌+◌, ◌*◌, ◌-◌, ◌<◌, ◌≤◌, ◌^◌, inl, inr, List, [], ◌∷◌, ◌++◌, Bool, true, false, cond, Option, Some, None, length, map, take, drop, get_or, set, arith}
+use Rattle.std.specs.Prelude.{◌&&◌, ◌||◌, IfSome, bit_or, option_map}
 use Rattle.std.specs.declared.cmp.Ordering.{Ordering}
 use Rattle.std.specs.declared.cmp.Ordering.TheVariants.{Less, Equal, Greater}
-use Rattle.std.specs.List.{AllByRecursion, range_with_len}
-use Rattle.std.proofs.lemmas.List.{drop_all, drop_more}
+use Rattle.std.specs.List.{AllByRecursion, list_all, range_with_len}
+use Rattle.std.proofs.lemmas.List.{drop_all, map-append, take_more}
 use Rattle.std.proofs.lemmas.List.FromFn.{length-range_with_len}
 use Rattle.std.proofs.lemmas.Nat.{or_block}
 use Rattle.definitions.specs.Arithmetic.{Meaning, Is, Raises}
 use Rattle.definitions.specs.Scanning.{word_of}
-use Rattle.definitions.specs.Statement.{Equals}
+use Rattle.definitions.specs.Statement.{ComparisonOperator, Equals}
 use Rattle.definitions.specs.Truth.{Truth, False, Unknown, True, agrees, compared, compared_with_any, is_true, known_or_unknown, or, unless}
 use Rattle.definitions.specs.Value.{Value, Null, Number, Text, compare}
 use Rattle.definitions.specs.Queries.BoundBlock.{Condition, InList, ValueExpr}
@@ -19,19 +19,20 @@ use Rattle.definitions.specs.Queries.Evaluation.{Combination, Environment, in_or
 use Rattle.query_tree.specs.Bound.{member_of, value_of as tree_of}
 use Rattle.query_tree.specs.declared.value.ValueExpr as code
 use Rattle.columns.proofs.WordFlags.{word_of-and, word_of-none_mapped, word_of-ones_mapped}
-use Rattle.sqlvalue.specs.Meaning.{op_of}
 use Rattle.definitions_execution.specs.Lists.{In}
 use Rattle.definitions_execution.specs.Stored.{Composite}
 use Rattle.definitions_execution.specs.TypedCombinations.{HasValue}
-use Rattle.filters.specs.Comparisons.{member_op, IsListed, IsSide}
-use Rattle.filters.specs.JoinFilters.{met_with, true_with, CanCome, IsEarlyPart}
+use Rattle.filters.specs.Comparisons.{is_member_beside, member_op, AreMembersOf, IsIn, IsMemberOf}
+use Rattle.filters.specs.Compiled.{IsListOf}
+use Rattle.filters.specs.JoinFilters.{passes_member, true_with, CanCome, IsEarlyPart}
 use Rattle.filters.specs.Sources.{BlockSource, environment_at}
 use Rattle.filters.specs.Truths.{is_true_on}
 use Rattle.filters.specs.Words.{together, word_by, words_together}
 use Rattle.filters.specs.declared.comparison.Comparison.{Comparison}
 use Rattle.filters.specs.declared.member_list.MemberList.{MemberList}
 use Rattle.filters.proofs.Coming.{all_there, word_alike}
-use Rattle.filters.proofs.Comparing.{side_met}
+use Rattle.filters.proofs.Comparing.{side_met, side_within}
+use Rattle.filters.proofs.Tables.{all_at, at_place}
 
 -- ---- two words together
 
@@ -169,6 +170,60 @@ module _ (negated : Bool) (env : Environment) (own : ValueExpr) where
       of_both (Is u) (Raises r rs) = refl
       of_both (Raises r rs) n = refl
 
+-- ---- the comparisons with a list's members
+
+-- the member that a comparison is with
+abbrev member_in : Option Comparison → Option ValueExpr
+member_in = option_map (λ (c : Comparison). tree_of c.other.now)
+
+module _ (table : ℕ) (op : ComparisonOperator) (own : ValueExpr) where
+  abbrev AreMembers : List (Option ValueExpr) → List (Option Comparison) → Type 0
+  AreMembers = AreMembersOf table op own
+
+  member_is : (m : Option ValueExpr) (c : Option Comparison) → IsMemberOf table op own m c → m ≡ member_in c
+  member_is None None is = refl
+  member_is None (Some c) is = absurd is
+  member_is (Some other) None is = absurd is
+  member_is (Some other) (Some c) is = ap Some (sym is.0.other_is)
+
+  members_are : (ms : List (Option ValueExpr)) (cs : List (Option Comparison)) → AreMembers ms cs → ms ≡ map member_in cs
+  members_are [] [] are = refl
+  members_are [] (c ∷ cs) are = absurd are
+  members_are (m ∷ ms) [] are = absurd are
+  members_are (m ∷ ms) (c ∷ cs) are = ap₂ ◌∷◌ (member_is m c are.0) (members_are ms cs are.1)
+
+  all_compared : (ms : List (Option ValueExpr)) (cs : List (Option Comparison)) → AreMembers ms cs → AllByRecursion (λ c. IsMemberOf table op own (member_in c) c) cs
+  all_compared [] [] are = tt
+  all_compared [] (c ∷ cs) are = absurd are
+  all_compared (m ∷ ms) [] are = absurd are
+  all_compared (m ∷ ms) (c ∷ cs) are = (subst (λ n. IsMemberOf table op own n c) (member_is m c are.0) are.0, all_compared ms cs are.1)
+
+  -- a comparison more
+  pub one_more_member : (ms : List (Option ValueExpr)) (m : Option ValueExpr) (cs : List (Option Comparison)) (c : Option Comparison) → AreMembers ms cs → IsMemberOf table op own m c → AreMembers (ms ++ m ∷ []) (cs ++ c ∷ [])
+  one_more_member [] m [] c are is = (is, tt)
+  one_more_member [] m (d ∷ cs) c are is = absurd are
+  one_more_member (n ∷ ms) m [] c are is = absurd are
+  one_more_member (n ∷ ms) m (d ∷ cs) c are is = (are.0, one_more_member ms m cs c are.1 is)
+
+module _ (table : ℕ) (op : ComparisonOperator) (own : ValueExpr) (xs : List (Option code.ValueExpr)) where
+  abbrev beside : List (Option code.ValueExpr) → Bool
+  beside members = list_all (is_member_beside table own) (map member_of members)
+
+  module _ (i : ℕ) (x : Option code.ValueExpr) (h : i < length xs) (at : x ≡ get_or xs i x) where
+    pub compared_too : (cs after : List (Option Comparison)) (c : Option Comparison) → after ≡ cs ++ c ∷ [] → AreMembersOf table op own (map member_of (take i xs)) cs → IsMemberOf table op own (member_of x) c → AreMembersOf table op own (map member_of (take (i + 1) xs)) after
+    compared_too cs after c more are is =
+        let next : map member_of (take (i + 1) xs) ≡ map member_of (take i xs) ++ member_of x ∷ [] = ap (map member_of) (take_more xs i x h ∙ ap (λ y. take i xs ++ y ∷ []) (sym at)) ∙ map-append member_of (take i xs) (x ∷ []) in
+        subst (λ ms. AreMembersOf table op own ms after) (sym next) (subst (AreMembersOf table op own (map member_of (take i xs) ++ member_of x ∷ [])) (sym more) (one_more_member table op own (map member_of (take i xs)) (member_of x) cs c are is))
+
+    next_beside : beside (drop i xs) ≡ (is_member_beside table own (member_of x) && beside (drop (i + 1) xs))
+    next_beside = ap beside (at_place xs i x h at)
+
+    pub beside_too : is_member_beside table own (member_of x) ≡ true → beside (drop i xs) ≡ beside xs → beside (drop (i + 1) xs) ≡ beside xs
+    beside_too met left = sym (next_beside ∙ ap (λ b. b && beside (drop (i + 1) xs)) met) ∙ left
+
+  pub all_beside : (i : ℕ) → length xs ≤ i → beside (drop i xs) ≡ beside xs → true ≡ beside xs
+  all_beside i past left = sym (ap beside (drop_all i xs past)) ∙ left
+
 -- ---- the values of a list's members
 
 each_of : (P : ValueExpr → Type 0) (xs : List ValueExpr) → ((x : ValueExpr) → In x xs → P x) → AllByRecursion P xs
@@ -179,83 +234,102 @@ other_values : (P : ValueExpr → Type 0) (x : Option ValueExpr) (members : List
 other_values P None members h = h
 other_values P (Some e) members h = h.1
 
-left_values : (P : ValueExpr → Type 0) (members : List (Option code.ValueExpr)) (i : ℕ) → AllByRecursion P (member_values (map member_of members)) → AllByRecursion P (member_values (map member_of (drop i members)))
-left_values P members zero h = h
+left_values : (P : ValueExpr → Type 0) (cs : List (Option Comparison)) (i : ℕ) → AllByRecursion P (member_values (map member_in cs)) → AllByRecursion P (member_values (map member_in (drop i cs)))
+left_values P cs zero h = h
 left_values P [] (suc i) h = h
-left_values P (x ∷ members) (suc i) h = left_values P members i (other_values P (member_of x) (map member_of members) h)
+left_values P (x ∷ cs) (suc i) h = left_values P cs i (other_values P (member_in x) (map member_in cs) h)
 
-next_member : (members : List (Option code.ValueExpr)) (i : ℕ) (x : Option code.ValueExpr) → i < length members → x ≡ get_or members i x → map member_of (drop i members) ≡ member_of x ∷ map member_of (drop (i + 1) members)
-next_member members i x h e = ap (map member_of) (drop_more members i x h ∙ ap (λ y. y ∷ drop (i + 1) members) (sym e))
+next_member : (cs : List (Option Comparison)) (i : ℕ) (x : Option Comparison) → i < length cs → x ≡ get_or cs i x → map member_in (drop i cs) ≡ member_in x ∷ map member_in (drop (i + 1) cs)
+next_member cs i x h e = ap (map member_in) (at_place cs i x h e)
 
-next_values : (P : ValueExpr → Type 0) (members : List (Option code.ValueExpr)) (i : ℕ) (x : Option code.ValueExpr) → i < length members → x ≡ get_or members i x → AllByRecursion P (member_values (map member_of members))
-    → AllByRecursion P (member_values (member_of x ∷ map member_of (drop (i + 1) members)))
-next_values P members i x h e all = subst (λ ms. AllByRecursion P (member_values ms)) (next_member members i x h e) (left_values P members i all)
+next_values : (P : ValueExpr → Type 0) (cs : List (Option Comparison)) (i : ℕ) (x : Option Comparison) → i < length cs → x ≡ get_or cs i x → AllByRecursion P (member_values (map member_in cs))
+    → AllByRecursion P (member_values (member_in x ∷ map member_in (drop (i + 1) cs)))
+next_values P cs i x h e all = subst (λ ms. AllByRecursion P (member_values ms)) (next_member cs i x h e) (left_values P cs i all)
 
 first_value : (P : ValueExpr → Type 0) (x : Option ValueExpr) (members : List (Option ValueExpr)) → AllByRecursion P (member_values (x ∷ members)) → IfSome x P
 first_value P None members h = tt
 first_value P (Some e) members h = h.0
 
-pub member_held : (condition : Condition) (negated : Bool) (own : ValueExpr) (members : List (Option code.ValueExpr)) (i : ℕ) (x : Option code.ValueExpr) → condition ≡ InList negated own (map member_of members) → i < length members → x ≡ get_or members i x
-    → IsListed condition (member_of x)
-member_held condition negated own members i x same h e =
-    let P : ValueExpr → Type 0 = λ other. In other (values_of condition) in
-    let all : AllByRecursion P (own ∷ member_values (map member_of members)) = subst (λ c. AllByRecursion P (values_of c)) same (each_of P (values_of condition) (λ other j. j)) in
-    first_value P (member_of x) (map member_of (drop (i + 1) members)) (next_values P members i x h e all.1)
+-- ---- a list of an early conjunct
 
--- ---- the rows that pass members
-
-module _ (source : BlockSource) (outer : List Combination) (from : Composite) (table : ℕ) (list : MemberList) where
+module _ (table : ℕ) (condition : Condition) (list : MemberList) (is : IsListOf table condition list) where
   abbrev negated : Bool
   negated = list.negated
 
-  abbrev own : ValueExpr
-  own = tree_of list.value.now
+  abbrev cs : List (Option Comparison)
+  cs = list.members.items
 
-  abbrev env_with : ℕ → Environment
-  env_with row = environment_at source outer (set from table row)
+  pub list_is : condition ≡ InList negated is.own (map member_in cs)
+  list_is = is.same ∙ ap (InList negated is.own) (members_are table (member_op negated) is.own is.members cs is.compared)
 
-  abbrev listed : List (Option code.ValueExpr) → ℕ → Bool
-  listed members = true_with source outer from table (InList negated own (map member_of members))
+  compared_at : (i : ℕ) (x : Option Comparison) → i < length cs → x ≡ get_or cs i x → IsMemberOf table (member_op negated) is.own (member_in x) x
+  compared_at i x h e = all_at (λ c. IsMemberOf table (member_op negated) is.own (member_in c) c) cs i x (all_compared table (member_op negated) is.own is.members cs is.compared) h e
 
-  pub null_met : (x : Option code.ValueExpr) (first count : ℕ) → x ≡ None → 0 ≡ word_by (listed (x ∷ [])) first count
-  null_met x first count is =
-      no_row_met first count
-      ∙ sym (word_alike (listed (x ∷ [])) (λ row. false) first count (λ row. ap (λ (y : Option code.ValueExpr). listed (y ∷ []) row) is ∙ null_listed negated (env_with row) own))
+  -- a member's value is one of the condition's
+  pub member_within : (i : ℕ) (x : Option Comparison) → i < length cs → x ≡ get_or cs i x → IfSome x (IsIn table condition)
+  member_within i x h e = of_case x (compared_at i x h e) held
+    where
+      held : IfSome (member_in x) (λ other. In other (values_of condition))
+      held =
+          let all : AllByRecursion (λ other. In other (values_of condition)) (is.own ∷ member_values (map member_in cs)) = subst (λ c. AllByRecursion (λ other. In other (values_of condition)) (values_of c)) list_is (each_of (λ other. In other (values_of condition)) (values_of condition) (λ other j. j)) in
+          first_value (λ other. In other (values_of condition)) (member_in x) (map member_in (drop (i + 1) cs)) (next_values (λ other. In other (values_of condition)) cs i x h e all.1)
 
-  pub member_met : (x : Option code.ValueExpr) (other : code.ValueExpr) (c : Comparison) → x ≡ Some other → IsSide table own (tree_of other) c → op_of c.op ≡ member_op negated → (row : ℕ) → met_with source outer from table c row ≡ listed (x ∷ []) row
-  member_met x other c is side same row =
-      sym (ap (λ (y : Option code.ValueExpr). listed (y ∷ []) row) is ∙ one_listed negated (env_with row) own (tree_of other) ∙ side_met table own (tree_of other) c (member_op negated) (env_with row) side same)
+      of_case : (x : Option Comparison) → IsMemberOf table (member_op negated) is.own (member_in x) x → IfSome (member_in x) (λ other. In other (values_of condition)) → IfSome x (IsIn table condition)
+      of_case None of held = tt
+      of_case (Some c) of held = side_within table condition is.own (tree_of c.other.now) c of.0 held
 
-  module _ (can : CanCome source outer table) (condition : Condition) (is : IsEarlyPart source condition) (same : condition ≡ InList negated own (map member_of list.members.now)) where
-    there : (row : ℕ) → AllByRecursion (HasValue (env_with row)) (own ∷ member_values (map member_of list.members.now))
-    there row = subst (λ c. AllByRecursion (HasValue (env_with row)) (values_of c)) same (all_there source outer table can condition is (set from table row))
+-- ---- the rows that pass members
 
-    -- the rows that pass the members before one, and those that pass it and the ones behind it, together
-    abbrev pub IsMet : (met i first count : ℕ) → Type 0
-    IsMet met i first count =
-        (test : ℕ → Bool) × (met ≡ word_by test first count)
-        × ((row : ℕ) → together negated (test row) (listed (drop i list.members.now) row) ≡ true_with source outer from table condition row)
+module _ (source : BlockSource) (outer : List Combination) (from : Composite) (table : ℕ) (condition : Condition) (list : MemberList) (is : IsListOf table condition list) where
+  abbrev with_row : ℕ → Environment
+  with_row row = environment_at source outer (set from table row)
 
-    pub none_met : (met first count : ℕ) → met ≡ word_by (λ row. negated) first count → IsMet met 0 first count
-    none_met met first count word =
-        (λ row. negated, word, λ row. before_all negated (listed list.members.now row) ∙ ap (λ (c : Condition). true_with source outer from table c row) (sym same))
+  abbrev comparisons : List (Option Comparison)
+  comparisons = list.members.items
 
-    next_rows : (i : ℕ) (x : Option code.ValueExpr) → i < length list.members.now → x ≡ get_or list.members.now i x → (row : ℕ) → listed (drop i list.members.now) row ≡ together negated (listed (x ∷ []) row) (listed (drop (i + 1) list.members.now) row)
+  abbrev listed : List (Option Comparison) → ℕ → Bool
+  listed members = true_with source outer from table (InList list.negated is.own (map member_in members))
+
+  member_met : (x : Option Comparison) → IsMemberOf table (member_op list.negated) is.own (member_in x) x → (row : ℕ) → passes_member source outer from table x row ≡ listed (x ∷ []) row
+  member_met None of row = sym (null_listed list.negated (with_row row) is.own)
+  member_met (Some c) of row =
+      sym (one_listed list.negated (with_row row) is.own (tree_of c.other.now) ∙ side_met table is.own (tree_of c.other.now) c (member_op list.negated) (with_row row) of.0 of.1)
+
+  -- the rows that pass the members before one, and those that pass it and the ones behind it, together
+  abbrev pub IsMet : (met i first count : ℕ) → Type 0
+  IsMet met i first count =
+      (test : ℕ → Bool) × (met ≡ word_by test first count)
+      × ((row : ℕ) → together list.negated (test row) (listed (drop i comparisons) row) ≡ true_with source outer from table condition row)
+
+  pub none_met : (met first count : ℕ) → met ≡ word_by (λ row. list.negated) first count → IsMet met 0 first count
+  none_met met first count word =
+      (λ row. list.negated, word, λ row. before_all list.negated (listed comparisons row) ∙ ap (λ (c : Condition). true_with source outer from table c row) (sym (list_is table condition list is)))
+
+  module _ (can : CanCome source outer table) (early : IsEarlyPart source condition) where
+    there : (row : ℕ) → AllByRecursion (HasValue (with_row row)) (is.own ∷ member_values (map member_in comparisons))
+    there row = subst (λ c. AllByRecursion (HasValue (with_row row)) (values_of c)) (list_is table condition list is) (all_there source outer table can condition early (set from table row))
+
+    next_rows : (i : ℕ) (x : Option Comparison) → i < length comparisons → x ≡ get_or comparisons i x → (row : ℕ) → listed (drop i comparisons) row ≡ together list.negated (listed (x ∷ []) row) (listed (drop (i + 1) comparisons) row)
     next_rows i x h e row =
-        ap (λ ms. is_true_on (env_with row) (InList negated own ms)) (next_member list.members.now i x h e)
-        ∙ next_listed negated (env_with row) own (member_of x) (map member_of (drop (i + 1) list.members.now)) (next_values (HasValue (env_with row)) list.members.now i x h e (there row).1)
+        ap (λ ms. is_true_on (with_row row) (InList list.negated is.own ms)) (next_member comparisons i x h e)
+        ∙ next_listed list.negated (with_row row) is.own (member_in x) (map member_in (drop (i + 1) comparisons)) (next_values (HasValue (with_row row)) comparisons i x h e (there row).1)
 
-    pub one_more_met : (i : ℕ) (x : Option code.ValueExpr) (first count met word more : ℕ) → i < length list.members.now → x ≡ get_or list.members.now i x → word ≡ word_by (listed (x ∷ [])) first count → more ≡ words_together negated met word
+    pub one_more_met : (i : ℕ) (x : Option Comparison) (first count met word more : ℕ) → i < length comparisons → x ≡ get_or comparisons i x → word ≡ word_by (passes_member source outer from table x) first count → more ≡ words_together list.negated met word
         → IsMet met i first count → IsMet more (i + 1) first count
     one_more_met i x first count met word more h e is_word is_more (test, so_far, meant) =
-        let one = listed (x ∷ []) in
-        let others = listed (drop (i + 1) list.members.now) in (
-          λ row. together negated (test row) (one row),
-          is_more ∙ ap₂ (words_together negated) so_far is_word ∙ words_met negated test one (range_with_len first count),
-          λ row. together_assoc negated (test row) (one row) (others row) ∙ ap (together negated (test row)) (sym (next_rows i x h e row)) ∙ meant row,
+        let one = passes_member source outer from table x in
+        let others = listed (drop (i + 1) comparisons) in
+        let own = member_met x (compared_at table condition list is i x h e) in (
+          λ row. together list.negated (test row) (one row),
+          is_more ∙ ap₂ (words_together list.negated) so_far is_word ∙ words_met list.negated test one (range_with_len first count),
+          λ row.
+              ap (λ b. together list.negated (together list.negated (test row) b) (others row)) (own row)
+              ∙ together_assoc list.negated (test row) (listed (x ∷ []) row) (others row)
+              ∙ ap (together list.negated (test row)) (sym (next_rows i x h e row))
+              ∙ meant row,
         )
 
-    pub all_met : (met i first count : ℕ) → length list.members.now ≤ i → IsMet met i first count → met ≡ word_by (true_with source outer from table condition) first count
+    pub all_met : (met i first count : ℕ) → length comparisons ≤ i → IsMet met i first count → met ≡ word_by (true_with source outer from table condition) first count
     all_met met i first count past (test, so_far, meant) =
-        let behind : (row : ℕ) → listed (drop i list.members.now) row ≡ negated = λ row. ap (λ (ms : List (Option code.ValueExpr)). listed ms row) (drop_all i list.members.now past) ∙ none_listed negated (env_with row) own (there row).0 in
-        so_far ∙ word_alike test (true_with source outer from table condition) first count (λ row. sym (behind_all negated (test row)) ∙ ap (together negated (test row)) (sym (behind row)) ∙ meant row)
+        let behind : (row : ℕ) → listed (drop i comparisons) row ≡ list.negated = λ row. ap (λ (members : List (Option Comparison)). listed members row) (drop_all i comparisons past) ∙ none_listed list.negated (with_row row) is.own (there row).0 in
+        so_far ∙ word_alike test (true_with source outer from table condition) first count (λ row. sym (behind_all list.negated (test row)) ∙ ap (together list.negated (test row)) (sym (behind row)) ∙ meant row)

@@ -58,15 +58,9 @@ module _ (table : ℕ) where
   all_parts [] all = tt
   all_parts (x ∷ xs) all = all_append (IsPart table) (parts_of_test x) (joined (map parts_of_test xs)) all.0 (all_parts xs all.1)
 
-  pub one_more_test : (xs : List RowTest) (x : RowTest) → AllByRecursion (IsTest table) xs → IsTest table x → AllByRecursion (IsTest table) (xs ++ x ∷ [])
-  one_more_test xs x all h = all_append (IsTest table) xs (x ∷ []) all (h, tt)
-
   -- the part that a test is
   pub part_held : (test : RowTest) (p : CompiledPart) → test ≡ c.Part p → IsTest table test → IsPart table p
   part_held test p e is = let own : IsHeld (p ∷ []) = subst IsHeld (ap parts_of_test e ∙ parts_of_part p) is in own.0
-
-  pub part_tested : (p : CompiledPart) → IsPart table p → IsTest table (c.Part p)
-  part_tested p is = subst IsHeld (sym (parts_of_part p)) (is, tt)
 
   pub all_tested : (xs : Vec RowTest Global) → AllByRecursion (IsTest table) xs.items → IsTest table (cv.All xs)
   all_tested xs all = subst IsHeld (sym (parts_of_all xs)) (all_parts xs.items all)

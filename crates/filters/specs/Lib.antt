@@ -1,3 +1,4 @@
+pub mod Pulls
 pub mod Sources
 pub mod Inside
 pub mod Evaluable
@@ -7,5 +8,6 @@ pub mod Comparisons
 pub mod Compiled
 pub mod Words
 pub mod JoinFilters
+pub mod Candidates
 pub mod SearchArguments
 pub mod Laws

@@ -26,6 +26,10 @@ pub record BlockSource : Type 0 where
 abbrev pub block_in : BlockSource → spec.Block
 block_in source = block_of source.block
 
+-- how many tables the block has
+abbrev pub width_in : BlockSource → ℕ
+width_in source = length (block_in source).tables
+
 -- the block is formed in blocks whose rows have types
 abbrev pub IsSurrounded : BlockSource → List Combination → Type 0
 IsSurrounded source outer =

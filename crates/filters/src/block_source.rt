@@ -10,14 +10,14 @@ ghost use Rattle.definitions.specs.Estimates.BlockTables.{index_columns, table_a
 ghost use Rattle.definitions.specs.Queries.Conjuncts as queries;
 ghost use Rattle.sqlvalue.specs.Meaning.{value_of};
 ghost use Rattle.query_tree.specs.Bound.{block_of};
-ghost use Rattle.predicates.specs.Parts.{condition_in};
+ghost use Rattle.predicates.specs.Parts.{condition_in, AreConjunctsOf};
 ghost use Rattle.definitions_execution.specs.OfBlock.{index_run, rows_in};
 ghost use Rattle.filters.specs.Inside.{AreTablesOf, tables_of};
 ghost use Rattle.filters.specs.Sources.{block_in, IsIndexOf};
 
 use catalog::{Database, Index, Table};
 use definitions::indexes::run_is_one;
-use predicates::{Conjunct, conjuncts};
+use predicates::Conjunct;
 use query_tree::{Block, BlockColumn};
 use sqlvalue::Value;
 use std::alloc::{AllocError, Global};
@@ -49,20 +49,21 @@ impl<'a> Model for BlockSource<'a> {
 }
 
 impl<'a> BlockSource<'a> {
-    /// The rows that a block of a database reads.
+    /// The rows that a block of a database reads, with the conjuncts of its WHERE. It fails where memory runs out.
     pub fn new(
         alloc: Global,
         database: &'a Database,
         block: &'a Block,
+        conjuncts: Vec<Conjunct<'a>>,
     ) -> Result<BlockSource<'a>, AllocError>
         requires formed { IsFormedSomewhere database.now (block_of block.now) }
+        requires conjuncts { AreConjunctsOf (block_of block.now) conjuncts.items }
         ensures database { IfOk result (λ s. s.database ≡ database.now) }
         ensures block { IfOk result (λ s. s.block ≡ block.now) }
     {
         // A look at its tables tells what holds of a database.
         let _tables = database.tables();
         let tables = block_tables(alloc, database, block)?;
-        let conjuncts = conjuncts(alloc, &block.condition)?;
         Ok(BlockSource {
             database,
             block,

@@ -53,8 +53,8 @@ impl<'s> CompiledFilter<'s> {
         let RowTest::Part(part) = &self.test else {
             return None;
         };
-        match part.scan {
-            Scan::Compared(comparisons) => Some(comparisons),
+        match &part.scan {
+            Scan::Compared(comparisons) => Some(*comparisons),
             _ => None,
         }
     }

@@ -30,7 +30,7 @@ pub(crate) fn test_of<'s>(
     match condition {
         Condition::And(parts) => Ok(RowTest::All(tests_of(alloc, parts, table)?)),
         Condition::Or(parts) => Ok(RowTest::Any(tests_of(alloc, parts, table)?)),
-        _ => Ok(RowTest::Part(part_of(condition, table))),
+        _ => Ok(RowTest::Part(part_of(alloc, condition, table)?)),
     }
 }
 

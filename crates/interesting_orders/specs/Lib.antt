@@ -3,7 +3,6 @@ pub use Rattle.definitions.specs.Estimates
 pub use Rattle.definitions.specs.Plans.Folding
 pub mod Labels
 pub mod Classes
-pub mod Versions
 pub mod Keys
 pub mod Adding
 pub mod Each

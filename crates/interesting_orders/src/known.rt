@@ -4,11 +4,11 @@ ghost use Rattle.std.specs.Prelude.{◌≡◌, ◌<◌, IfOk, IfSome, length, fi
 ghost use Rattle.std.specs.List.{AllByRecursion, range_with_len};
 ghost use Rattle.definitions.specs.Estimates.Orders as spec;
 ghost use Rattle.definitions.specs.Table.{is_on};
-ghost use Rattle.interesting_orders.specs.Versions.{version_of};
+ghost use Rattle.plan_tree.specs.Versions.{version_of};
 ghost use Rattle.interesting_orders.specs.Keys.{index_on_column};
 
-use crate::version::Version;
 use catalog::Table;
+use plan_tree::Version;
 use std::alloc::{AllocError, Global};
 
 /// The numbers of the indexes of a table that a version knows: the first those on one column, in the order of the columns, the

@@ -13,7 +13,6 @@ mod reach;
 mod required;
 mod sort_orders;
 mod sorts;
-mod version;
 
 pub use equivalence_classes::EquivalenceClasses;
 pub use interesting_orders::InterestingOrders;
@@ -21,4 +20,3 @@ pub use known::known_indexes;
 pub use required::{is_grouped, required_order};
 pub use sort_orders::SortOrders;
 pub use sorts::Sorts;
-pub use version::Version;

@@ -10,15 +10,14 @@ ghost use Rattle.definitions.specs.Table as tables;
 ghost use Rattle.query_tree.specs.Bound.{block_of, column_of};
 ghost use Rattle.estimate.specs.PlanConjuncts.{conjunct_of};
 ghost use Rattle.plan_tree.specs.Plans.{key_of, order_of, orders_in};
-ghost use Rattle.interesting_orders.specs.Versions.{version_of};
+ghost use Rattle.plan_tree.specs.Versions.{version_of};
 ghost use Rattle.interesting_orders.specs.Keys.{index_keys, column_orders, read_key};
 ghost use Rattle.interesting_orders.specs.Adding.{added, table_keys};
 
 use crate::known::known_indexes;
-use crate::version::Version;
 use catalog::Table;
 use estimate::{Estimate, PlanConjunct};
-use plan_tree::SortKey;
+use plan_tree::{SortKey, Version};
 use query_tree::BlockColumn;
 use std::alloc::{AllocError, Global};
 use std::marker::Model;

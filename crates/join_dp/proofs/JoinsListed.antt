@@ -49,6 +49,13 @@ module _ (xs : List Added) (x : Added) where
       let z : place - length xs ≡ 0 = omega (arith, ge, lt, push_size) in
       get_or-append_right xs (x ∷ []) (length xs) place _ refl ge ∙ rw z refl
 
+pub not_less : (a b : ℕ) → (a < b → ⊥) → b ≤ a
+not_less a b never = of_cases (cases_lt a b)
+  where
+    of_cases : (a < b) ⊎ (b ≤ a) → b ≤ a
+    of_cases (inl lt) = absurd (never lt)
+    of_cases (inr le) = le
+
 module _ (space : Space) (tables table : ℕ) where
   abbrev AddedOf : Added → Type 0
   AddedOf a = IsAdded space tables a.table a.join a.cost

@@ -77,10 +77,10 @@ module _ (space : Space) (table : ℕ) where
     pub access_numbered : f < length space.orders
     access_numbered = let n = right.0.numbered in omega (arith, n, le)
 
-    pub access_offer : IsOffer space 0 s (only table) f (record { step = AccessOf item.path; sorted = None; cost = item.cost })
-    access_offer = record {
+    pub access_offer : item.cost ≤ limit → IsOffer space 0 s (only table) f (record { step = AccessOf item.path; sorted = None; cost = item.cost })
+    access_offer small = record {
       is_open = a.is_open;
-      made = record { small = right.0.small; made = (rw right.0.reads lt, right.1, ap only (sym right.0.reads), rw right.0.order at folds, right.0.cost) };
+      made = record { small = small; made = (rw right.0.reads lt, right.1, ap only (sym right.0.reads), rw right.0.order at folds, right.0.cost) };
       inside = pow-lt lt;
       numbered = access_numbered;
       high = omega arith;

@@ -6,7 +6,7 @@ use Rattle.std.specs.List.{AllByRecursion}
 use Rattle.definitions.specs.Plans.Path.{Path, table_of}
 use Rattle.definitions.specs.Plans.Space.{Space}
 use Rattle.definitions.specs.Plans.PlanSpace.{IsPath}
-use Rattle.definitions.specs.Plans.Cost.{limit, saturated}
+use Rattle.definitions.specs.Plans.Cost.{saturated}
 use Rattle.definitions.proofs.PlanTheory.Elements.{not_in_empty}
 use Rattle.plan_space.specs.Item.{Item, AreItems}
 use Rattle.plan_space.proofs.Lists.{both}
@@ -17,10 +17,10 @@ use Rattle.join_dp.specs.Steps.{Loop}
 
 -- ---- the cheaper of two
 
--- what a path costs, above every cost where there is none
-abbrev item_cost_or : Option Item → ℕ
-item_cost_or None = limit + 1
-item_cost_or (Some item) = item.cost
+-- no more than a path costs, if there is one
+abbrev AtMost : ℕ → Option Item → Type 0
+AtMost n None = ⊤
+AtMost n (Some item) = n ≤ item.cost
 
 cheaper_new : (best : Option Item) (item : Item) → (cheaper_item best item).cost ≤ item.cost
 cheaper_new None item = omega arith
@@ -30,9 +30,9 @@ cheaper_new (Some known) item = of_test (nat_lt item.cost known.cost) refl
     of_test true e = omega arith
     of_test false e = grind (arith, nat_tests)
 
-cheaper_old : (best : Option Item) (item : Item) → item.cost ≤ limit → (cheaper_item best item).cost ≤ item_cost_or best
-cheaper_old None item small = omega (arith, small)
-cheaper_old (Some known) item small = of_test (nat_lt item.cost known.cost) refl
+cheaper_old : (best : Option Item) (item : Item) (n : ℕ) → n ≤ (cheaper_item best item).cost → AtMost n best
+cheaper_old None item n le = tt
+cheaper_old (Some known) item n le = let old = of_test (nat_lt item.cost known.cost) refl in omega (arith, le, old)
   where
     of_test : (b : Bool) → nat_lt item.cost known.cost ≡ b → (if b then item else known).cost ≤ known.cost
     of_test true e = grind (arith, nat_tests)
@@ -55,8 +55,8 @@ module _ (space : Space) (s table : ℕ) where
   pub record Chosen (best : Option Item) (items : List Item) : Type 0 where
     pub found : IsFound best
     pub each : AllByRecursion (IsPathItem space s table) items
-    pub least : (n : ℕ) → n ≤ item_cost_or best → AllByRecursion (λ (item : Item). n ≤ item.cost) items
-        → (path : Path) → table_of path ≡ table → IsPath space s path → (n ≤ space.path_cost s path) × (space.path_cost s path ≤ limit)
+    pub least : (n : ℕ) → AtMost n best → AllByRecursion (λ (item : Item). n ≤ item.cost) items
+        → (path : Path) → table_of path ≡ table → IsPath space s path → n ≤ space.path_cost s path
 
   pub chosen_begin : (items : List Item) → AreItems space s table items → Chosen None items
   chosen_begin items are = record {
@@ -68,11 +68,10 @@ module _ (space : Space) (s table : ℕ) where
       each : AllByRecursion (IsPathItem space s table) items
       each = each_path space s table items are
 
-      of_item : (n : ℕ) (path : Path) → (item : Item) × (IsPathItem space s table item × (n ≤ item.cost)) × (item.path ≡ path) → (n ≤ space.path_cost s path) × (space.path_cost s path ≤ limit)
+      of_item : (n : ℕ) (path : Path) → (item : Item) × (IsPathItem space s table item × (n ≤ item.cost)) × (item.path ≡ path) → n ≤ space.path_cost s path
       of_item n path (item, (right, le), is) =
           let c : item.cost ≡ space.path_cost s path = rw is at right.0.cost in
-          let small = right.0.small in
-          (omega (arith, le, c), omega (arith, small, c))
+          omega (arith, le, c)
 
   pub chosen_go : (best : Option Item) (items rest : List Item) (item new : Item) → items ≡ item ∷ rest → new ≡ cheaper_item best item → Chosen best items → Chosen (Some new) rest
   chosen_go best items rest item new is cheaper chosen = subst (λ (x : Item). Chosen (Some x) rest) (sym cheaper) (go (subst (Chosen best) is chosen))
@@ -81,15 +80,15 @@ module _ (space : Space) (s table : ℕ) where
       go c = record {
         found = cheaper_found best item c.found c.each.0;
         each = c.each.1;
-        least = λ n le all. c.least n (omega (arith, le, cheaper_old best item c.each.0.0.small)) (omega (arith, le, cheaper_new best item), all);
+        least = λ n le all. c.least n (cheaper_old best item n le) (omega (arith, le, cheaper_new best item), all);
       }
 
   pub chosen_end : (best : Option Item) (items : List Item) → items ≡ [] → Chosen best items → IsCheapestPath space s table best
   chosen_end best items is chosen = end best (subst (Chosen best) is chosen)
     where
       end : (b : Option Item) → Chosen b [] → IsCheapestPath space s table b
-      end None c = λ path at there. let h = c.least (limit + 1) (omega arith) tt path at there in let more = h.0 in let small = h.1 in absurd (omega (arith, more, small))
-      end (Some item) c = (c.found.0, c.found.1, λ path at there. (c.least item.cost (omega arith) tt path at there).0)
+      end None c = λ path at there. let more = c.least (space.path_cost s path + 1) tt tt path at there in absurd (omega (arith, more))
+      end (Some item) c = (c.found.0, c.found.1, λ path at there. c.least item.cost (omega arith) tt path at there)
 
   contains_some : (xs : List Path) (x : Path) → Contains xs x → 1 ≤ length xs
   contains_some [] x there = absurd (not_in_empty x there)

@@ -8,12 +8,19 @@ use Rattle.definitions.specs.Plans.Plan.{Inner}
 use Rattle.definitions.specs.Plans.Space.{Space}
 use Rattle.definitions.specs.Plans.Cost.{limit}
 use Rattle.plan_space.specs.Merge.{Merge as CostedMerge, AreMerges}
+use Rattle.plan_tree.specs.declared.cost.Cost.{Cost}
+use Rattle.join_dp.specs.Costs.{unknown}
 use Rattle.join_dp.specs.Counting.{AreCounts, most_joins}
 use Rattle.join_dp.specs.Joining.{CanJoin, join_cost, IsJoin, GoesWith, IsAdded}
 use Rattle.join_dp.specs.Steps.{Join, Loop, Merge, table_in}
 use Rattle.join_dp.specs.Views.{Added, added_of}
 use Rattle.join_dp.specs.declared.join_lists.Places.{Places}
 use Rattle.join_dp.specs.declared.join_lists.JoinLists.{JoinLists}
+
+-- what a join adds that is known, above every cost where there is none
+abbrev pub known_cost : Option Cost → ℕ
+known_cost None = unknown
+known_cost (Some cost) = cost.number
 
 abbrev pub added_at : List Added → ℕ → Added
 added_at joins place = get_or joins place (record { table = 0; join = Loop (SegmentScan 0); cost = 0 })

@@ -18,7 +18,7 @@ step_of (step.Access path) = spec.AccessOf (path_of path.now)
 step_of (step.Join from join) = spec.JoinOn from (join_of join)
 
 abbrev pub candidate_of : Candidate → spec.Candidate
-candidate_of c = record { step = step_of c.step; sorted = c.sorted; cost = c.cost }
+candidate_of c = record { step = step_of c.step; sorted = c.sorted; cost = c.cost.number }
 
 -- a join with a table, and what it adds to the cost of a plan
 pub record Added : Type 0 where
@@ -27,4 +27,4 @@ pub record Added : Type 0 where
   pub cost : ℕ
 
 abbrev pub added_of : AddedJoin → Added
-added_of a = record { table = a.table; join = join_of a.join; cost = a.cost }
+added_of a = record { table = a.table; join = join_of a.join; cost = a.cost.number }

@@ -30,7 +30,7 @@ fn cheaper<'a>(best: Option<CostedPath<'a>>, item: CostedPath<'a>) -> CostedPath
     ensures { item_of result ≡ cheaper_item (option_map item_of best.entry) (item_of item.entry) }
 {
     match best {
-        Some(best) if best.cost <= item.cost => best,
+        Some(best) if best.cost.number <= item.cost.number => best,
         _ => item,
     }
 }

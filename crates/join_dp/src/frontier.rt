@@ -3,6 +3,7 @@
 ghost use Rattle.std.specs.Prelude.{◌≡◌, ◌+◌, [], length, IfSome, IfNone, OnOk};
 ghost use Rattle.join_dp.specs.Waiting.{IsPut, IsTaken};
 
+use plan_tree::Cost;
 use std::alloc::{AllocError, Global};
 use std::cmp::Reverse;
 use std::collections::BinaryHeap;
@@ -38,11 +39,11 @@ impl Frontier {
     }
 
     /// Puts a state in.
-    pub fn push(&mut self, cost: u64, place: usize) -> Result<(), AllocError>
-        ensures put { OnOk result (IsPut self.old (cost, place) self.new) }
+    pub fn push(&mut self, cost: Cost, place: usize) -> Result<(), AllocError>
+        ensures put { OnOk result (IsPut self.old (cost.number, place) self.new) }
         ensures more { OnOk result (length self.new ≡ length self.old + 1) }
     {
-        self.heap.push((Reverse(cost), place))?;
+        self.heap.push((Reverse(cost.number), place))?;
         Ok(())
     }
 

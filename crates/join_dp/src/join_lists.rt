@@ -1,11 +1,12 @@
 //! The joins on top of the plans of each set of tables.
 
 ghost use Rattle.std.specs.Prelude.{ℕ, ◌≡◌, ◌≢◌, ◌<◌, ◌≤◌, ◌^◌, None, IfOk, length, get_or, map};
+ghost use Rattle.std.specs.Bool.{Decides};
 ghost use Rattle.definitions.specs.Limits.{most_from_tables};
 ghost use Rattle.definitions.specs.Plans.Path.{Path};
 ghost use Rattle.definitions.specs.Plans.PlanSpace.{MayFollow};
 ghost use Rattle.plan_tree.specs.Sets.{set_of};
-ghost use Rattle.join_dp.specs.JoinLists.{AreJoinsWith, AreLoops, AreMergesBelow, AreLists, IsLonger, Stand};
+ghost use Rattle.join_dp.specs.JoinLists.{AreJoinsWith, AreLoops, AreMergesBelow, AreLists, IsLonger, Stand, known_cost};
 ghost use Rattle.join_dp.specs.Joining.{join_cost, IsJoin};
 ghost use Rattle.join_dp.specs.Steps as steps;
 ghost use Rattle.join_dp.specs.Views.{added_of};
@@ -15,7 +16,7 @@ ghost use Rattle.plan_space.specs.Relation.{IsRelation};
 use crate::cheapest_path::cheapest_path;
 use crate::step::{AddedJoin, Join};
 use plan_space::{JoinRelation, Space, loop_cost};
-use plan_tree::TableSet;
+use plan_tree::{Cost, TableSet};
 use std::alloc::{AllocError, Global};
 
 /// Where the joins on top of the plans of a set stand.
@@ -101,23 +102,23 @@ fn push_last<'a>(
     push_merges(space, outer, table, known, joins)
 }
 
-/// Lists the loop over a table that costs least, and tells what it adds to the cost of a plan. The other loops go with the same plans and
-/// add no less.
+/// Lists the loop over a table that costs least, and tells what it adds to the cost of a plan, if there is one. The other loops go with the
+/// same plans and add no less.
 fn push_loop<'a>(
     space: &'a Space<'_>,
     outer: &JoinRelation<'_>,
     table: usize,
     joins: &mut Vec<AddedJoin<'a>>,
-) -> Result<u64, AllocError>
+) -> Result<Option<Cost>, AllocError>
     requires outer { IsRelation (space_in space.now) outer.now }
     requires follows { MayFollow (space_in space.now) (set_of outer.now.tables) table }
     ensures longer { IfOk result (λ _. IsLonger (map added_of joins.old.items) (map added_of joins.new.items)) }
     ensures loops { IfOk result (λ known. AreLoops (space_in space.now) (map added_of joins.new.items)
         (set_of outer.now.tables)
-        (length joins.old.items) (length joins.new.items) table known) }
+        (length joins.old.items) (length joins.new.items) table (known_cost known)) }
 {
     let Some(item) = cheapest_path(space, outer.tables, table) else {
-        return Ok(u64::MAX);
+        return Ok(None);
     };
     let cost = loop_cost(outer.rows, item.cost);
     joins.push(AddedJoin {
@@ -125,15 +126,15 @@ fn push_loop<'a>(
         join: Join::Loop { path: item.path },
         cost,
     })?;
-    Ok(cost)
+    Ok(Some(cost))
 }
 
-/// Lists the merges with a table that add less to the cost of a plan than a join that goes with all plans.
+/// Lists the merges with a table that add less to the cost of a plan than a join that goes with all plans, if one is known.
 fn push_merges<'a>(
     space: &'a Space<'_>,
     outer: &JoinRelation<'_>,
     table: usize,
-    known: u64,
+    known: Option<Cost>,
     joins: &mut Vec<AddedJoin<'a>>,
 ) -> Result<(), AllocError>
     requires outer { IsRelation (space_in space.now) outer.now }
@@ -141,10 +142,10 @@ fn push_merges<'a>(
     ensures longer { IfOk result (λ _. IsLonger (map added_of joins.old.items) (map added_of joins.new.items)) }
     ensures merges { IfOk result (λ _. AreMergesBelow (space_in space.now) (map added_of joins.new.items)
         (set_of outer.now.tables)
-        (length joins.old.items) (length joins.new.items) table known) }
+        (length joins.old.items) (length joins.new.items) table (known_cost known)) }
 {
     'merges: for item in space.merges(outer, table) {
-        if item.cost < known {
+        if adds_less(item.cost, known) {
             joins.push(AddedJoin {
                 table,
                 join: Join::Merge {
@@ -157,4 +158,14 @@ fn push_merges<'a>(
         }
     }
     Ok(())
+}
+
+/// Whether a join that adds so much adds less than one that is known, if there is one.
+fn adds_less(cost: Cost, known: Option<Cost>) -> bool
+    ensures { Decides result (cost.number < known_cost known) }
+{
+    match known {
+        Some(known) => cost.number < known.number,
+        None => true,
+    }
 }

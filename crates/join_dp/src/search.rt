@@ -53,7 +53,7 @@ pub fn optimise(alloc: Global, space: &Space<'_>) -> Result<(Plan, Certificate, 
         IfOk result (λ r. r.2.steps ≤ most_steps (space_in space.now) sorts joins) }
 {
     let (states, place) = settle_states(alloc, space)?;
-    let target = states.at(place).found.cost;
+    let target = states.at(place).found.cost.number;
     let settled = settled_states(alloc, space, &states.costs)?;
     let plan = plan_at(alloc, &states, place)?;
     let certificate = certificate(alloc, &settled, target)?;

@@ -5,10 +5,10 @@ ghost use Rattle.plan_tree.specs.Sets.{set_of};
 ghost use Rattle.join_dp.specs.Costs.{unknown, IsFoundAt, IsSettledAt};
 ghost use Rattle.join_dp.specs.Slots.{AreRows, AreSame};
 
-use plan_tree::TableSet;
+use plan_tree::{Cost, TableSet};
 use std::alloc::{AllocError, Global};
 
-/// The least cost of a state that was found so far, and whether it is settled.
+/// The least cost of a state that was found so far, `u64::MAX` where none is found, and whether it is settled.
 #[derive(Clone, Copy)]
 pub(crate) struct Slot {
     cost: u64,
@@ -78,13 +78,13 @@ impl StateCosts {
     }
 
     /// Keeps the cost of a state that is found.
-    pub fn find(&mut self, tables: TableSet, order: usize, cost: u64) -> Result<(), AllocError>
+    pub fn find(&mut self, tables: TableSet, order: usize, cost: Cost) -> Result<(), AllocError>
         requires set { set_of tables < (costs_of self.old).sets }
         requires order { order < (costs_of self.old).orders }
-        ensures { IfOk result (λ _. IsFoundAt (set_of tables) order cost (costs_of self.old) (costs_of self.new)) }
+        ensures { IfOk result (λ _. IsFoundAt (set_of tables) order cost.number (costs_of self.old) (costs_of self.new)) }
     {
         let start = row(&mut self.rows, &mut self.slots, self.orders, tables)?;
-        self.slots[start + order].cost = cost;
+        self.slots[start + order].cost = cost.number;
         Ok(())
     }
 

@@ -76,11 +76,11 @@ impl<'a> States<'a> {
             (set_of tables) order (candidate_of found.entry) → IsOpen space level (search_of self.new)) }
         ensures more { IfOk result (λ _. (space : Space) (level : ℕ) → IsOffer space level (search_of self.old)
             (set_of tables) order (candidate_of found.entry) → AreMore (search_of self.old) (search_of self.new)) }
-        ensures here { IfOk result (λ _. cost_at (search_of self.new) (set_of tables) order ≤ found.entry.cost) }
+        ensures here { IfOk result (λ _. cost_at (search_of self.new) (set_of tables) order ≤ found.entry.cost.number) }
         ensures steps { IfOk result (λ _. self.new.steps ≤ self.old.steps + 1) }
     {
         self.steps = self.steps.saturating_add(1);
-        if found.cost < self.costs.cost(tables, order) {
+        if found.cost.number < self.costs.cost(tables, order) {
             self.costs.find(tables, order, found.cost)?;
             self.frontier.push(found.cost, self.plans.len())?;
             self.plans.push(StatePlan {

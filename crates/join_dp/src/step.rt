@@ -1,6 +1,6 @@
 //! The last step of a plan, and candidates for the least plan of a state.
 
-use plan_tree::Path;
+use plan_tree::{Cost, Path};
 
 /// A join with one more table: a path of it, or a merge by a conjunct with a path of it, whose rows may have to be sorted.
 #[derive(Clone, Copy)]
@@ -27,7 +27,7 @@ pub(crate) enum Step<'a> {
 pub(crate) struct Candidate<'a> {
     pub step: Step<'a>,
     pub sorted: Option<usize>,
-    pub cost: u64,
+    pub cost: Cost,
 }
 
 /// A join of a set of tables with one more, and what it adds to the cost of a plan.
@@ -35,5 +35,5 @@ pub(crate) struct Candidate<'a> {
 pub(crate) struct AddedJoin<'a> {
     pub table: usize,
     pub join: Join<'a>,
-    pub cost: u64,
+    pub cost: Cost,
 }

@@ -22,7 +22,7 @@ use crate::join_lists::{JoinLists, Places};
 use crate::states::{StatePlan, States};
 use crate::step::{AddedJoin, Candidate, Join, Step};
 use plan_space::{JoinRelation, Space};
-use plan_tree::saturating_sum;
+use plan_tree::Cost;
 use std::alloc::AllocError;
 
 /// Takes the steps from the state at a place.
@@ -121,13 +121,13 @@ fn take_sorts<'a>(
 }
 
 /// What a state's plan costs when it is sorted. One that is sorted already is sorted into another order in place of that one.
-fn sorted_cost(space: &Space<'_>, state: StatePlan<'_>) -> u64
+fn sorted_cost(space: &Space<'_>, state: StatePlan<'_>) -> Cost
     requires { set_of state.tables < 2 ^ (space_in space.now).table_count }
-    ensures { result ≡ cost_sorted (space_in space.now) (state_plan_of state.entry) }
+    ensures { result.number ≡ cost_sorted (space_in space.now) (state_plan_of state.entry) }
 {
     match state.found.sorted {
         Some(_) => state.found.cost,
-        None => saturating_sum(state.found.cost, space.sort_cost(state.tables)),
+        None => state.found.cost.plus(space.sort_cost(state.tables)),
     }
 }
 
@@ -173,7 +173,7 @@ fn take_join<'a>(
     requires place { place < length (states_in states.old) }
     requires is_open { IsOpen (space_in space.now) (at (states_in states.old) place).found.cost (search_of states.old) }
     requires added { IsAdded (space_in space.now) (at (states_in states.old) place).tables added.table (join_of added.join)
-        added.cost }
+        added.cost.number }
     ensures is_open { IfOk result (λ _. IsOpen (space_in space.now) (at (states_in states.old) place).found.cost
         (search_of states.new)) }
     ensures more { IfOk result (λ _. AreMore (search_of states.old) (search_of states.new)) }
@@ -192,7 +192,7 @@ fn take_join<'a>(
             join: added.join,
         },
         sorted: None,
-        cost: saturating_sum(state.found.cost, added.cost),
+        cost: state.found.cost.plus(added.cost),
     };
     states.offer(tables, space.fold(tables, state.order), found)
 }

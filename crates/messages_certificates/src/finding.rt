@@ -99,16 +99,23 @@ fn refusal(
 ) -> Option<Found> {
     match told {
         Told::Passes => None,
-        Told::Faulty(TextFault::Form { at, expected }) => Some(form_found(refused, at, expected)),
-        Told::Faulty(TextFault::Missing(missing)) => Some(missing_found(refused, missing)),
-        Told::Faulty(TextFault::States(bad)) => Some(state_found(alloc, refused, bad)),
-        Told::Faulty(TextFault::Memory) => Some(plain(told)),
+        Told::Faulty(fault) => Some(fault_found(refused, fault)),
         Told::Fails { place, .. } => {
             match rule_found(alloc, database, query, refused, place) {
                 Some(found) => Some(found),
                 None => Some(plain(told)),
             }
         }
+    }
+}
+
+/// Where and why a text spells no plan and certificate.
+fn fault_found(refused: Refused<'_>, fault: TextFault) -> Found {
+    match fault {
+        TextFault::Form { at, expected } => form_found(refused, at, expected),
+        TextFault::Missing(missing) => missing_found(refused, missing),
+        TextFault::States(bad) => state_found(refused.text, bad),
+        TextFault::Memory => plain(Told::Faulty(fault)),
     }
 }
 

@@ -4,11 +4,9 @@ use crate::finding::{Found, Refused};
 use crate::numbers::offset_of_missing;
 use crate::places::{Spot, offset_of};
 use crate::reason::{Lack, Reason};
-use crate::spelling::StateName;
+use crate::spelling::state_name;
 use certificate::BlockSpace;
-use certificate_files::{BadState, Missing, TextFault, Told};
-use certificate_syntax::{Written, WrittenState, written_in};
-use std::alloc::Global;
+use certificate_files::{BadState, Missing};
 
 /// A number that isn't there, and how many are.
 pub(crate) fn missing_found(refused: Refused<'_>, missing: Missing) -> Found {
@@ -39,46 +37,24 @@ fn count_of(own: &BlockSpace<'_>, missing: Missing) -> Option<usize> {
 }
 
 /// A state that can't stand where it does.
-pub(crate) fn state_found(alloc: Global, refused: Refused<'_>, bad: BadState) -> Found {
-    let reason = match written_in(alloc, refused.version, refused.text) {
-        Ok(written) => bad_state(&written, bad),
-        Err(_) => None,
+pub(crate) fn state_found(text: &[u8], bad: BadState) -> Found {
+    let (spot, reason) = match bad {
+        BadState::NotBehind { place, before, own } => (
+            Spot::StateTables(place),
+            Reason::Unordered {
+                before: state_name(before.tables, before.order),
+                state: state_name(own.tables, own.order),
+            },
+        ),
+        BadState::NotBelow {
+            place,
+            cost,
+            target,
+        } => (Spot::StateCost(place), Reason::Great { cost, target }),
     };
     Found {
-        at: offset_of(refused.text, spot_of_state(bad)),
-        reason: reason.unwrap_or(Reason::Plain(Told::Faulty(TextFault::States(bad)))),
+        at: offset_of(text, spot),
+        reason,
         named: None,
-    }
-}
-
-fn spot_of_state(bad: BadState) -> Spot {
-    match bad {
-        BadState::NotBehind { state } => Spot::StateTables(state),
-        BadState::NotBelow { state } => Spot::StateCost(state),
-    }
-}
-
-/// The same with its numbers, if they are there.
-fn bad_state(written: &Written, bad: BadState) -> Option<Reason> {
-    match bad {
-        BadState::NotBehind { state } => {
-            let before = written.states.get(state.checked_sub(1)?)?;
-            let state = written.states.get(state)?;
-            Some(Reason::Unordered {
-                before: name_of(before),
-                state: name_of(state),
-            })
-        }
-        BadState::NotBelow { state } => Some(Reason::Great {
-            cost: written.states.get(state)?.cost,
-            target: written.target,
-        }),
-    }
-}
-
-fn name_of(state: &WrittenState) -> StateName {
-    StateName {
-        tables: state.tables,
-        order: state.order,
     }
 }

@@ -29,7 +29,7 @@ pub(crate) fn low_step(
             None => None,
         },
         to: state_name(failing.to.tables, failing.to.order),
-        cost: failing.cost,
+        cost: failing.cost.number,
         bound: failing.bound,
         target,
     })

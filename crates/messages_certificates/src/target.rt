@@ -72,7 +72,7 @@ fn plan_fault(naming: Naming<'_, '_>, own: &BlockSpace<'_>, spelled: &Spelled) -
         };
     }
     PlanFault::Cost {
-        cost: measured.cost,
+        cost: measured.cost.number,
         target: spelled.certificate.target,
     }
 }

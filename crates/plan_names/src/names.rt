@@ -10,7 +10,7 @@ use catalog::{Database, Table};
 use cert_check::PlanStep;
 use parse_tree::{Select, Source};
 use plan_tree::{Path, Plan, SortKey, TableSet};
-use query_tree::{Aggregate, Block, BlockColumn, Condition, ValueExpr};
+use query_tree::{Aggregate, Block, BlockColumn, Condition, ValueExpr, push_conjuncts};
 use std::alloc::{AllocError, Global};
 
 /// What is written for a name that isn't there.
@@ -212,22 +212,6 @@ impl<'a> BlockNames<'a> {
             names: self,
             number,
         }
-    }
-}
-
-/// Adds the conjuncts of a condition, in text order.
-fn push_conjuncts<'a>(
-    conjuncts: &mut Vec<&'a Condition>,
-    condition: &'a Condition,
-) -> Result<(), AllocError> {
-    match condition {
-        Condition::And(parts) => {
-            for part in parts {
-                push_conjuncts(conjuncts, part)?;
-            }
-            Ok(())
-        }
-        other => conjuncts.extend_from_slice(&[other]),
     }
 }
 

@@ -59,7 +59,7 @@ module _ (space : Space) (clause : MergeClause) (is : IsWay space clause.table c
   exact sorted cost e =
       ap₂ (λ (c s : ℕ). let all : FoundMerge = record { conjunct = clause.conjunct; other = clause.other; inner = inner sorted; cost = c; selectivity = s } in all) e is.3
 
-  sorted_cost : saturated (item.cost + clause.sort_cost) ≡ inner_cost space (inner true)
+  sorted_cost : saturated (item.cost + clause.sort_cost.number) ≡ inner_cost space (inner true)
   sorted_cost = ap₂ (λ (a b : ℕ). saturated (a + b)) right.cost (is.4 ∙ ap (λ t. space.sort_cost (only t)) (sym right.reads))
 
   is_found : (sorted : Bool) (cost : ℕ) → cost ≡ inner_cost space (inner sorted) → IsInner space column (inner sorted) → IsFound space clause.table (listed sorted cost)
@@ -92,13 +92,13 @@ module _ (space : Space) (clause : MergeClause) (is : IsWay space clause.table c
       )
 
   abbrev pub with_sort : FoundMerge
-  with_sort = listed true (saturated (item.cost + clause.sort_cost))
+  with_sort = listed true (saturated (item.cost + clause.sort_cost.number))
 
   abbrev pub as_it_is : FoundMerge
   as_it_is = listed false item.cost
 
   sort_found : IsFound space clause.table with_sort
-  sort_found = is_found true (saturated (item.cost + clause.sort_cost)) sorted_cost (path, inl refl)
+  sort_found = is_found true (saturated (item.cost + clause.sort_cost.number)) sorted_cost (path, inl refl)
 
   abbrev Has' : List FoundMerge → Bool → Type 0
   Has' new sorted = Contains new (found space clause.conjunct clause.other (inner sorted))
@@ -142,7 +142,7 @@ module _ (space : Space) (clause : MergeClause) (is : IsWay space clause.table c
   added_both old x there = by_place (added_one (old ++ with_sort ∷ []) false item.cost x there)
     where
       by_place : Contains (old ++ with_sort ∷ []) x ⊎ IsOfPath x → Contains old x ⊎ IsOfPath x
-      by_place (inl h) = added_one old true (saturated (item.cost + clause.sort_cost)) x h
+      by_place (inl h) = added_one old true (saturated (item.cost + clause.sort_cost.number)) x h
       by_place (inr of_path) = inr of_path
 
   -- and none is added twice
@@ -163,9 +163,9 @@ module _ (space : Space) (clause : MergeClause) (is : IsWay space clause.table c
   pub adds_sorted : (old : List FoundMerge) → (GoesBy space (only clause.table) item.order clause.conjunct clause.other → ⊥) → AddsPath space clause.table clause.conjunct item.path old (old ++ with_sort ∷ [])
   adds_sorted old never = record {
     grown = grown space clause.table old with_sort sort_found;
-    there = there (old ++ with_sort ∷ []) (subst (λ (x : FoundMerge). Contains (old ++ with_sort ∷ []) x) (exact true (saturated (item.cost + clause.sort_cost)) sorted_cost) (last_there old with_sort))
+    there = there (old ++ with_sort ∷ []) (subst (λ (x : FoundMerge). Contains (old ++ with_sort ∷ []) x) (exact true (saturated (item.cost + clause.sort_cost.number)) sorted_cost) (last_there old with_sort))
         (λ by'. absurd (never by'));
-    added = added_one old true (saturated (item.cost + clause.sort_cost));
+    added = added_one old true (saturated (item.cost + clause.sort_cost.number));
     distinct = sort_distinct old;
   }
 
@@ -183,7 +183,7 @@ module _ (space : Space) (clause : MergeClause) (is : IsWay space clause.table c
       }
     where
       adds_with : (old : List FoundMerge) → Has' (old ++ with_sort ∷ []) true
-      adds_with old = subst (λ (x : FoundMerge). Contains (old ++ with_sort ∷ []) x) (exact true (saturated (item.cost + clause.sort_cost)) sorted_cost) (last_there old with_sort)
+      adds_with old = subst (λ (x : FoundMerge). Contains (old ++ with_sort ∷ []) x) (exact true (saturated (item.cost + clause.sort_cost.number)) sorted_cost) (last_there old with_sort)
 
 -- what is pushed comes last
 pub pushed : (xs new : List MergeJoinPath) (y : MergeJoinPath) (x : FoundMerge) → new ≡ xs ++ y ∷ [] → found_merge_of y ≡ x → map found_merge_of new ≡ map found_merge_of xs ++ x ∷ []

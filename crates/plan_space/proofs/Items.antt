@@ -1,5 +1,5 @@
 -- The open paths with their orders and costs.
-use Rattle.std.proofs.Common.{◌≡◌, ◌≢◌, ◌∙◌, refl, sym, ap, subst, ℕ, ◌<◌, ◌≤◌, List, [], ◌∷◌, Bool, true, false, cond, length, get_or, map, arith, lit≤}
+use Rattle.std.proofs.Common.{◌≡◌, ◌≢◌, ◌∙◌, refl, sym, ap, subst, ℕ, ◌<◌, List, [], ◌∷◌, Bool, true, false, cond, length, get_or, map, arith}
 use Rattle.std.specs.Prelude.{AllPairs, Contains, filter}
 use Rattle.std.specs.List.{AllByRecursion}
 use Rattle.std.proofs.lemmas.List.{get_or-map, length-map}
@@ -7,7 +7,6 @@ use Rattle.definitions.specs.Table.{Database}
 use Rattle.definitions.specs.Plans.TableSet.{TableSet}
 use Rattle.definitions.specs.Plans.Path as p
 use Rattle.definitions.specs.Plans.Path.{Path, table_of}
-use Rattle.definitions.specs.Plans.Cost.{limit}
 use Rattle.definitions.specs.Queries.BoundBlock.{Block}
 use Rattle.definitions.specs.Estimates.BlockSpace.{space_of}
 use Rattle.definitions.specs.Estimates.Cardinality.{path_rows}
@@ -18,7 +17,7 @@ use Rattle.definitions.specs.Estimates.Version.{Version}
 use Rattle.definitions.proofs.PlanTheory.Elements.{first_is, later}
 use Rattle.definitions.proofs.EstimateTheory.PathOrders.{path_order_numbered}
 use Rattle.access_paths.specs.Found.{FoundPath, is_open, CostsAsPath, Reads}
-use Rattle.access_paths.specs.Scans.{ScanCost, OneRow, Pages, cost_with}
+use Rattle.access_paths.specs.Scans.{cost_with}
 use Rattle.plan_space.specs.Item.{Item, with_rows, open_items, IsItem, AreItems}
 use Rattle.plan_space.specs.PathListed.{AreListed}
 use Rattle.plan_space.proofs.PathsOnce.{paths_once}
@@ -29,10 +28,6 @@ differ f xs all i j d lt within same =
     let at_i : get_or (map f xs) i (f d) ≡ f (get_or xs i d) = get_or-map f xs i d (f d) (omega (arith, lt, within)) in
     let at_j : get_or (map f xs) j (f d) ≡ f (get_or xs j d) = get_or-map f xs j d (f d) within in
     all i j (f d) lt (subst (λ n. j < n) (sym (length-map xs f)) within) (at_i ∙ same ∙ sym at_j)
-
-cost_small : (c : ScanCost) (rows : ℕ) → cost_with c rows ≤ limit
-cost_small OneRow rows = lit≤ tt
-cost_small (Pages pages) rows = omega arith
 
 reads_table : (db : Database) (block : Block) (table : ℕ) (path : Path) → Reads db block table path → table_of path ≡ table
 reads_table db block table (p.SegmentScan read) reads = reads
@@ -82,7 +77,6 @@ module _ (version : Version) (db : Database) (block : Block) (table : ℕ) (know
                 order = order;
                 numbered = subst (λ n. n < length (space_of version db block).orders) (sym order) (numbered x.0.path here);
                 cost = ap (cost_with x.0.cost) is_rows ∙ cost known e;
-                small = cost_small x.0.cost rows;
               },
               rest (λ path there. among path (subst (λ (ys : List Path). Contains ys path) (sym more) (later x.0.path (opened xs) path there))),
             )

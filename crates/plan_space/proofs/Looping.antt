@@ -1,19 +1,16 @@
 -- Loops over the paths of a table.
-use Rattle.std.proofs.Common.{ℕ, ◌*◌, ◌≡◌, ◌≢◌, ◌∙◌, ◌<◌, ◌≤◌, List, [], ◌∷◌, length, map, sym, ap, subst, arith}
+use Rattle.std.proofs.Common.{ℕ, ◌*◌, ◌≡◌, ◌≢◌, ◌∙◌, ◌<◌, List, [], ◌∷◌, length, map, sym, ap, subst, arith}
 use Rattle.std.specs.Prelude.{AllPairs, Contains}
 use Rattle.std.specs.List.{AllByRecursion}
 use Rattle.std.proofs.lemmas.List.{get_or-map, length-map}
 use Rattle.definitions.specs.Plans.TableSet.{TableSet}
 use Rattle.definitions.specs.Plans.Path.{Path}
 use Rattle.definitions.specs.Plans.Space.{Space}
-use Rattle.definitions.specs.Plans.Cost.{limit, saturated, loop_cost}
+use Rattle.definitions.specs.Plans.Cost.{saturated, loop_cost}
 use Rattle.definitions.proofs.PlanTheory.Elements.{first_is, later}
 use Rattle.plan_space.specs.Item.{Item, AreItems}
 use Rattle.plan_space.specs.Loop.{LoopItem, with_scans, IsLoopItem, AreLoops}
 use Rattle.plan_space.proofs.PathItems.{IsPathItem, each_path, found_item}
-
-small : (n : ℕ) → saturated n ≤ limit
-small n = omega arith
 
 -- loops over items of different paths differ
 differ : (rows : ℕ) (items : List Item) → AllPairs (λ (a b : Item). a.path ≢ b.path) items → AllPairs (λ (a b : LoopItem). a.path ≢ b.path) (map (with_scans rows) items)
@@ -29,7 +26,7 @@ module _ (space : Space) (tables : TableSet) (table rows : ℕ) (is_rows : rows 
   cost_is item is = ap (λ n. saturated (n * item.cost)) is_rows ∙ ap (λ n. saturated (space.cardinality tables * n)) is.0.cost
 
   is_loop : (item : Item) → IsPathItem space tables table item → IsLoopItem space tables table (with_scans rows item)
-  is_loop item is = record { reads = is.0.reads; is_path = is.1; cost = cost_is item is; small = small (rows * item.cost) }
+  is_loop item is = record { reads = is.0.reads; is_path = is.1; cost = cost_is item is }
 
   each_loop : (items : List Item) → AllByRecursion (IsPathItem space tables table) items → AllByRecursion (IsLoopItem space tables table) (map (with_scans rows) items)
   each_loop [] all = tt

@@ -3,7 +3,7 @@ use Prim.Native.Nat.{zero}
 use Rattle.std.proofs.Common.{suc, ◌≡◌, ◌≢◌, ◌∙◌, refl, sym, ap, subst, ℕ, ◌+◌, ◌*◌, ◌⊎◌, inl, inr, List, [], ◌∷◌, Bool, true, false, cond, arith}
 use Rattle.std.specs.Prelude.{All, AllPairs, Contains, slice_get}
 use Rattle.std.specs.List.{AllByRecursion}
-use Rattle.std.proofs.lemmas.Bool.Decides.{Decides-eqb, nat_tests}
+use Rattle.std.proofs.lemmas.Bool.Decides.{Decides-eqb}
 use Rattle.std.proofs.lemmas.List.Elements.{All-from_recursion, recursion_from_All}
 use Rattle.std.proofs.lemmas.List.Kept.{AllPairs-cons}
 use Rattle.std.specs.Int.{bit_at}
@@ -82,7 +82,6 @@ module _ (space : Space) (tables : TableSet) (table pairs : ℕ) (are : pairs �
   right x is open' = record {
     is_merge = (is.reads, (is.merges.0, is.merges.1, is.merges.2.0, subst (Has tables) (sym is.merges.3) (has_it tables x.other open'), is.merges.2.1, is.merges.4));
     cost = ap (λ (y : FoundMerge). (with_pairs pairs y).cost) is.exact ∙ cost_is x.conjunct x.other x.inner is.reads;
-    small = grind (arith, nat_tests);
   }
 
   each : (xs : List FoundMerge) → AllByRecursion (IsFound space table) xs → AllByRecursion (IsMergeItem space tables table) (open_merges tables pairs xs)

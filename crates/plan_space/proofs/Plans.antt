@@ -126,7 +126,7 @@ module _ (space : Space) where
   no_access path none (access p lt is) = none lt is
 
   pub an_access : (path : Path) (item : Item) (m : PlanSummary) → IsPathFound space no_tables path (Some item) → table_of path < space.table_count
-      → set_of m.tables ≡ only (table_of path) → m.order ≡ item.order → m.cost ≡ item.cost → IsMeasured space (Access path) m
+      → set_of m.tables ≡ only (table_of path) → m.order ≡ item.order → m.cost.number ≡ item.cost → IsMeasured space (Access path) m
   an_access path item m found lt tables order cost = record {
     is_plan = access path lt found.1;
     tables = sym tables;
@@ -144,7 +144,7 @@ module _ (space : Space) where
 
     pub a_loop : (path : Path) (item : LoopItem) (m : PlanSummary) → MayFollow space (set_of outer.tables) (table_of path) → IsLoopFound space (set_of outer.tables) path (Some item)
         → set_of m.tables ≡ with_table (set_of outer.tables) (table_of path) → m.order ≡ outer.order
-        → m.cost ≡ saturated (outer.cost + item.cost) → with_table (set_of outer.tables) (table_of path) < 2 ^ space.table_count
+        → m.cost.number ≡ saturated (outer.cost.number + item.cost) → with_table (set_of outer.tables) (table_of path) < 2 ^ space.table_count
         → IsMeasured space (Loop plan path) m
     a_loop path item m follows found tables order cost inside = record {
       is_plan = loop plan path is.is_plan (subst (λ s. MayFollow space s (table_of path)) (sym is.tables) follows, subst (λ s. IsPath space s path) (sym is.tables) there);
@@ -179,7 +179,7 @@ module _ (space : Space) where
 
     pub a_merge : (number : ℕ) (inner : Inner) (item : m.Merge) (m : PlanSummary) → MayFollow space (set_of outer.tables) (table_of inner.path)
         → GoesBy space (set_of outer.tables) outer.order number (table_of inner.path) → IsMergeFound space (set_of outer.tables) number inner (Some item)
-        → set_of m.tables ≡ with_table (set_of outer.tables) (table_of inner.path) → m.order ≡ outer.order → m.cost ≡ saturated (outer.cost + item.cost)
+        → set_of m.tables ≡ with_table (set_of outer.tables) (table_of inner.path) → m.order ≡ outer.order → m.cost.number ≡ saturated (outer.cost.number + item.cost)
         → with_table (set_of outer.tables) (table_of inner.path) < 2 ^ space.table_count → IsMeasured space (Merge plan number inner) m
     a_merge number inner item m follows goes found tables order cost inside = record {
       is_plan = merge plan number inner is.is_plan can;
@@ -211,7 +211,7 @@ module _ (space : Space) where
     no_sort order never (sort p o is' can) = never (subst (λ s. CanSort space s order) is.tables can)
 
     pub a_sort : (order : OrderNumber) (m : PlanSummary) → CanSort space (set_of outer.tables) order → set_of m.tables ≡ set_of outer.tables → m.order ≡ order
-        → m.cost ≡ saturated (outer.cost + space.sort_cost (set_of outer.tables)) → IsMeasured space (Sort plan order) m
+        → m.cost.number ≡ saturated (outer.cost.number + space.sort_cost (set_of outer.tables)) → IsMeasured space (Sort plan order) m
     a_sort order m can tables is_order cost = record {
       is_plan = sort plan order is.is_plan (subst (λ s. CanSort space s order) (sym is.tables) can);
       tables = is.tables ∙ sym tables;

@@ -2,7 +2,7 @@
 use Rattle.std.specs.Prelude.{◌≡◌, ◌<◌, ◌≤◌, length}
 use Rattle.definitions.specs.Limits.{most_from_tables}
 use Rattle.query_tree.specs.Bound.{block_of}
-use Rattle.interesting_orders.specs.Versions.{version_of}
+use Rattle.plan_tree.specs.Versions.{version_of}
 use Rattle.plan_space.specs.PathLists as block_paths
 use Rattle.plan_space.specs.MergeLists as block_merges
 use Rattle.interesting_orders.specs.Uses as order_uses

@@ -1,9 +1,8 @@
 -- The paths of a table where the rows of a set of tables are known, with their orders and costs.
-use Rattle.std.specs.Prelude.{ℕ, ◌<◌, ◌≤◌, ◌≡◌, ◌≢◌, if◌then◌else◌, List, [], ◌∷◌, AllPairs, length, map}
+use Rattle.std.specs.Prelude.{ℕ, ◌<◌, ◌≡◌, ◌≢◌, if◌then◌else◌, List, [], ◌∷◌, AllPairs, length, map}
 use Rattle.std.specs.List.{AllByRecursion}
 use Rattle.definitions.specs.Plans.TableSet.{TableSet}
 use Rattle.definitions.specs.Plans.Path.{Path, table_of}
-use Rattle.definitions.specs.Plans.Cost.{limit}
 use Rattle.definitions.specs.Plans.Space.{Space}
 use Rattle.access_paths.specs.Found.{FoundPath, is_open}
 use Rattle.access_paths.specs.Scans.{cost_with}
@@ -30,7 +29,6 @@ module _ (space : Space) (known : TableSet) (table : ℕ) where
     pub order : item.order ≡ space.path_order item.path
     pub numbered : item.order < length space.orders
     pub cost : item.cost ≡ space.path_cost known item.path
-    pub small : item.cost ≤ limit
 
   -- the paths of the table, in order
   pub record AreItems (items : List Item) : Type 0 where

@@ -4,4 +4,4 @@ use Rattle.plan_space.specs.Item.{Item}
 use Rattle.plan_space.specs.declared.paths.CostedPath.{CostedPath}
 
 abbrev pub item_of : CostedPath → Item
-item_of item = record { path = path_of item.path.now; order = item.order; cost = item.cost }
+item_of item = record { path = path_of item.path.now; order = item.order; cost = item.cost.number }

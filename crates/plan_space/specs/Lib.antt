@@ -1,5 +1,6 @@
 pub use Rattle.definitions.specs.Plans.PlanSpace
 pub use Rattle.definitions.specs.Estimates
+pub use Rattle.estimate.specs.Parts
 pub use Rattle.definitions.specs.Plans.Cost
 pub use Rattle.definitions.specs.Plans.Search
 pub mod InterestingOrders

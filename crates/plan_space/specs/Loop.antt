@@ -1,11 +1,11 @@
 -- The loops that bring a table on top of plans on a set of tables, with what they add to the plans' costs.
-use Rattle.std.specs.Prelude.{ℕ, ◌*◌, ◌≤◌, ◌≡◌, ◌≢◌, List, AllPairs, Contains}
+use Rattle.std.specs.Prelude.{ℕ, ◌*◌, ◌≡◌, ◌≢◌, List, AllPairs, Contains}
 use Rattle.std.specs.List.{AllByRecursion}
 use Rattle.definitions.specs.Plans.TableSet.{TableSet}
 use Rattle.definitions.specs.Plans.Path.{Path, table_of}
 use Rattle.definitions.specs.Plans.Space.{Space}
 use Rattle.definitions.specs.Plans.PlanSpace.{IsPath}
-use Rattle.definitions.specs.Plans.Cost.{limit, saturated, loop_cost}
+use Rattle.definitions.specs.Plans.Cost.{saturated, loop_cost}
 use Rattle.plan_space.specs.Item.{Item}
 
 -- a path and what the loop over it adds to the cost of the outer plan
@@ -23,7 +23,6 @@ module _ (space : Space) where
     pub reads : table_of item.path ≡ table
     pub is_path : IsPath space tables item.path
     pub cost : item.cost ≡ loop_cost space tables item.path
-    pub small : item.cost ≤ limit
 
   -- all loops over a table, each once and with its cost
   pub record AreLoops (tables : TableSet) (table : ℕ) (items : List LoopItem) : Type 0 where

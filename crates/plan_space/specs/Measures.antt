@@ -18,7 +18,7 @@ module _ (space : Space) where
     pub is_plan : IsPlan space plan
     pub tables : tables_of space plan ≡ set_of m.tables
     pub order : order_of space plan ≡ m.order
-    pub cost : cost_of space plan ≡ m.cost
+    pub cost : cost_of space plan ≡ m.cost.number
     pub inside : set_of m.tables < 2 ^ space.table_count
 
   -- or no plan of the block

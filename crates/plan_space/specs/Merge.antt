@@ -1,5 +1,5 @@
 -- The merges that bring a table on top of plans on a set of tables, with what they add to the plans' costs.
-use Rattle.std.specs.Prelude.{ℕ, ◌+◌, ◌≤◌, ◌≡◌, ◌≢◌, ◌⊎◌, if◌then◌else◌, List, [], ◌∷◌, AllPairs, Contains, slice_get}
+use Rattle.std.specs.Prelude.{ℕ, ◌+◌, ◌≡◌, ◌≢◌, ◌⊎◌, if◌then◌else◌, List, [], ◌∷◌, AllPairs, Contains, slice_get}
 use Rattle.std.specs.List.{AllByRecursion}
 use Rattle.definitions.specs.Plans.TableSet.{TableSet, Has, no_tables}
 use Rattle.definitions.specs.Plans.Order.{BlockColumn}
@@ -7,7 +7,7 @@ use Rattle.definitions.specs.Plans.Path.{Path, table_of}
 use Rattle.definitions.specs.Plans.Plan.{Inner}
 use Rattle.definitions.specs.Plans.Space.{Space}
 use Rattle.definitions.specs.Plans.PlanSpace.{IsMergeConjunct, IsInner}
-use Rattle.definitions.specs.Plans.Cost.{limit, saturated, share, selectivity_of, inner_cost, merge_cost}
+use Rattle.definitions.specs.Plans.Cost.{saturated, share, selectivity_of, inner_cost, merge_cost}
 use Rattle.definitions.specs.Estimates.BlockTables.{has}
 
 -- a conjunct, an inner side and what the merge adds to the cost of the outer plan
@@ -50,7 +50,6 @@ module _ (space : Space) where
   pub record IsMergeItem (tables : TableSet) (table : ℕ) (item : Merge) : Type 0 where
     pub is_merge : IsMerge tables table item.conjunct item.inner
     pub cost : item.cost ≡ merge_cost space tables item.conjunct item.inner
-    pub small : item.cost ≤ limit
 
   -- all merges that bring a table, each once and with its cost
   pub record AreMerges (tables : TableSet) (table : ℕ) (items : List Merge) : Type 0 where

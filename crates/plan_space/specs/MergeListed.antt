@@ -20,7 +20,7 @@ found_merge_of x =
       other = x.other;
       inner = record { path = path_of x.path; sorted = x.sorted };
       cost =
-          x.cost;
+          x.cost.number;
       selectivity = x.selectivity;
     }
 
@@ -31,7 +31,7 @@ module _ (space : Space) where
   IsWay table number (Some clause) = (clause.table ≡ table) × (clause.conjunct ≡ number)
       × ((x : BlockColumn) × (y : BlockColumn) × MergesBy space table number x y × (x.table ≡ clause.other))
       × (clause.selectivity ≡ selectivity_of (slice_get space.conjuncts number))
-      × (clause.sort_cost ≡ space.sort_cost (only table))
+      × (clause.sort_cost.number ≡ space.sort_cost (only table))
 
   -- each is one that brings the table, those of all conjuncts are there, and none twice
   pub record AreMergesOf (table : ℕ) (xs : List FoundMerge) : Type 0 where

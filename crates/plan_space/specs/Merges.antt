@@ -9,5 +9,5 @@ merge_of item =
       conjunct = item.conjunct;
       inner = record { path = path_of item.path.now; sorted = item.sorted };
       cost =
-          item.cost;
+          item.cost.number;
     }

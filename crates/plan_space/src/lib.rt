@@ -18,7 +18,8 @@ mod space;
 mod summarising;
 
 pub use block_plan::BlockPlan;
-pub use interesting_orders::{Sorts, Version};
+pub use estimate::Conjunct;
+pub use interesting_orders::Sorts;
 pub use join_relation::JoinRelation;
 pub use loop_joins::{CostedLoop, Loops, loop_cost};
 pub use merge_joins::{CostedMerge, Merges};
@@ -27,5 +28,5 @@ pub use notes::{PlanNote, PlanNoteKind};
 pub use path_lists::BlockPaths;
 pub use paths::{CostedPath, Paths};
 pub use plan_summary::PlanSummary;
-pub use plan_tree::{Inner, Path, Plan, SortKey, TableSet};
+pub use plan_tree::{Inner, Path, Plan, SortKey, TableSet, Version};
 pub use space::Space;

@@ -4,7 +4,7 @@ ghost use Rattle.std.specs.Prelude.{◌<◌, ◌≤◌};
 ghost use Rattle.definitions.specs.Estimates.Fractions.{million};
 ghost use Rattle.definitions.specs.Limits.{most_from_tables};
 
-use plan_tree::Path;
+use plan_tree::{Cost, Path};
 
 /// A merge that may bring a table.
 #[derive(Drop)]
@@ -15,7 +15,7 @@ pub(crate) struct MergeJoinPath {
     pub path: Path,
     pub sorted: bool,
     /// What one scan of the path costs, and the sort of its rows if there is one.
-    pub cost: u64,
+    pub cost: Cost,
     /// The share of pairs of rows that the conjunct is taken to leave, in millionths.
     pub selectivity: u32,
     pub ghost part: { selectivity ≤ million },
@@ -29,7 +29,7 @@ pub(crate) struct MergeClause {
     pub other: usize,
     pub selectivity: u32,
     /// What a sort of the table's rows costs.
-    pub sort_cost: u64,
+    pub sort_cost: Cost,
     pub ghost part: { selectivity ≤ million },
     pub ghost within: { table < most_from_tables },
 }

@@ -5,7 +5,7 @@ ghost use Rattle.definitions.specs.Plans.Cost.{saturated};
 ghost use Rattle.plan_space.specs.Loop.{with_scans};
 
 use crate::paths::Paths;
-use plan_tree::{Path, saturating_product};
+use plan_tree::{Cost, Path};
 use std::marker::Model;
 
 /// A loop over a path of one more table, and what it adds to the cost of the outer plan: a scan of the path for each outer row
@@ -13,7 +13,7 @@ use std::marker::Model;
 #[derive(Clone, Copy)]
 pub struct CostedLoop<'a> {
     pub path: &'a Path,
-    pub cost: u64,
+    pub cost: Cost,
 }
 
 /// The loops over a table that are still to come, on top of plans on a set of tables. It takes no memory.
@@ -65,8 +65,8 @@ impl<'a> Iterator for Loops<'a> {
 }
 
 /// What a loop adds to the cost of the outer plan: a scan of the path, which costs so much, for each outer row (Selinger et al. 1979, section 5).
-pub fn loop_cost(outer_rows: u64, path_cost: u64) -> u64
-    ensures { result ≡ saturated (outer_rows * path_cost) }
+pub fn loop_cost(outer_rows: u64, path_cost: Cost) -> Cost
+    ensures { result.number ≡ saturated (outer_rows * path_cost.number) }
 {
-    saturating_product(outer_rows, path_cost)
+    path_cost.times(outer_rows)
 }

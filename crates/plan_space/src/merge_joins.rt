@@ -7,7 +7,7 @@ ghost use Rattle.plan_space.specs.Merge.{open_merges, with_pairs};
 
 use crate::listed::MergeJoinPath;
 use estimate::share;
-use plan_tree::{Path, TableSet, saturating_sum};
+use plan_tree::{Cost, Path, TableSet};
 use std::marker::Model;
 
 /// A merge with one more table: its conjunct, the path of its inner side and whether the rows of that are sorted, and what it adds
@@ -17,7 +17,7 @@ pub struct CostedMerge<'a> {
     pub conjunct: usize,
     pub path: &'a Path,
     pub sorted: bool,
-    pub cost: u64,
+    pub cost: Cost,
 }
 
 /// The merges with a table that are still to come, on top of plans on a set of tables. It takes no memory.
@@ -83,8 +83,9 @@ impl<'a> Iterator for Merges<'a> {
 
 /// What a merge adds to the cost of the outer plan: what its inner side costs, and the pairs of rows that its conjunct is taken to
 /// leave.
-fn cost(merge: &MergeJoinPath, pairs: u64) -> u64
-    ensures { result ≡ (with_pairs pairs (found_merge_of merge.now)).cost }
+fn cost(merge: &MergeJoinPath, pairs: u64) -> Cost
+    ensures { result.number ≡ (with_pairs pairs (found_merge_of merge.now)).cost }
 {
-    saturating_sum(merge.cost, share(pairs, merge.selectivity))
+    let pairs_left = Cost::of(u128::from(share(pairs, merge.selectivity)));
+    merge.cost.plus(pairs_left)
 }

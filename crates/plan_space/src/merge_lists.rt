@@ -25,7 +25,7 @@ use crate::path_lists::BlockPaths;
 use crate::paths::{CostedPath, Paths};
 use estimate::Estimate;
 use interesting_orders::{EquivalenceClasses, InterestingOrders};
-use plan_tree::{Path, TableSet, saturating_sum};
+use plan_tree::{Cost, Path, TableSet};
 use std::alloc::{AllocError, Global};
 
 /// The merges that may bring each table of a block, on top of plans on any set of tables.
@@ -111,13 +111,13 @@ fn merge_way(
     uses: &InterestingOrders,
     table: usize,
     conjunct: usize,
-    sort_cost: u64,
+    sort_cost: Cost,
 ) -> Option<MergeClause>
     requires table { table < most_from_tables }
     requires conjunct { conjunct < length (plans.plan_conjuncts estimate.now.database (block_of estimate.now.block)) }
     ensures table { IfSome result (λ clause. clause.table ≡ table) }
     ensures exact { (space : Space) → space.conjuncts ≡ plans.plan_conjuncts estimate.now.database
-        (block_of estimate.now.block) → AreUses space uses.now → sort_cost ≡ space.sort_cost (only table) →
+        (block_of estimate.now.block) → AreUses space uses.now → sort_cost.number ≡ space.sort_cost (only table) →
         IsWay space table conjunct result }
 {
     let other = uses.merged_with(conjunct, table)?;
@@ -166,7 +166,7 @@ fn add_path(
         OnOk result (AddsPath space clause.table clause.conjunct (path_of item.entry.path.now)
         (map found_merge_of merges.old.items) (map found_merge_of merges.new.items)) }
 {
-    let sorted = saturating_sum(item.cost, clause.sort_cost);
+    let sorted = item.cost.plus(clause.sort_cost);
     merges.push(merge_path(clause, item.path, true, sorted)?)?;
     let alone = TableSet::only(clause.table);
     if uses.goes_by(classes, alone, item.order, clause.conjunct, clause.other) {
@@ -180,7 +180,7 @@ fn merge_path(
     clause: MergeClause,
     path: &Path,
     sorted: bool,
-    cost: u64,
+    cost: Cost,
 ) -> Result<MergeJoinPath, AllocError>
     ensures { IfOk result (λ merge. found_merge_of merge ≡
         record {
@@ -188,7 +188,7 @@ fn merge_path(
           other = clause.other;
           inner =
               record { path = path_of path.now; sorted = sorted };
-          cost = cost;
+          cost = cost.number;
           selectivity = clause.selectivity;
         }) }
 {

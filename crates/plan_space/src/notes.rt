@@ -5,7 +5,7 @@ ghost use Rattle.query_tree.specs.Bound.{block_of};
 
 use catalog::Table;
 use estimate::{Estimate, PlanConjunct};
-use plan_tree::{LIMIT, TableSet};
+use plan_tree::{Cost, LIMIT, TableSet};
 use std::alloc::{AllocError, Global};
 
 /// Something to know of the figures that the plans of a block rest on (own). Blocks, the tables of a FROM and the indexes of a table
@@ -49,9 +49,9 @@ pub(crate) fn add_notes(
     notes: &mut Vec<PlanNote>,
     block: usize,
     estimate: &Estimate,
-    least: u64,
+    least: Cost,
 ) -> Result<(), AllocError> {
-    if least >= LIMIT {
+    if least.number >= LIMIT {
         let kind = PlanNoteKind::CostLimit;
         notes.push(PlanNote { block, kind })?;
     }

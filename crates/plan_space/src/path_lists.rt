@@ -10,15 +10,15 @@ ghost use Rattle.query_tree.specs.Bound.{block_of};
 ghost use Rattle.plan_tree.specs.Plans.{path_of};
 ghost use Rattle.plan_tree.specs.Sets.{set_of};
 ghost use Rattle.access_paths.specs.Found.{FoundPath, found_path_of, Reads};
-ghost use Rattle.interesting_orders.specs.Versions.{version_of};
+ghost use Rattle.plan_tree.specs.Versions.{version_of};
 ghost use Rattle.plan_space.specs.PathListed.{AreListed, listed_path_of, with_number};
 ghost use Rattle.plan_space.specs.Item.{AreItems};
 
 use crate::paths::Paths;
 use access_paths::{ScanCost, TablePath, table_paths};
 use estimate::Estimate;
-use interesting_orders::{SortOrders, Version, known_indexes};
-use plan_tree::{Path, TableSet};
+use interesting_orders::{SortOrders, known_indexes};
+use plan_tree::{Path, TableSet, Version};
 use std::alloc::{AllocError, Global};
 
 /// A path of a table with the number of its order.

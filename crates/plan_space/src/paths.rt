@@ -6,7 +6,7 @@ ghost use Rattle.plan_space.specs.PathListed.{listed_path_of};
 ghost use Rattle.plan_space.specs.Item.{open_items};
 
 use crate::path_lists::NumberedPath;
-use plan_tree::{Path, TableSet};
+use plan_tree::{Cost, Path, TableSet};
 use std::marker::Model;
 
 /// A path, the number of the order in which it gives its rows, and what one scan of it costs.
@@ -14,7 +14,7 @@ use std::marker::Model;
 pub struct CostedPath<'a> {
     pub path: &'a Path,
     pub order: usize,
-    pub cost: u64,
+    pub cost: Cost,
 }
 
 /// The paths of a table that are still to come, where the rows of a set of tables are known. It takes no memory.

@@ -13,7 +13,7 @@ ghost use Rattle.definitions.specs.Plans.TableSet.{only};
 ghost use Rattle.query_tree.specs.Bound.{block_of};
 ghost use Rattle.plan_tree.specs.Plans.{order_of, orders_in, plan_of};
 ghost use Rattle.plan_tree.specs.Sets.{set_of};
-ghost use Rattle.interesting_orders.specs.Versions.{version_of};
+ghost use Rattle.plan_tree.specs.Versions.{version_of};
 ghost use Rattle.interesting_orders.specs.Sorts.{AreSorts};
 ghost use Rattle.plan_space.specs.Item.{AreItems};
 ghost use Rattle.plan_space.specs.Loop.{AreLoops};
@@ -34,8 +34,8 @@ use crate::paths::Paths;
 use crate::plan_summary::PlanSummary;
 use crate::summarising::summarise;
 use estimate::Estimate;
-use interesting_orders::{InterestingOrders, SortOrders, Sorts, Version, required_order};
-use plan_tree::{Plan, SortKey, TableSet, saturating_product};
+use interesting_orders::{InterestingOrders, SortOrders, Sorts, required_order};
+use plan_tree::{Cost, Plan, SortKey, TableSet, Version, saturating_product};
 use std::alloc::{AllocError, Global};
 use std::marker::Model;
 
@@ -168,8 +168,8 @@ impl<'a> Space<'a> {
         self.paths.paths(&self.estimate, known, table)
     }
 
-    /// The loops over a table on top of plans on a set of tables, each with what it adds to a plan's cost, at most 10^18 (Selinger et
-    /// al. 1979, section 5). It looks at each path of the table as it comes to it.
+    /// The loops over a table on top of plans on a set of tables, each with what it adds to a plan's cost (Selinger et al. 1979,
+    /// section 5). It looks at each path of the table as it comes to it.
     pub fn loops(&self, outer: &JoinRelation<'_>, table: usize) -> Loops<'_>
         requires outer { IsRelation (space_in self.now) outer.now }
         requires table { table < (space_in self.now).table_count }
@@ -257,16 +257,15 @@ impl<'a> Space<'a> {
     }
 
     /// What a sort of the rows of a set of tables costs. It looks at each conjunct for each of the tables.
-    pub fn sort_cost(&self, tables: TableSet) -> u64
-        ensures exact { result ≡ (space_in self.now).sort_cost (set_of tables) }
-        ensures below { result ≤ limit }
+    pub fn sort_cost(&self, tables: TableSet) -> Cost
+        ensures { result.number ≡ (space_in self.now).sort_cost (set_of tables) }
     {
         self.estimate.sort_cost(tables)
     }
 
     /// Adds what a reader should know of the figures that the block's plans rest on, where the block has this number and its least plan
     /// costs so much (own). Where memory runs out, the rest is left out: a note never costs an answer.
-    pub fn add_notes(&self, alloc: Global, notes: &mut Vec<PlanNote>, block: usize, least: u64) {
+    pub fn add_notes(&self, alloc: Global, notes: &mut Vec<PlanNote>, block: usize, least: Cost) {
         let _ = add_notes(alloc, notes, block, &self.estimate, least);
     }
 
@@ -288,11 +287,10 @@ impl<'a> Space<'a> {
         }
     }
 
-    /// What a plan of the space costs, at most 10^18.
-    pub fn cost(&self, plan: &Plan) -> u64
+    /// What a plan of the space costs.
+    pub fn cost(&self, plan: &Plan) -> Cost
         requires { InSpace (space_in self.now) (plan_of plan.now) }
-        ensures exact { result ≡ cost_of (space_in self.now) (plan_of plan.now) }
-        ensures below { result ≤ limit }
+        ensures { result.number ≡ cost_of (space_in self.now) (plan_of plan.now) }
     {
         match summarise(self, plan) {
             Some(found) => found.cost,

@@ -22,7 +22,7 @@ use crate::paths::CostedPath;
 use crate::plan_summary::PlanSummary;
 use crate::same::are_one;
 use crate::space::Space;
-use plan_tree::{Inner, Path, Plan, TableSet, saturating_sum};
+use plan_tree::{Inner, Path, Plan, TableSet};
 
 /// What a plan comes to, if it is one of the block.
 pub(crate) fn summarise(space: &Space, plan: &Plan) -> Option<PlanSummary>
@@ -65,7 +65,7 @@ fn loop_summary(space: &Space, outer: PlanSummary, path: &Path) -> Option<PlanSu
     Some(PlanSummary {
         tables: outer.tables.with(path.table()),
         order: outer.order,
-        cost: saturating_sum(outer.cost, item.cost),
+        cost: outer.cost.plus(item.cost),
     })
 }
 
@@ -91,7 +91,7 @@ fn merge_summary(
     Some(PlanSummary {
         tables: outer.tables.with(table),
         order: outer.order,
-        cost: saturating_sum(outer.cost, item.cost),
+        cost: outer.cost.plus(item.cost),
     })
 }
 
@@ -107,7 +107,7 @@ fn sort_summary(space: &Space, input: PlanSummary, order: usize) -> Option<PlanS
     Some(PlanSummary {
         tables: input.tables,
         order,
-        cost: saturating_sum(input.cost, sort_cost),
+        cost: input.cost.plus(sort_cost),
     })
 }
 

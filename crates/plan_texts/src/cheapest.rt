@@ -12,8 +12,8 @@ pub(crate) fn cheapest_access<'s>(space: &'s Space<'_>, wanted: &WantedAccess) -
     let mut found = None;
     let mut least = u64::MAX;
     for item in space.paths(TableSet::none(), wanted.table) {
-        if item.cost < least && wanted.fits(item.path) {
-            least = item.cost;
+        if item.cost.number < least && wanted.fits(item.path) {
+            least = item.cost.number;
             found = Some(item.path);
         }
     }
@@ -33,8 +33,8 @@ pub(crate) fn cheapest_loop<'s>(
     let mut found = None;
     let mut least = u64::MAX;
     for item in space.loops(&relation, wanted.table) {
-        if item.cost < least && wanted.fits(item.path) {
-            least = item.cost;
+        if item.cost.number < least && wanted.fits(item.path) {
+            least = item.cost.number;
             found = Some(item.path);
         }
     }
@@ -81,8 +81,8 @@ pub(crate) fn cheapest_merge<'s>(
             Some(order) => relation.goes_by(order, item.conjunct, table),
             None => true,
         };
-        if goes_by && item.cost < least && wanted.fits(item) {
-            least = item.cost;
+        if goes_by && item.cost.number < least && wanted.fits(item) {
+            least = item.cost.number;
             found = Some(item);
         }
     }

@@ -5,3 +5,4 @@ pub mod Sets
 pub mod Plans
 pub mod Preceding
 pub mod Certificates
+pub mod Versions

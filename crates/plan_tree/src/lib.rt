@@ -8,11 +8,13 @@ mod path;
 mod plan;
 mod states;
 mod table_set;
+mod version;
 
-pub use cost::{LIMIT, saturate, saturating_product, saturating_sum};
+pub use cost::{Cost, LIMIT, saturate, saturating_product, saturating_sum};
 pub use order::SortKey;
 pub use path::{MAX_MATCHED, Path};
 pub use plan::{Inner, Plan};
 pub use query_tree::BlockColumn;
 pub use states::{Certificate, State};
 pub use table_set::{MAX_FROM_TABLES, TableSet};
+pub use version::Version;

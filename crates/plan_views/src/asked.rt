@@ -1,7 +1,7 @@
 //! How often a block is asked by the block around it.
 
 use plan_pages::Part;
-use planned_queries::{BlockView, is_correlated};
+use planned_queries::BlockView;
 use std::alloc::{AllocError, Global};
 
 /// How often a block is asked by estimate, and what that would come to; none of the outermost.
@@ -10,7 +10,7 @@ pub(crate) fn asked_line(alloc: Global, block: &BlockView<'_>) -> Result<Option<
         return Ok(None);
     };
     let (own, around) = (block.shown_number(), asker.number.saturating_add(1));
-    let text = if is_correlated(block.block) {
+    let text = if asker.asks_for_each {
         let (rows, each) = (asker.rows, block.certificate().target);
         let whole = u128::from(rows).saturating_mul(u128::from(each));
         format!(in alloc;

@@ -69,7 +69,7 @@ fn price(alloc: Global, priced: &Priced, block: &BlockView<'_>) -> Result<Option
 }
 
 fn cost_of(space: &Space<'_>, plan: &Plan) -> Option<u64> {
-    Some(space.summary(plan)?.cost)
+    Some(space.summary(plan)?.cost.number)
 }
 
 fn step_outlines(alloc: Global, block: &BlockView<'_>) -> Result<Vec<StepOutline>, AllocError> {

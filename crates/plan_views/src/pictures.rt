@@ -137,7 +137,7 @@ fn label_of(alloc: Global, kept: &KeptComparison) -> Result<String, AllocError> 
         Some(from) => from.cost,
         None => 0,
     };
-    let (own, above) = (kept.cost.saturating_sub(before), kept.above());
+    let (own, above) = (kept.cost.number.saturating_sub(before), kept.above());
     if above == 0 {
         format!(in alloc; "{word} +{own}")
     } else {

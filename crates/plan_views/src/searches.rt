@@ -176,7 +176,7 @@ pub(crate) fn comparison_table(
         let cells = [
             Cell::Text(step),
             Cell::Text(to),
-            Cell::Number(kept.cost),
+            Cell::Number(kept.cost.number),
             Cell::Number(kept.bound),
             Cell::Number(kept.above()),
         ];

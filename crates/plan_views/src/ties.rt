@@ -63,7 +63,11 @@ fn add_tie(
     let orders = block.space().orders();
     let to = block.names.state(orders, kept.to.tables, kept.to.order);
     let to = format!(in alloc; "{to}")?;
-    let cells = [Cell::Text(step), Cell::Text(to), Cell::Number(kept.cost)];
+    let cells = [
+        Cell::Text(step),
+        Cell::Text(to),
+        Cell::Number(kept.cost.number),
+    ];
     add_row(alloc, rows, 0, false, cells)
 }
 

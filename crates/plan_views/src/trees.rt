@@ -30,7 +30,7 @@ pub(crate) fn plan_table(
     )?;
     let steps = PlanSteps::of(alloc, block.space(), plan)?;
     let whole = match steps.shown(0) {
-        Some(last) => last.summary.cost,
+        Some(last) => last.summary.cost.number,
         None => 0,
     };
     for place in 0..steps.len() {
@@ -57,7 +57,7 @@ fn add_step(
         Cell::Number(block.estimate.cardinality(shown.summary.tables)),
         Cell::Number(block.estimate.pages(shown.summary.tables)),
         Cell::Number(shown.own),
-        Cell::Number(shown.summary.cost),
+        Cell::Number(shown.summary.cost.number),
         number_cell(percentage(shown.own, whole)),
     ];
     add_row(alloc, rows, depth, false, cells)
@@ -102,7 +102,7 @@ pub(crate) fn sum_line(
         }
     }
     let whole = match steps.shown(0) {
-        Some(last) => last.summary.cost,
+        Some(last) => last.summary.cost.number,
         None => 0,
     };
     text.push_str(&format!(in alloc; " = {whole}")?)?;

@@ -107,7 +107,11 @@ impl<'p> Losses<'p> {
         let mut lost = Vec::new(alloc);
         for place in 0..steps.len() {
             let so_far = match steps.shown(place) {
-                Some(shown) => shown.summary.cost.saturating_sub(bound_of(block, &shown)),
+                Some(shown) => shown
+                    .summary
+                    .cost
+                    .number
+                    .saturating_sub(bound_of(block, &shown)),
                 None => 0,
             };
             lost.push(so_far)?;
@@ -160,7 +164,7 @@ fn loss_table(
             let cells = [
                 Cell::Text(step),
                 Cell::Number(shown.own),
-                Cell::Number(shown.summary.cost),
+                Cell::Number(shown.summary.cost.number),
                 Cell::Number(bound_of(block, &shown)),
                 Cell::Number(losses.lost_so_far(place)),
             ];
@@ -187,7 +191,7 @@ fn lost_words(
         return format!(in alloc; "{whole} is lost.");
     };
     let step = step_words(alloc, block, &shown)?;
-    let (here, cost) = (losses.lost_at(worst), last.summary.cost);
+    let (here, cost) = (losses.lost_at(worst), last.summary.cost.number);
     if here < whole || shown.own < whole {
         return format!(in alloc;
             "It costs {cost}, {whole} too much. Most is lost by this step, {here}: {step}. No cost of it alone would make the plan tie."

@@ -11,7 +11,7 @@ use crate::listening::Ledger;
 use crate::views::Interest;
 use catalog::Database;
 use cert_check::{Space, Verdict, check};
-use estimate::Estimate;
+use estimate::{Estimate, conjuncts};
 use parse_tree::Select;
 use plan_texts::BlockNames;
 use plan_tree::{Certificate, Plan, TableSet};
@@ -63,7 +63,8 @@ impl<'a> BlockView<'a> {
         // boxed at once: what is large and owned is dropped at each exit behind it
         let names = BlockNames::new(alloc, database, query.tree, query.blocks, number)?;
         let names = Box::new(alloc, names)?;
-        let estimate = Estimate::new(alloc, database, block)?;
+        let conjuncts = conjuncts(alloc, block)?;
+        let estimate = Estimate::new(alloc, database, block, &conjuncts)?;
         let estimate = Box::new(alloc, estimate)?;
         let planned = PlannedBlock::new(alloc, database, block, number as u64)?;
         let passes = matches!(interest, Interest::Verdict) && passes(&planned);

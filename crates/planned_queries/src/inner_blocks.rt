@@ -1,119 +1,134 @@
 //! How often an inner block is asked.
 
-use query_tree::{Block, Condition, Item, Operand, ValueExpr};
+use query_tree::{Block, Operand, ValueExpr, push_blocks, push_tested, push_values};
+use std::alloc::{AllocError, Global};
 
-/// What is looked for in conditions and values.
-#[derive(Clone, Copy)]
-enum Sought {
-    /// The block of a number, from 0.
-    Block(usize),
-    /// A column of a block around.
-    Parameter,
-}
-
-/// The block whose conditions ask another, by its number.
-pub fn parent_of(blocks: &[Block], number: usize) -> Option<usize> {
+/// The block whose conditions ask another, by its number from 0. It fails where memory runs out.
+pub(crate) fn parent_of(
+    alloc: Global,
+    blocks: &[Block],
+    number: usize,
+) -> Result<Option<usize>, AllocError> {
     for (place, block) in blocks.iter().enumerate() {
-        if is_in_conditions(block, Sought::Block(number)) {
-            return Some(place);
+        let asked = asked_blocks(alloc, block, &conditions_values(alloc, block)?)?;
+        if asked.contains(&number) {
+            return Ok(Some(place));
         }
     }
-    None
+    Ok(None)
 }
 
-/// Whether a block names a column of a block around it.
-pub fn is_correlated(block: &Block) -> bool {
-    is_in_conditions(block, Sought::Parameter) || is_in_items(&block.items)
+/// A block, and how many blocks lie around it, up to the one that is looked at.
+#[derive(Clone, Copy)]
+struct Within {
+    number: usize,
+    depth: usize,
 }
 
-fn is_in_items(items: &[Item]) -> bool {
-    for item in items {
-        if is_in_value(&item.value, Sought::Parameter) {
-            return true;
+/// Whether a block, by its number from 0, or a block inside it names a column of a block around: then it is asked for each row of that one (own).
+/// It fails where memory runs out.
+pub(crate) fn is_correlated(
+    alloc: Global,
+    blocks: &[Block],
+    number: usize,
+) -> Result<bool, AllocError> {
+    let mut waiting = Vec::new(alloc);
+    waiting.push(Within { number, depth: 0 })?;
+    // each block is asked by one block, so that no more than all come
+    for _ in blocks {
+        let Some(next) = waiting.pop() else {
+            return Ok(false);
+        };
+        if names_around(alloc, blocks, next, &mut waiting)? {
+            return Ok(true);
         }
     }
-    false
+    Ok(false)
 }
 
-fn is_in_conditions(block: &Block, sought: Sought) -> bool {
-    is_in_optional(&block.condition, sought) || is_in_optional(&block.having, sought)
-}
-
-fn is_in_optional(condition: &Option<Condition>, sought: Sought) -> bool {
-    match condition {
-        Some(condition) => is_in_condition(condition, sought),
-        None => false,
+/// Whether a block names a column outside of all that lie around it. The blocks that it asks are put behind those that wait.
+fn names_around(
+    alloc: Global,
+    blocks: &[Block],
+    within: Within,
+    waiting: &mut Vec<Within>,
+) -> Result<bool, AllocError> {
+    let Some(block) = blocks.get(within.number) else {
+        return Ok(false);
+    };
+    let mut values = conditions_values(alloc, block)?;
+    for number in &asked_blocks(alloc, block, &values)? {
+        waiting.push(Within {
+            number: *number,
+            depth: within.depth.saturating_add(1),
+        })?;
     }
-}
-
-fn is_in_condition(condition: &Condition, sought: Sought) -> bool {
-    match condition {
-        Condition::Compare { left, right, .. } => {
-            is_in_value(left, sought) || is_in_value(right, sought)
-        }
-        Condition::Quantified { value, block, .. } | Condition::InQuery { value, block, .. } => {
-            is_block(*block, sought) || is_in_value(value, sought)
-        }
-        Condition::IsNull { value, .. } | Condition::Like { value, .. } => {
-            is_in_value(value, sought)
-        }
-        Condition::Between {
-            value,
-            low,
-            high,
-            ..
-        } => is_in_value(value, sought) || is_in_value(low, sought) || is_in_value(high, sought),
-        Condition::InList { value, members, .. } => {
-            is_in_value(value, sought) || is_in_members(members, sought)
-        }
-        Condition::Exists { block } => is_block(*block, sought),
-        Condition::Not(inner) => is_in_condition(inner, sought),
-        Condition::And(parts) | Condition::Or(parts) => {
-            for part in parts {
-                if is_in_condition(part, sought) {
-                    return true;
-                }
-            }
-            false
+    for item in &block.items {
+        values.push(&item.value)?;
+    }
+    for value in &values {
+        if is_of_around(value, within.depth) {
+            return Ok(true);
         }
     }
+    Ok(false)
 }
 
-fn is_block(number: usize, sought: Sought) -> bool {
-    matches!(sought, Sought::Block(wanted) if wanted == number)
-}
-
-fn is_in_members(members: &[Option<ValueExpr>], sought: Sought) -> bool {
-    for member in members {
-        if let Some(value) = member
-            && is_in_value(value, sought)
-        {
-            return true;
-        }
+/// The values that WHERE and HAVING of a block speak of.
+fn conditions_values<'a>(
+    alloc: Global,
+    block: &'a Block,
+) -> Result<Vec<&'a ValueExpr>, AllocError> {
+    let mut values = Vec::new(alloc);
+    if let Some(condition) = &block.condition {
+        push_values(&mut values, condition)?;
     }
-    false
+    if let Some(condition) = &block.having {
+        push_values(&mut values, condition)?;
+    }
+    Ok(values)
 }
 
+/// The blocks that WHERE and HAVING of a block ask, whose values are given.
+fn asked_blocks(
+    alloc: Global,
+    block: &Block,
+    values: &[&ValueExpr],
+) -> Result<Vec<usize>, AllocError> {
+    let mut asked = Vec::new(alloc);
+    if let Some(condition) = &block.condition {
+        push_tested(&mut asked, condition)?;
+    }
+    if let Some(condition) = &block.having {
+        push_tested(&mut asked, condition)?;
+    }
+    for value in values {
+        push_blocks(&mut asked, value)?;
+    }
+    Ok(asked)
+}
+
+/// Whether a value names a column outside of so many blocks around.
 #[cycle(values)]
-fn is_in_value(value: &ValueExpr, sought: Sought) -> bool {
+fn is_of_around(value: &ValueExpr, depth: usize) -> bool {
     match value {
-        ValueExpr::Parameter { .. } => matches!(sought, Sought::Parameter),
-        ValueExpr::Subquery { block, .. } => is_block(*block, sought),
-        ValueExpr::Signed { operand, .. } => is_in_value(operand, sought),
+        ValueExpr::Parameter { between, .. } => *between >= depth,
+        ValueExpr::Signed { operand, .. } => is_of_around(operand, depth),
         ValueExpr::Chain { first, others } => {
-            is_in_value(first, sought) || is_in_operands(others, sought)
+            is_of_around(first, depth) || are_of_around(others, depth)
         }
         ValueExpr::Column { .. }
         | ValueExpr::Number(_)
         | ValueExpr::Text(_)
-        | ValueExpr::AggregateValue { .. } => false,
+        | ValueExpr::AggregateValue { .. }
+        | ValueExpr::Subquery { .. } => false,
     }
 }
 
 #[cycle(values)]
-fn is_in_operands(operands: &[Operand], sought: Sought) -> bool {
+fn are_of_around(operands: &[Operand], depth: usize) -> bool {
     for operand in operands {
-        if is_in_value(&operand.value, sought) {
+        if is_of_around(&operand.value, depth) {
             return true;
         }
     }

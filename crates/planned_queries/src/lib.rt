@@ -18,7 +18,6 @@ pub use asked::Asker;
 pub use block_views::{BlockView, Query};
 pub use catalog::{IndexStatistics, KeyRange, TableStatistics};
 pub use cert_check::{KeptComparison, PlanStep, Space, StateKey};
-pub use inner_blocks::is_correlated;
 pub use listening::Ledger;
 pub use plan_texts::{PlanTextFault, outside, read_plan};
 pub use planning_script::{PlannedColumn, PlannedIndex, PlannedTable, PlanningScript};

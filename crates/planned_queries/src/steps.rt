@@ -74,14 +74,14 @@ impl<'p> PlanSteps<'p> {
             None => None,
         };
         let (outer, before) = match below {
-            Some(below) => (below.tables, below.cost),
+            Some(below) => (below.tables, below.cost.number),
             None => (TableSet::none(), 0),
         };
         Some(Shown {
             step: last_step(here.plan),
             summary,
             outer,
-            own: summary.cost.saturating_sub(before),
+            own: summary.cost.number.saturating_sub(before),
         })
     }
 }
@@ -93,7 +93,7 @@ fn scan_cost(space: &Space<'_>, known: TableSet, path: &Path) -> Option<u64> {
     }
     for item in space.paths(known, path.table()) {
         if is_same_path(item.path, path) {
-            return Some(item.cost);
+            return Some(item.cost.number);
         }
     }
     None

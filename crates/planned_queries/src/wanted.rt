@@ -71,7 +71,7 @@ impl Wanted {
 
 /// Whether a comparison costs at most so many hundredths more than its bound.
 fn is_within(comparison: &Comparison<'_>, percent: u64) -> bool {
-    let above = u128::from(comparison.cost.saturating_sub(comparison.bound));
+    let above = u128::from(comparison.cost.number.saturating_sub(comparison.bound));
     above.saturating_mul(100) <= u128::from(comparison.bound).saturating_mul(u128::from(percent))
 }
 

@@ -14,8 +14,8 @@ use Rattle.definitions.proofs.EstimateTheory.FormedSpaces.{formed_has_plans}
 use Rattle.query_tree.specs.Bound.{block_of}
 use Rattle.query_tree.specs.declared.block.Block.{Block}
 use Rattle.plan_tree.specs.Plans.{plan_of}
-use Rattle.plan_tree.specs.declared.plan.Plan.{Plan}
 use Rattle.plan_space.specs.BlockPlans.{IsLeastOf, AreLeastOf}
+use Rattle.plan_space.specs.Parts.{AreConjunctsOf}
 use Rattle.plan_space.specs.Planned.{Planned, space_in}
 use Rattle.plan_space.specs.declared.block_plan.BlockPlan.{BlockPlan}
 use Rattle.planner.proofs.Explained.{next, past}
@@ -34,9 +34,9 @@ unfolding space_in
 same_space p db block a b c =
     ap (λ x. space_of x p.database (block_of p.block)) a ∙ ap (λ x. space_of current_version x (block_of p.block)) b ∙ ap (λ x. space_of current_version db (block_of x)) c
 
-pub least_of : (p : Planned) (plan : Plan) (db : Database) (block : Block) → space_in p ≡ space_of current_version db (block_of block) → (certificate : Certificate) × IsCertified (space_in p) (plan_of plan) certificate
-    → IsLeastOf db (block_of block) (record { space = p; plan = plan })
-least_of p plan db block same (certificate, holds) = record { space = same; certified = (certificate, subst (λ s. IsCertified s (plan_of plan) certificate) same holds) }
+pub least_of : (p : BlockPlan) (db : Database) (block : Block) → AreConjunctsOf (block_of block) p.conjuncts.items → space_in p.space ≡ space_of current_version db (block_of block)
+    → (certificate : Certificate) × IsCertified (space_in p.space) (plan_of p.plan) certificate → IsLeastOf db (block_of block) p
+least_of p db block own same (certificate, holds) = record { conjuncts = own; space = same; certified = (certificate, subst (λ s. IsCertified s (plan_of p.plan) certificate) same holds) }
 
 -- ---- the blocks of a query, one after another
 

@@ -7,7 +7,7 @@ ghost use Rattle.query_tree.specs.Bound.{block_of};
 ghost use Rattle.plan_space.specs.BlockPlans.{AreLeastOf, IsLeastOf};
 
 use catalog::Database;
-use estimate::Estimate;
+use estimate::{Estimate, conjuncts};
 use join_dp::least_plan;
 use plan_space::{BlockPlan, PlanNote, Space, Version};
 use query_tree::Block;
@@ -40,10 +40,15 @@ fn block_plan<'a>(
     requires formed { IsFormedSomewhere database.now (block_of block.now) }
     ensures { IfOk result (IsLeastOf database.now (block_of block.now)) }
 {
-    let estimate = Estimate::new(alloc, database, block)?;
+    let conjuncts = conjuncts(alloc, block)?;
+    let estimate = Estimate::new(alloc, database, block, &conjuncts)?;
     let space = Space::new(alloc, estimate, Version::Three)?;
     let plan = least_plan(alloc, &space)?;
-    Ok(BlockPlan { space, plan })
+    Ok(BlockPlan {
+        conjuncts,
+        space,
+        plan,
+    })
 }
 
 /// What there is to know of the figures that the plans of a query rest on (own). Where memory runs out, the rest is left out.

@@ -15,7 +15,7 @@ use catalog::Database;
 use certificate::{BlockSpace, Version, write_text};
 use join_dp::optimise;
 use plan_space::PlanNote;
-use plan_tree::{Certificate, Plan};
+use plan_tree::{Certificate, Cost, Plan};
 use query_tree::Block;
 use std::alloc::{AllocError, Global};
 
@@ -66,8 +66,7 @@ impl<'a> PlannedBlock<'a> {
     /// note never costs an answer.
     pub fn add_notes(&self, alloc: Global, notes: &mut Vec<PlanNote>) {
         let number = self.own.number as usize;
-        self.own
-            .space
-            .add_notes(alloc, notes, number, self.certificate.target);
+        let least = Cost::of(u128::from(self.certificate.target));
+        self.own.space.add_notes(alloc, notes, number, least);
     }
 }

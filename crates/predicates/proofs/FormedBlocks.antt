@@ -1,5 +1,6 @@
 -- The condition of a formed block names few tables.
-use Rattle.std.proofs.Common.{ℕ, ◌<◌, ◌≤◌, List, [], ◌∷◌, ◌++◌, Option, Some, None, length, arith}
+use Rattle.std.proofs.Common.{◌≡◌, sym, subst, ℕ, zero, suc, ◌<◌, ◌≤◌, List, [], ◌∷◌, ◌++◌, Option, Some, None, length, get_or, arith}
+use Rattle.std.specs.Borrow.{Bor}
 use Rattle.std.specs.Prelude.{bit_or, IfSome}
 use Rattle.std.specs.List.{AllByRecursion}
 use Rattle.std.proofs.lemmas.Nat.{or_lt, pow_below}
@@ -12,6 +13,9 @@ use Rattle.definitions.specs.Plans.TableSet.{only}
 use Rattle.definitions.specs.Queries.BoundBlock.{ValueExpr, Column, Parameter, Numeral, String, Signed, Chain, AggregateValue, Subquery, Operands, NoOperand, Operand, Condition, Conditions, NoPart, Part, And, Block, Blocks}
 use Rattle.definitions.specs.Queries.Conjuncts.{conjuncts, conjuncts_of, conjuncts_of_option, conjuncts_of_parts, operands_tables, tables_in, tables_named, values_of, values_of_parts}
 use Rattle.definitions.specs.Binding.Formed.{HasColumn, IsFormedValue, AreFormedOperands, IsTypedValue, IfCondition, IsFormedBlock}
+use Rattle.query_tree.specs.Bound.{condition_of}
+use Rattle.query_tree.specs.Walks.{conditions_in}
+use Rattle.query_tree.specs.declared.condition.Condition.{Condition as Code}
 use Rattle.predicates.specs.Naming.{AreFew, NamesFew}
 use Rattle.predicates.proofs.Naming.{left_few, right_few, still_few, tables_of_both}
 
@@ -70,3 +74,9 @@ option_few (Some c) h = conjuncts_few c h
 
 pub formed_conjuncts_few : (db : Database) (blocks around : Blocks) (n : ℕ) (b : Block) → IsFormedBlock db blocks around n b → AllByRecursion NamesFew (conjuncts b)
 formed_conjuncts_few db blocks around n b f = option_few b.condition (formed_few db blocks around n b f)
+
+-- one of them, as code lends them
+pub few_at : (cs : List (Bor Code)) (i : ℕ) (x : Bor Code) → AllByRecursion NamesFew (conditions_in cs) → i < length cs → x ≡ get_or cs i x → NamesFew (condition_of x.now)
+few_at [] i x h l e = absurd (omega (arith, l))
+few_at (c ∷ cs) zero x h l e = subst (λ z. NamesFew (condition_of z.now)) (sym e) h.0
+few_at (c ∷ cs) (suc i) x h l e = few_at cs i x h.1 (omega (arith, l)) e

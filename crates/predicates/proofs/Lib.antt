@@ -1,4 +1,3 @@
 pub mod FormedBlocks
 pub mod Naming
-mod Splitting
 pub mod Saying

@@ -1,6 +1,7 @@
 -- The tables that parts name, one part after another.
-use Rattle.std.proofs.Common.{◌≡◌, ◌∙◌, refl, sym, ap, ap₂, subst, ℕ, zero, suc, ◌+◌, ◌<◌, ◌≤◌, ◌^◌, ◌⊎◌, inl, inr, List, [], ◌∷◌, ◌++◌, Option, Some, None, length, map, get_or, drop, arith}
+use Rattle.std.proofs.Common.{◌≡◌, ◌∙◌, refl, sym, ap, ap₂, subst, ℕ, zero, suc, ◌+◌, ◌<◌, ◌≤◌, ◌^◌, ◌⊎◌, inl, inr, List, [], ◌∷◌, ◌++◌, length, map, get_or, drop, arith}
 use Rattle.std.specs.Prelude.{bit_or}
+use Rattle.std.specs.Borrow.{Bor}
 use Rattle.std.specs.Int.Bits.{or_zero_r}
 use Rattle.std.proofs.lemmas.Bool.{cases_lt}
 use Rattle.std.proofs.lemmas.List.{drop_more}
@@ -8,14 +9,14 @@ use Rattle.std.proofs.lemmas.Nat.{le_or_l, le_or_r}
 use Rattle.std.proofs.lemmas.Nat.Bits.{bit_at_or, same_from_bits}
 use Rattle.std.proofs.Math.Nat.{pow-le-pow_right}
 use Rattle.definitions.specs.Plans.TableSet.{TableSet, only}
-use Rattle.definitions.specs.Queries.BoundBlock.{ValueExpr, Operand, Condition, Conditions}
-use Rattle.definitions.specs.Queries.Conjuncts.{values_of, values_of_parts, tables_named, operands_tables, tables_in, condition_tables, member_values}
-use Rattle.query_tree.specs.Bound.{condition_of, conditions, member_of, value_of, operand_of, operands, OperandTree}
-use Rattle.query_tree.specs.declared.condition.Condition.{Condition as Code}
+use Rattle.definitions.specs.Queries.BoundBlock.{ValueExpr, Operand}
+use Rattle.definitions.specs.Queries.Conjuncts.{tables_named, operands_tables, tables_in}
+use Rattle.query_tree.specs.Bound.{value_of, operand_of, operands, OperandTree}
+use Rattle.query_tree.specs.Walks.{trees_of}
 use Rattle.query_tree.specs.declared.value.ValueExpr.{ValueExpr as Value}
 use Rattle.query_tree.specs.declared.value.Operand.{Operand as Operand'}
 use Rattle.query_tree.proofs.Views.{of_operand}
-use Rattle.predicates.specs.Naming.{AreFew, NamesFew}
+use Rattle.predicates.specs.Naming.{AreFew}
 
 -- ---- unions
 
@@ -57,58 +58,17 @@ table_few t h = of_cases (cases_lt t 14)
 pub tables_of_one : (e : ValueExpr) → tables_in (e ∷ []) ≡ tables_named e
 tables_of_one e = or_zero_r (tables_named e)
 
-pub tables_of_two : (set a b : TableSet) (l r : ValueExpr) → set ≡ bit_or a b → a ≡ tables_named l → b ≡ tables_named r → set ≡ tables_in (l ∷ r ∷ [])
-tables_of_two set a b l r e p q = e ∙ ap₂ bit_or p (q ∙ sym (tables_of_one r))
-
 pub tables_of_both : (xs ys : List ValueExpr) → tables_in (xs ++ ys) ≡ bit_or (tables_in xs) (tables_in ys)
 tables_of_both [] ys = refl
 tables_of_both (x ∷ xs) ys = ap (bit_or (tables_named x)) (tables_of_both xs ys) ∙ sym (or_assoc (tables_named x) (tables_in xs) (tables_in ys))
 
--- ---- the values of a condition
+-- ---- the values that code lends
 
-pub only_value : (c : Condition) (e : ValueExpr) → values_of c ≡ e ∷ [] → tables_named e ≡ condition_tables c
-only_value c e h = sym (tables_of_one e) ∙ ap tables_in (sym h)
+abbrev pub tables_from : List (Bor Value) → TableSet
+tables_from values = tables_in (trees_of values)
 
-pub first_few : (c : Condition) (e : ValueExpr) (others : List ValueExpr) → values_of c ≡ e ∷ others → NamesFew c → AreFew (tables_named e)
-first_few c e others h f = left_few (tables_named e) (tables_in others) (still_few (condition_tables c) (tables_in (e ∷ others)) (ap tables_in h) f)
-
-pub others_few : (c : Condition) (e : ValueExpr) (others : List ValueExpr) → values_of c ≡ e ∷ others → NamesFew c → AreFew (tables_in others)
-others_few c e others h f = right_few (tables_named e) (tables_in others) (still_few (condition_tables c) (tables_in (e ∷ others)) (ap tables_in h) f)
-
--- ---- the operands of AND and OR
-
-abbrev pub part_tables : Conditions → TableSet
-part_tables parts = tables_in (values_of_parts parts)
-
-abbrev pub tables_from : List Code → TableSet
-tables_from cs = part_tables (conditions (map condition_of cs))
-
-pub next_part : (cs : List Code) (i : ℕ) (x : Code) → i < length cs → x ≡ get_or cs i x → tables_from (drop i cs) ≡ bit_or (condition_tables (condition_of x)) (tables_from (drop (i + 1) cs))
-next_part cs i x h e =
-    ap tables_from (drop_more cs i x h ∙ ap (λ y. y ∷ drop (i + 1) cs) (sym e))
-    ∙ tables_of_both (values_of (condition_of x)) (values_of_parts (conditions (map condition_of (drop (i + 1) cs))))
-
-from_few : (cs : List Code) (i : ℕ) → AreFew (tables_from cs) → AreFew (tables_from (drop i cs))
-from_few cs zero h = h
-from_few [] (suc i) h = h
-from_few (c ∷ cs) (suc i) h =
-    from_few cs i (right_few (condition_tables (condition_of c)) (tables_from cs) (still_few _ _ (tables_of_both (values_of (condition_of c)) (values_of_parts (conditions (map condition_of cs)))) h))
-
-pub part_few : (cs : List Code) (i : ℕ) (x : Code) → i < length cs → x ≡ get_or cs i x → AreFew (tables_from cs) → NamesFew (condition_of x)
-part_few cs i x h e f =
-    left_few (condition_tables (condition_of x)) (tables_from (drop (i + 1) cs)) (still_few _ _ (next_part cs i x h e) (from_few cs i f))
-
--- ---- the members of a list
-
-abbrev pub list_tables : List (Option ValueExpr) → TableSet
-list_tables members = tables_in (member_values members)
-
-first_member : (member : Option ValueExpr) (members : List (Option ValueExpr)) → list_tables (member ∷ members) ≡ bit_or (list_tables (member ∷ [])) (list_tables members)
-first_member None members = refl
-first_member (Some e) members = ap (λ set. bit_or set (list_tables members)) (sym (tables_of_one e))
-
-pub next_member : (ms : List (Option Value)) (i : ℕ) (x : Option Value) → i < length ms → x ≡ get_or ms i x → list_tables (map member_of (drop i ms)) ≡ bit_or (list_tables (member_of x ∷ [])) (list_tables (map member_of (drop (i + 1) ms)))
-next_member ms i x h e = ap (λ xs. list_tables (map member_of xs)) (drop_more ms i x h ∙ ap (λ y. y ∷ drop (i + 1) ms) (sym e)) ∙ first_member (member_of x) (map member_of (drop (i + 1) ms))
+pub next_value : (values : List (Bor Value)) (i : ℕ) (x : Bor Value) → i < length values → x ≡ get_or values i x → tables_from (drop i values) ≡ bit_or (tables_named (value_of x.now)) (tables_from (drop (i + 1) values))
+next_value values i x h e = ap tables_from (drop_more values i x h ∙ ap (λ y. y ∷ drop (i + 1) values) (sym e))
 
 -- ---- the operands of a line
 

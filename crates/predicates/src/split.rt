@@ -1,67 +1,74 @@
-//! Conditions taken apart at their ANDs.
+//! The conjuncts of a block's WHERE.
 
-ghost use Rattle.std.specs.Prelude.{◌≡◌, ◌++◌, IfOk, IfSome, OnOk, map, option_map};
-ghost use Rattle.definitions.specs.Queries.Conjuncts.{conjuncts_of, conjuncts_of_option};
-ghost use Rattle.query_tree.specs.Bound.{condition_of};
+ghost use Rattle.std.specs.Prelude.{◌≡◌, IfOk};
+ghost use Rattle.std.specs.List.{list_any};
+ghost use Rattle.definitions.specs.Binding.Formed.{IsFormedSomewhere};
+ghost use Rattle.definitions.specs.Queries.CanRaise as raising;
+ghost use Rattle.definitions.specs.Queries.Conjuncts as queries;
+ghost use Rattle.definitions.specs.Table.{Database};
+ghost use Rattle.query_tree.specs.Bound.{block_of, condition_of};
+ghost use Rattle.query_tree.specs.Walks.{conditions_in, trees_of};
 ghost use Rattle.predicates.specs.Naming.{NamesFew};
-ghost use Rattle.predicates.specs.Parts.{condition_in};
+ghost use Rattle.predicates.specs.Parts.{condition_in, AreConjunctsOf};
 
 use crate::conjunct::Conjunct;
 use crate::equated::equated_columns;
-use crate::tables::condition_tables;
-use expr::condition_can_raise;
-use query_tree::Condition;
+use crate::tables::tables_of;
+use expr::can_raise;
+use query_tree::{Block, Condition, ValueExpr, push_conjuncts, push_tested, push_values};
 use std::alloc::{AllocError, Global};
 
-/// The conjuncts of a condition, in text order; of none where there is no condition (own).
-pub fn conjuncts<'a>(
-    alloc: Global,
-    condition: &'a Option<Condition>,
-) -> Result<Vec<Conjunct<'a>>, AllocError>
-    requires few { IfSome (option_map condition_of condition.now) NamesFew }
-    ensures { IfOk result (λ cs. map condition_in cs.items
-        ≡ conjuncts_of_option (option_map condition_of condition.now)) }
+/// The conjuncts of a block's WHERE, in text order; none where it has none (own). Who plans a block and who runs it share this list. It fails
+/// where memory runs out.
+pub fn conjuncts<'a>(alloc: Global, block: &'a Block) -> Result<Vec<Conjunct<'a>>, AllocError>
+    requires formed { (database : Database) × IsFormedSomewhere database (block_of block.now) }
+    ensures { IfOk result (λ cs. AreConjunctsOf (block_of block.now) cs.items) }
 {
     let mut conjuncts = Vec::new(alloc);
-    if let Some(condition) = condition {
-        push_conjuncts(&mut conjuncts, condition)?;
+    'conditions: for condition in &conditions(alloc, block)? {
+        let conjunct = taken_apart(alloc, condition)?;
+        conjuncts.push(conjunct)?;
     }
     Ok(conjuncts)
 }
 
-/// Adds the conjuncts of a condition.
-fn push_conjuncts<'a>(
-    conjuncts: &mut Vec<Conjunct<'a>>,
-    condition: &'a Condition,
-) -> Result<(), AllocError>
-    requires few { NamesFew (condition_of condition.now) }
-    ensures { OnOk result (map condition_in conjuncts.new.items
-        ≡ map condition_in conjuncts.old.items ++ conjuncts_of (condition_of condition.now)) }
+/// The same as conditions.
+fn conditions<'a>(alloc: Global, block: &'a Block) -> Result<Vec<&'a Condition>, AllocError>
+    ensures { IfOk result (λ cs. conditions_in cs.items ≡ queries.conjuncts (block_of block.now)) }
 {
-    match condition {
-        Condition::And(parts) => {
-            for part in parts {
-                push_conjuncts(conjuncts, part)?;
-            }
-            Ok(())
-        }
-        other => {
-            conjuncts.push(taken_apart(other))?;
-            Ok(())
-        }
+    let mut conditions = Vec::new(alloc);
+    if let Some(condition) = &block.condition {
+        push_conjuncts(&mut conditions, condition)?;
     }
+    Ok(conditions)
 }
 
 /// A condition as a conjunct.
-fn taken_apart<'a>(condition: &'a Condition) -> Conjunct<'a>
+fn taken_apart<'a>(alloc: Global, condition: &'a Condition) -> Result<Conjunct<'a>, AllocError>
     requires few { NamesFew (condition_of condition.now) }
-    ensures { condition_in result ≡ condition_of condition.now }
+    ensures { IfOk result (λ c. condition_in c ≡ condition_of condition.now) }
 {
-    let tables = condition_tables(condition);
-    Conjunct {
+    let mut values = Vec::new(alloc);
+    push_values(&mut values, condition)?;
+    let mut tested = Vec::new(alloc);
+    push_tested(&mut tested, condition)?;
+    let tables = tables_of(&values);
+    Ok(Conjunct {
         condition,
-        late: condition_can_raise(condition) || tables.is_empty(),
+        late: !tested.is_empty() || any_can_raise(&values) || tables.is_empty(),
         tables,
         equated: equated_columns(condition),
+    })
+}
+
+/// Whether a value among some can raise.
+fn any_can_raise(values: &[&ValueExpr]) -> bool
+    ensures { result ≡ list_any raising.can_raise (trees_of values.now) }
+{
+    'values: for value in values {
+        if can_raise(value) {
+            return true;
+        }
     }
+    false
 }

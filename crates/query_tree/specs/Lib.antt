@@ -1,2 +1,3 @@
 pub use Rattle.definitions.specs.Queries.BoundBlock
 pub mod Bound
+pub mod Walks

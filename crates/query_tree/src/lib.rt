@@ -5,9 +5,11 @@ mod block;
 mod condition;
 mod leaf;
 mod value;
+mod walks;
 
 pub use block::{Aggregate, Block, Item, Key};
 pub use condition::Condition;
 pub use leaf::{BlockColumn, NumberLiteral, Operator, ValueType};
 pub use parse_tree::{Quantifier, SetFunction};
 pub use value::{Operand, ValueExpr};
+pub use walks::{push_blocks, push_conjuncts, push_tested, push_values};

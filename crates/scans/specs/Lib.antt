@@ -1,10 +1,10 @@
 pub use Rattle.definitions_execution.specs.Running
 pub use Rattle.definitions_execution.specs.Stored
+pub use Rattle.filters.specs.Pulls
 pub use Rattle.filters.specs.Sources
 pub mod Asks
 pub mod Looking
 pub mod Runs
-pub mod Pulls
 pub mod Scans
 pub mod Batches
 pub mod Inside

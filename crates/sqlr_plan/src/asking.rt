@@ -172,7 +172,7 @@ fn answers(
     let mut rows = Vec::new(alloc);
     let mut number: usize = 0;
     'asked: for block in blocks {
-        let asker = Asker::of(blocks, &rows, number);
+        let asker = Asker::of(alloc, blocks, &rows, number)?;
         let written = written_from(checked, number);
         let view = BlockView::new(
             alloc,

@@ -1,13 +1,16 @@
 //! The values in the text of a block, and the inner blocks that it asks for.
 
 ghost use Rattle.std.specs.Prelude.{◌≡◌, ◌++◌, ◌∷◌, [], IfOk, IsPermutation, OnOk, flat_map, map, option_map};
-ghost use Rattle.definitions.specs.Queries.Conjuncts.{blocks_in, blocks_of, member_values, tested_blocks, values_of};
+ghost use Rattle.definitions.specs.Queries.Conjuncts.{blocks_in, blocks_of, values_of};
 ghost use Rattle.definitions_answers.specs.Seen.{compared_blocks, seen_blocks};
 ghost use Rattle.definitions_answers.specs.Parameters.{arguments_of, asked_blocks, tested_of_option, values_in_block, values_of_option};
-ghost use Rattle.query_tree.specs.Bound.{block_of, bound_function_of, condition_of, member_of, value_of};
-ghost use Rattle.subqueries.specs.BlockText.{conditions_in, item_values, trees_of, Rising};
+ghost use Rattle.query_tree.specs.Bound.{block_of, bound_function_of, condition_of};
+ghost use Rattle.query_tree.specs.Walks.{conditions_in, trees_of};
+ghost use Rattle.subqueries.specs.BlockText.{item_values, Rising};
 
-use query_tree::{Aggregate, Block, Condition, Item, ValueExpr};
+use query_tree::{
+    Aggregate, Block, Condition, Item, ValueExpr, push_blocks, push_tested, push_values,
+};
 use std::alloc::{AllocError, Global};
 
 /// All values in the text of a block: of its result columns, of WHERE and HAVING, and the arguments of its set functions (own).
@@ -149,86 +152,6 @@ fn push_clause<'a>(
     }
 }
 
-/// The values that a condition speaks of, in text order.
-fn push_values<'a>(
-    values: &mut Vec<&'a ValueExpr>,
-    condition: &'a Condition,
-) -> Result<(), AllocError>
-    ensures { OnOk result (trees_of values.new.items ≡ trees_of values.old.items ++ values_of
-        (condition_of condition.now)) }
-{
-    match condition {
-        Condition::Compare { left, right, .. } => values.extend_from_slice(&[left, right]),
-        Condition::Quantified { value, .. } => values.extend_from_slice(&[value]),
-        Condition::IsNull { value, .. } => values.extend_from_slice(&[value]),
-        Condition::Like { value, .. } => values.extend_from_slice(&[value]),
-        Condition::InQuery { value, .. } => values.extend_from_slice(&[value]),
-        Condition::Between {
-            value,
-            low,
-            high,
-            ..
-        } => values.extend_from_slice(&[value, low, high]),
-        Condition::InList { value, members, .. } => {
-            values.extend_from_slice(&[value])?;
-            push_members(values, members)
-        }
-        Condition::Exists { .. } => Ok(()),
-        Condition::Not(operand) => push_values(values, operand),
-        Condition::And(parts) | Condition::Or(parts) => {
-            for part in parts {
-                push_values(values, part)?;
-            }
-            Ok(())
-        }
-    }
-}
-
-/// The members of an IN list; NULL is none.
-fn push_members<'a>(
-    values: &mut Vec<&'a ValueExpr>,
-    members: &'a [Option<ValueExpr>],
-) -> Result<(), AllocError>
-    ensures { OnOk result (trees_of values.new.items ≡ trees_of values.old.items ++ member_values
-        (map member_of members.now)) }
-{
-    'members: for member in members {
-        push_member(values, member)?;
-    }
-    Ok(())
-}
-
-fn push_member<'a>(
-    values: &mut Vec<&'a ValueExpr>,
-    member: &'a Option<ValueExpr>,
-) -> Result<(), AllocError>
-    ensures { OnOk result (trees_of values.new.items ≡ trees_of values.old.items ++ member_values
-        (member_of member.now ∷ [])) }
-{
-    match member {
-        Some(value) => values.extend_from_slice(&[value]),
-        None => Ok(()),
-    }
-}
-
-/// The inner blocks that a value holds.
-fn push_blocks(blocks: &mut Vec<usize>, expr: &ValueExpr) -> Result<(), AllocError>
-    ensures { OnOk result (blocks.new.items ≡ blocks.old.items ++ blocks_in (value_of expr.now)) }
-{
-    match expr {
-        ValueExpr::Subquery { block, .. } => blocks.extend_from_slice(&[*block]),
-        ValueExpr::Signed { operand, .. } => push_blocks(blocks, operand),
-        ValueExpr::Chain { first, others } => {
-            push_blocks(blocks, first)?;
-            for operand in others {
-                push_blocks(blocks, &operand.value)?;
-            }
-            Ok(())
-        }
-        _ => Ok(()),
-    }
-}
-
 /// The inner blocks that WHERE or HAVING itself tests, where the block has it.
 fn push_clause_tested(blocks: &mut Vec<usize>, clause: &Option<Condition>) -> Result<(), AllocError>
     ensures { OnOk result (blocks.new.items ≡ blocks.old.items ++ tested_of_option
@@ -237,29 +160,6 @@ fn push_clause_tested(blocks: &mut Vec<usize>, clause: &Option<Condition>) -> Re
     match clause {
         Some(condition) => push_tested(blocks, condition),
         None => Ok(()),
-    }
-}
-
-/// The inner blocks that a condition itself tests, by a quantifier, IN or EXISTS (ISO/IEC 9075:1992, 8.4, 8.7 and 8.8).
-fn push_tested(blocks: &mut Vec<usize>, condition: &Condition) -> Result<(), AllocError>
-    ensures { OnOk result (blocks.new.items ≡ blocks.old.items ++ tested_blocks (condition_of condition.now)) }
-{
-    match condition {
-        Condition::Quantified { block, .. } => blocks.extend_from_slice(&[*block]),
-        Condition::InQuery { block, .. } => blocks.extend_from_slice(&[*block]),
-        Condition::Exists { block } => blocks.extend_from_slice(&[*block]),
-        Condition::Not(operand) => push_tested(blocks, operand),
-        Condition::And(parts) | Condition::Or(parts) => {
-            for part in parts {
-                push_tested(blocks, part)?;
-            }
-            Ok(())
-        }
-        Condition::Compare { .. }
-        | Condition::IsNull { .. }
-        | Condition::Between { .. }
-        | Condition::Like { .. }
-        | Condition::InList { .. } => Ok(()),
     }
 }
 

@@ -8,3 +8,6 @@ pub mod PutBack
 pub mod Bits
 pub mod KeyRanks
 pub mod SortedPlaces
+pub mod BucketRows
+pub mod Matches
+pub mod Chains

@@ -5,6 +5,9 @@ pub mod Packing
 pub mod Keeping
 pub mod Keys
 pub mod RowKeys
+pub mod Buckets
+pub mod Equating
+pub mod AutomaticIndexes
 pub mod KeyRanges
 pub mod PlaceKeys
 pub mod Inside

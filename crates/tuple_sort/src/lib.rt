@@ -1,6 +1,10 @@
-//! Rows of a table, and composites of rows, put in an order.
+//! Rows of a table, and composites of rows, put in an order, and rows found by the keys of their values.
 #![tactic(auto)]
 
+mod automatic_index;
+mod buckets;
+mod composite_value;
+mod implied;
 mod key_range;
 mod key_sort;
 mod list;
@@ -15,6 +19,9 @@ mod sort_buffer;
 mod sort_tuple;
 mod sorting;
 
+pub use automatic_index::{AutomaticIndex, Chain};
+pub use composite_value::value_at;
+pub use implied::is_implied;
 pub use list::Composites;
 pub use row_keys::{RowKeys, keys_of_rows};
 pub use rows::{sort_rows, sort_rows_with_keys};

@@ -8,5 +8,5 @@ use Rattle.block_answers.proofs.late.late_conditions.Given as goal
 -- those so far, with those of the conjuncts from one on, are all
 abbrev pub invariant-conjuncts : goal.invariant-conjuncts
 invariant-conjuncts l =
-    conditions_of l.conditions.items ++ filter is_late (map condition_in (drop l.conjunct-index l.conjunct-items))
-    ≡ filter is_late (map condition_in l.conjunct-items)
+    conditions_of l.conditions.items ++ filter is_late (map condition_in (drop l.conjunct-index l.conjuncts))
+    ≡ filter is_late (map condition_in l.conjuncts)

@@ -25,9 +25,9 @@ loops-preserved g c =
     let table = c.args.table in
     let reached = set_of c.args.to.tables in
     let item = loop_of c.in-Some.item in
-    let x = step_for space from table reached c.args.to.order c.args.bound (LoopStep item.path) c.saturating_sum.result in
-    let cost : c.saturating_sum.result ≡ saturated (from.cost + item.cost) = sum_is _ _ _ _ _ c.saturating_sum.ensures.exact refl refl in
-    let same = same_step space from table reached c.args.to.order c.args.bound (LoopStep item.path) item.cost c.saturating_sum.result cost in
+    let x = step_for space from table reached c.args.to.order c.args.bound (LoopStep item.path) c.cost_from.result.number in
+    let cost : c.cost_from.result.number ≡ saturated (from.cost + item.cost) = sum_is _ _ _ _ _ c.cost_from.ensures refl refl in
+    let same = same_step space from table reached c.args.to.order c.args.bound (LoopStep item.path) item.cost c.cost_from.result.number cost in
     item_more g.L.Listener.hears (LoopBy space from table reached c.args.to.order c.args.bound) (AreLoops space from.tables table) _ _ _ _ _ item c.in-Some.ensures.steps c.loops.invariant
     (λ done are. loop_apart space from table reached c.args.to.order c.args.bound done _ item are) (goes_on g.L.Listener.hears (LoopBy space from table reached c.args.to.order c.args.bound item) _ _ x c.if-not-hear.ensures same (λ y is. is ∙ sym same))
 
@@ -38,9 +38,9 @@ returns-then-not-hear g c =
     let table = c.args.table in
     let reached = set_of c.args.to.tables in
     let item = loop_of c.in-Some.item in
-    let x = step_for space from table reached c.args.to.order c.args.bound (LoopStep item.path) c.saturating_sum.result in
-    let cost : c.saturating_sum.result ≡ saturated (from.cost + item.cost) = sum_is _ _ _ _ _ c.saturating_sum.ensures.exact refl refl in
-    let same = same_step space from table reached c.args.to.order c.args.bound (LoopStep item.path) item.cost c.saturating_sum.result cost in
+    let x = step_for space from table reached c.args.to.order c.args.bound (LoopStep item.path) c.cost_from.result.number in
+    let cost : c.cost_from.result.number ≡ saturated (from.cost + item.cost) = sum_is _ _ _ _ _ c.cost_from.ensures refl refl in
+    let same = same_step space from table reached c.args.to.order c.args.bound (LoopStep item.path) item.cost c.cost_from.result.number cost in
     item_stops g.L.Listener.hears (LoopBy space from table reached c.args.to.order c.args.bound) (AreLoops space from.tables table) _ _ _ _ _ item c.in-Some.ensures.steps c.loops.invariant
     (λ done are. loop_apart space from table reached c.args.to.order c.args.bound done _ item are) (IsLoopOver space from table reached c.args.to.order c.args.bound) x (loop_of_item space from table reached c.args.to.order c.args.bound)
     (stops g.L.Listener.hears (LoopBy space from table reached c.args.to.order c.args.bound item) _ _ x c.if-not-hear.ensures same)

@@ -27,9 +27,9 @@ merges-preserved g c =
     let table = c.args.table in
     let reached = set_of c.args.to.tables in
     let item = merge_of c.in-Some.item in
-    let x = step_for space from table reached c.args.to.order c.args.bound (MergeStep item.conjunct item.inner) c.saturating_sum.result in
-    let cost : c.saturating_sum.result ≡ saturated (from.cost + item.cost) = sum_is _ _ _ _ _ c.saturating_sum.ensures.exact refl refl in
-    let same = same_step space from table reached c.args.to.order c.args.bound (MergeStep item.conjunct item.inner) item.cost c.saturating_sum.result cost in
+    let x = step_for space from table reached c.args.to.order c.args.bound (MergeStep item.conjunct item.inner) c.cost_from.result.number in
+    let cost : c.cost_from.result.number ≡ saturated (from.cost + item.cost) = sum_is _ _ _ _ _ c.cost_from.ensures refl refl in
+    let same = same_step space from table reached c.args.to.order c.args.bound (MergeStep item.conjunct item.inner) item.cost c.cost_from.result.number cost in
     let goes = subst (λ (s : TableSet). GoesBy space s from.order item.conjunct table) c.requires.from (holds _ (c.if-not-goes_by.ensures space c.requires.outer)) in
     item_more g.L.Listener.hears (MergeBy space from table reached c.args.to.order c.args.bound) (AreMerges space from.tables table) _ _ _ _ _ item c.in-Some.ensures.steps c.merges.invariant
     (λ done are. merge_apart space from table reached c.args.to.order c.args.bound done _ item are) (goes_on g.L.Listener.hears (MergeBy space from table reached c.args.to.order c.args.bound item) _ _ x c.if-not-hear.ensures (goes, same) (λ y is. is.1 ∙ sym same))
@@ -51,9 +51,9 @@ returns-then-not-hear g c =
     let table = c.args.table in
     let reached = set_of c.args.to.tables in
     let item = merge_of c.in-Some.item in
-    let x = step_for space from table reached c.args.to.order c.args.bound (MergeStep item.conjunct item.inner) c.saturating_sum.result in
-    let cost : c.saturating_sum.result ≡ saturated (from.cost + item.cost) = sum_is _ _ _ _ _ c.saturating_sum.ensures.exact refl refl in
-    let same = same_step space from table reached c.args.to.order c.args.bound (MergeStep item.conjunct item.inner) item.cost c.saturating_sum.result cost in
+    let x = step_for space from table reached c.args.to.order c.args.bound (MergeStep item.conjunct item.inner) c.cost_from.result.number in
+    let cost : c.cost_from.result.number ≡ saturated (from.cost + item.cost) = sum_is _ _ _ _ _ c.cost_from.ensures refl refl in
+    let same = same_step space from table reached c.args.to.order c.args.bound (MergeStep item.conjunct item.inner) item.cost c.cost_from.result.number cost in
     let goes = subst (λ (s : TableSet). GoesBy space s from.order item.conjunct table) c.requires.from (holds _ (c.if-not-goes_by.ensures space c.requires.outer)) in
     item_stops g.L.Listener.hears (MergeBy space from table reached c.args.to.order c.args.bound) (AreMerges space from.tables table) _ _ _ _ _ item c.in-Some.ensures.steps c.merges.invariant
     (λ done are. merge_apart space from table reached c.args.to.order c.args.bound done _ item are) (IsMergeWith space from table reached c.args.to.order c.args.bound) x (merge_of_item space from table reached c.args.to.order c.args.bound)

@@ -21,12 +21,12 @@ orders-preserved g c =
     let certificate = certificate_of c.args.certificate.now in
     let from = state_of c.args.from in
     let into = c.in-Some.into in
-    let x = sort_with space certificate from into c.fold-order.result c.saturating_sum-cost.result c.bound.result in
-    let cost : c.saturating_sum-cost.result ≡ saturated (from.cost + space.sort_cost from.tables) = sum_is _ _ _ _ _ c.saturating_sum-cost.ensures.exact refl c.sort_cost.ensures.exact in
+    let x = sort_with space certificate from into c.fold-order.result c.cost_from-cost.result.number c.bound.result in
+    let cost : c.cost_from-cost.result.number ≡ saturated (from.cost + space.sort_cost from.tables) = sum_is _ _ _ _ _ c.cost_from-cost.ensures refl c.sort_cost.ensures in
     item_more g.L.Listener.hears (SortBy space certificate from) (AreSorts space from.tables) _ _ _ _ _ into c.in-Some.ensures.steps c.orders.invariant
     (λ done are. sort_apart space certificate from done _ into are) (goes_on g.L.Listener.hears (SortBy space certificate from into) _ _ x c.if-not-hear.ensures
-    (is_sort space certificate from into c.fold-order.result c.saturating_sum-cost.result c.bound.result cost c.bound.ensures c.fold-order.ensures.exact)
-    (one_is space certificate from into c.fold-order.result c.saturating_sum-cost.result c.bound.result cost c.bound.ensures c.fold-order.ensures.exact))
+    (is_sort space certificate from into c.fold-order.result c.cost_from-cost.result.number c.bound.result cost c.bound.ensures c.fold-order.ensures.exact)
+    (one_is space certificate from into c.fold-order.result c.cost_from-cost.result.number c.bound.result cost c.bound.ensures c.fold-order.ensures.exact))
 
 pub returns-then-not-hear : goal.returns-then-not-hear
 returns-then-not-hear g c =
@@ -34,12 +34,12 @@ returns-then-not-hear g c =
     let certificate = certificate_of c.args.certificate.now in
     let from = state_of c.args.from in
     let into = c.in-Some.into in
-    let x = sort_with space certificate from into c.fold-order.result c.saturating_sum-cost.result c.bound.result in
-    let cost : c.saturating_sum-cost.result ≡ saturated (from.cost + space.sort_cost from.tables) = sum_is _ _ _ _ _ c.saturating_sum-cost.ensures.exact refl c.sort_cost.ensures.exact in
+    let x = sort_with space certificate from into c.fold-order.result c.cost_from-cost.result.number c.bound.result in
+    let cost : c.cost_from-cost.result.number ≡ saturated (from.cost + space.sort_cost from.tables) = sum_is _ _ _ _ _ c.cost_from-cost.ensures refl c.sort_cost.ensures in
     item_stops g.L.Listener.hears (SortBy space certificate from) (AreSorts space from.tables) _ _ _ _ _ into c.in-Some.ensures.steps c.orders.invariant
     (λ done are. sort_apart space certificate from done _ into are) (IsSortFrom space certificate from) x (sort_of_item space certificate from)
     (stops g.L.Listener.hears (SortBy space certificate from into) _ _ x c.if-not-hear.ensures
-    (is_sort space certificate from into c.fold-order.result c.saturating_sum-cost.result c.bound.result cost c.bound.ensures c.fold-order.ensures.exact))
+    (is_sort space certificate from into c.fold-order.result c.cost_from-cost.result.number c.bound.result cost c.bound.ensures c.fold-order.ensures.exact))
 
 pub returns : goal.returns
 returns g c =

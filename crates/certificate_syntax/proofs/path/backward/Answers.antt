@@ -1,5 +1,5 @@
 use Rattle.std.proofs.Common.{Bool, sym}
-use Rattle.interesting_orders.specs.Versions.{version_of}
+use Rattle.plan_tree.specs.Versions.{version_of}
 use Rattle.certificate_syntax.specs.Reading.{DirectionIn}
 use Rattle.certificate_syntax.proofs.Sequences.{first, second, at_exit}
 use Rattle.certificate_syntax.proofs.Paths.{backward_tells}

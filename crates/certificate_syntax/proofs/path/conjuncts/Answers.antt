@@ -1,5 +1,5 @@
 use Rattle.std.proofs.Common.{ℕ, Vec, Global, sym, ap, length}
-use Rattle.interesting_orders.specs.Versions.{version_of}
+use Rattle.plan_tree.specs.Versions.{version_of}
 use Rattle.certificate_syntax.specs.Reading.{MatchIn}
 use Rattle.certificate_syntax.proofs.Sequences.{stopped, at_exit}
 use Rattle.certificate_syntax.proofs.Paths.{slashed_numbers, match_only, no_match, match_refused}

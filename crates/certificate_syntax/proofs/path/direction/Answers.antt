@@ -1,5 +1,5 @@
 use Rattle.std.proofs.Common.{Bool, ◌∙◌}
-use Rattle.interesting_orders.specs.Versions.{version_of}
+use Rattle.plan_tree.specs.Versions.{version_of}
 use Rattle.certificate_syntax.specs.Reading.{DirectionIn}
 use Rattle.certificate_syntax.proofs.Sequences.{refused_told, at_exit}
 use Rattle.certificate_syntax.proofs.Paths.{forward_tells}

@@ -1,4 +1,4 @@
-use Rattle.interesting_orders.specs.Versions.{version_of}
+use Rattle.plan_tree.specs.Versions.{version_of}
 use Rattle.certificate_syntax.specs.Said.{path_said}
 use Rattle.certificate_syntax.specs.Reading.{PathIn}
 use Rattle.certificate_syntax.proofs.Sequences.{only_told, refused_told, at_exit}

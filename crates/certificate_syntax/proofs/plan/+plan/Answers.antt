@@ -1,6 +1,6 @@
 use Rattle.std.proofs.Common.{◌≡◌, ◌≢◌, ◌∙◌, ◌+◌, get_or, arith}
 use Rattle.definitions.specs.Plans.Plan.{Plan}
-use Rattle.interesting_orders.specs.Versions.{version_of}
+use Rattle.plan_tree.specs.Versions.{version_of}
 use Rattle.certificate_syntax.specs.declared.written.WrittenPlan.{WrittenPlan}
 use Rattle.certificate_syntax.specs.Said.{plan_said}
 use Rattle.certificate_syntax.specs.Reading.{WrappedIn, PlanIn}

@@ -1,4 +1,4 @@
-use Rattle.interesting_orders.specs.Versions.{version_of}
+use Rattle.plan_tree.specs.Versions.{version_of}
 use Rattle.certificate_syntax.specs.declared.plan.Around.TheVariants as around
 use Rattle.certificate_syntax.specs.Said.{plan_said}
 use Rattle.certificate_syntax.specs.Reading.{WrappedIn}

@@ -1,5 +1,5 @@
 use Rattle.std.proofs.Common.{ℕ}
-use Rattle.interesting_orders.specs.Versions.{version_of}
+use Rattle.plan_tree.specs.Versions.{version_of}
 use Rattle.certificate_syntax.specs.Reading.{BlockIn}
 use Rattle.certificate_syntax.proofs.Sequences.{first, last, at_exit}
 use Rattle.certificate_syntax.proofs.Lines.{block_tells}

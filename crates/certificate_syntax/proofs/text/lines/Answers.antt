@@ -1,5 +1,5 @@
 use Rattle.std.proofs.Common.{map}
-use Rattle.interesting_orders.specs.Versions.{version_of}
+use Rattle.plan_tree.specs.Versions.{version_of}
 use Rattle.certificate_syntax.specs.Said.{plan_said, state_said, said_of}
 use Rattle.certificate_syntax.specs.Reading.{TextIn}
 use Rattle.certificate_syntax.proofs.Sequences.{at_exit, both, first, first_refused, second, then_only, then_refused}

@@ -1,4 +1,4 @@
-use Rattle.interesting_orders.specs.Versions.{version_of}
+use Rattle.plan_tree.specs.Versions.{version_of}
 use Rattle.certificate_syntax.specs.Said.{plan_said}
 use Rattle.certificate_syntax.specs.Reading.{PlanLineIn}
 use Rattle.certificate_syntax.proofs.Sequences.{at_exit, both, first, first_refused, second, then_only, then_refused}

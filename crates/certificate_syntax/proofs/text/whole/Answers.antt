@@ -1,4 +1,4 @@
-use Rattle.interesting_orders.specs.Versions.{version_of}
+use Rattle.plan_tree.specs.Versions.{version_of}
 use Rattle.std.proofs.Common.{sym}
 use Rattle.certificate_syntax.specs.Said.{said_of}
 use Rattle.certificate_syntax.proofs.Lines.{all_said, more_behind, none_said}

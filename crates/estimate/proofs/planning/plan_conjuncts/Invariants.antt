@@ -8,9 +8,9 @@ use Rattle.estimate.specs.Tables.{tables_of, AreTablesOf}
 use Rattle.estimate.specs.PlanConjuncts.{condition_of_conjunct, conjunct_of}
 use Rattle.estimate.proofs.planning.plan_conjuncts.Given as goal
 
-abbrev pub invariant-parts : goal.invariant-parts
-invariant-parts l = record {
-  conditions : map condition_of_conjunct l.planned.items ++ map condition_in (drop l.part-index l.part-items) ≡ map condition_in l.part-items;
+abbrev pub invariant-conjuncts : goal.invariant-conjuncts
+invariant-conjuncts l = record {
+  conditions : map condition_of_conjunct l.planned.items ++ map condition_in (drop l.conjunct-index l.conjuncts) ≡ map condition_in l.conjuncts;
   exact : (db : Database) (block : Block) → AreTablesOf db block (tables_of l.tables)
-      → map conjunct_of l.planned.items ++ map (λ (c : Conjunct). plan_conjunct db block (condition_in c)) (drop l.part-index l.part-items) ≡ map (λ (c : Conjunct). plan_conjunct db block (condition_in c)) l.part-items;
+      → map conjunct_of l.planned.items ++ map (λ (c : Conjunct). plan_conjunct db block (condition_in c)) (drop l.conjunct-index l.conjuncts) ≡ map (λ (c : Conjunct). plan_conjunct db block (condition_in c)) l.conjuncts;
 }

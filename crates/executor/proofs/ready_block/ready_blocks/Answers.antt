@@ -58,6 +58,19 @@ new-requires-clause-answerable c =
     let mapped : slice_get blocks n ≡ Some (block_of b) = get_mapped block_of c.args.blocks.now n b here in
     at_place IsAnswerable blocks n (block_of b) c.requires.answerable mapped
 
+pub new-requires-clause-conjuncts : goal.new-requires-clause-conjuncts
+new-requires-clause-conjuncts c =
+    let db = c.args.database.now in
+    let blocks : Blocks = map block_of c.args.blocks.now in
+    let n = c.len-number.result in
+    let b : Block = c.index-blocks-number.result in
+    let ready : n ≡ length c.taking.query.items = search rules in
+    let left = left_at db blocks (length c.taking.query.items) n c.taking.rest.rest.items c.in-Some.chosen c.next.new.self.rest.items ready c.in-Some.ensures.items c.taking.invariant.left in
+    let within : n < length c.args.blocks.now = subst (λ k. n < k) (length-map c.args.blocks.now block_of) (one_left db blocks n c.in-Some.chosen c.next.new.self.rest.items left) in
+    let here : slice_get c.args.blocks.now n ≡ Some b = slice_get-get_or c.args.blocks.now n b within ∙ ap Some (sym c.index-blocks-number.is) in
+    let mapped : slice_get blocks n ≡ Some (block_of b) = get_mapped block_of c.args.blocks.now n b here in
+    (given_at db blocks n c.in-Some.chosen c.next.new.self.rest.items (block_of b) mapped left).0.conjuncts
+
 pub new-requires-clause-space : goal.new-requires-clause-space
 new-requires-clause-space c =
     let db = c.args.database.now in

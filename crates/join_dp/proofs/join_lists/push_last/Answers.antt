@@ -4,7 +4,7 @@ use Rattle.std.proofs.lemmas.List.{length-map}
 use Rattle.std.proofs.lemmas.Result.{IfOk-weaker}
 use Rattle.plan_tree.specs.Sets.{set_of}
 use Rattle.plan_space.proofs.Deciding.{holds, fails}
-use Rattle.join_dp.specs.JoinLists.{AreJoinsWith, IsLonger}
+use Rattle.join_dp.specs.JoinLists.{AreJoinsWith, IsLonger, known_cost}
 use Rattle.join_dp.specs.Views.{added_of}
 use Rattle.join_dp.proofs.JoinsListed.{longer_same, longer_more, none_with, joins_with}
 use Rattle.join_dp.proofs.Results.{ok_both}
@@ -33,6 +33,6 @@ returns-clause-joins c =
     ok_both c.push_merges.result _ _ (λ r. AreJoinsWith space (map added_of new) tables (length old) (length new) c.args.table)
     (λ r longer merges.
     rw (← length-map old added_of, ← length-map new added_of)
-    (joins_with space tables c.args.table c.in_ok-known.known (map added_of old) (map added_of mid) (map added_of new) longer c.in_ok-known.ensures.longer may
+    (joins_with space tables c.args.table (known_cost c.in_ok-known.known) (map added_of old) (map added_of mid) (map added_of new) longer c.in_ok-known.ensures.longer may
     (rw (length-map old added_of, length-map mid added_of) c.in_ok-known.ensures.loops) (rw (length-map mid added_of, length-map new added_of) merges)))
     c.push_merges.ensures.longer c.push_merges.ensures.merges

@@ -19,7 +19,7 @@ returns-clause-least c =
     let plan = c.in_ok-plan.ensures space s.complete s.end.searched.is_open.made in
     let cost = ap (λ (x : StatePlan). x.found.cost) c.at-target.ensures in
     is_least space s.complete c.in_ok-states.place (search_of c.in_ok-states.states) s.end (plan_of c.in_ok-plan.plan) plan (certificate_of c.in_ok-certificate.certificate)
-    (c.in_ok-certificate.ensures ∙ ap (certificate_below c.at-target.result.found.cost) c.in_ok-settled.ensures ∙ ap (λ n. certificate_below n (states_up_to (costs_of c.in_ok-states.states.costs) (whole space))) cost)
+    (c.in_ok-certificate.ensures ∙ ap (certificate_below c.at-target.result.found.cost.number) c.in_ok-settled.ensures ∙ ap (λ n. certificate_below n (states_up_to (costs_of c.in_ok-states.states.costs) (whole space))) cost)
 
 pub returns-clause-valid : goal.returns-clause-valid
 returns-clause-valid c =
@@ -28,7 +28,7 @@ returns-clause-valid c =
     let plan = c.in_ok-plan.ensures space s.complete s.end.searched.is_open.made in
     let cost = ap (λ (x : StatePlan). x.found.cost) c.at-target.ensures in
     valid space s.complete c.in_ok-states.place (search_of c.in_ok-states.states) s.end (plan_of c.in_ok-plan.plan) plan (certificate_of c.in_ok-certificate.certificate)
-    (c.in_ok-certificate.ensures ∙ ap (certificate_below c.at-target.result.found.cost) c.in_ok-settled.ensures ∙ ap (λ n. certificate_below n (states_up_to (costs_of c.in_ok-states.states.costs) (whole space))) cost)
+    (c.in_ok-certificate.ensures ∙ ap (certificate_below c.at-target.result.found.cost.number) c.in_ok-settled.ensures ∙ ap (λ n. certificate_below n (states_up_to (costs_of c.in_ok-states.states.costs) (whole space))) cost)
 
 pub returns-clause-exact : goal.returns-clause-exact
 returns-clause-exact c =
@@ -37,7 +37,7 @@ returns-clause-exact c =
     let plan = c.in_ok-plan.ensures space s.complete s.end.searched.is_open.made in
     let cost = ap (λ (x : StatePlan). x.found.cost) c.at-target.ensures in
     exact space s.complete c.in_ok-states.place (search_of c.in_ok-states.states) s.end (plan_of c.in_ok-plan.plan) plan (certificate_of c.in_ok-certificate.certificate)
-    (c.in_ok-certificate.ensures ∙ ap (certificate_below c.at-target.result.found.cost) c.in_ok-settled.ensures ∙ ap (λ n. certificate_below n (states_up_to (costs_of c.in_ok-states.states.costs) (whole space))) cost)
+    (c.in_ok-certificate.ensures ∙ ap (certificate_below c.at-target.result.found.cost.number) c.in_ok-settled.ensures ∙ ap (λ n. certificate_below n (states_up_to (costs_of c.in_ok-states.states.costs) (whole space))) cost)
 
 pub returns-clause-short : goal.returns-clause-short
 returns-clause-short c =
@@ -62,7 +62,7 @@ returns-clause-listed c =
     let cost = ap (λ (x : StatePlan). x.found.cost) c.at-target.ensures in
     let items = c.in_ok-settled.settled in
     let less = fewer_listed space s.complete c.in_ok-states.place (search_of c.in_ok-states.states) s.end (plan_of c.in_ok-plan.plan) plan (certificate_of c.in_ok-certificate.certificate)
-    (c.in_ok-certificate.ensures ∙ ap (certificate_below c.at-target.result.found.cost) c.in_ok-settled.ensures ∙ ap (λ n. certificate_below n (states_up_to (costs_of c.in_ok-states.states.costs) (whole space))) cost) in
+    (c.in_ok-certificate.ensures ∙ ap (certificate_below c.at-target.result.found.cost.number) c.in_ok-settled.ensures ∙ ap (λ n. certificate_below n (states_up_to (costs_of c.in_ok-states.states.costs) (whole space))) cost) in
     omega (arith, less, c.len.ensures, length-map items.items state_of, ap length c.in_ok-settled.ensures, items.small, items.ok.0, items.ok.1)
 
 pub returns-clause-solved : goal.returns-clause-solved

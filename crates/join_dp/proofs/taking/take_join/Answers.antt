@@ -49,9 +49,9 @@ returns-clause-is_open c =
     let cost = ap (λ (x : StatePlan). x.found.cost) c.at-state.ensures in
     let goes = rw (c.requires.from, order) at (holds _ (c.if-not-goes_with.ensures space c.requires.outer)) in
     let folds = rw (c.with-tables.ensures, tables, order) at c.fold.ensures.exact in
-    let off = join_offer space s c.args.place c.requires.place c.requires.is_open c.args.added.table (join_of c.args.added.join) c.args.added.cost c.fold.result c.saturating_sum.result c.requires.added goes folds (rw order at c.fold.ensures.within)
-    (sum_is _ _ _ _ _ c.saturating_sum.ensures.exact cost refl) in
-    let off' = subst (λ t. IsOffer space (at (states_in c.args.states.now) c.args.place).found.cost s t c.fold.result (record { step = JoinOn c.args.place (join_of c.args.added.join); sorted = None; cost = c.saturating_sum.result })) (sym (c.with-tables.ensures ∙ ap (λ t. with_table t c.args.added.table) tables)) off in
+    let off = join_offer space s c.args.place c.requires.place c.requires.is_open c.args.added.table (join_of c.args.added.join) c.args.added.cost.number c.fold.result c.plus.result.number c.requires.added goes folds (rw order at c.fold.ensures.within)
+    (sum_is _ _ _ _ _ c.plus.ensures cost refl) in
+    let off' = subst (λ t. IsOffer space (at (states_in c.args.states.now) c.args.place).found.cost s t c.fold.result (record { step = JoinOn c.args.place (join_of c.args.added.join); sorted = None; cost = c.plus.result.number })) (sym (c.with-tables.ensures ∙ ap (λ t. with_table t c.args.added.table) tables)) off in
     IfOk-weaker c.offer.result _ (λ r. IsOpen space (at (states_in c.args.states.now) c.args.place).found.cost (search_of c.offer.new.self)) (λ r h. h space (at (states_in c.args.states.now) c.args.place).found.cost off') c.offer.ensures.is_open
 
 pub returns-clause-more : goal.returns-clause-more
@@ -63,9 +63,9 @@ returns-clause-more c =
     let cost = ap (λ (x : StatePlan). x.found.cost) c.at-state.ensures in
     let goes = rw (c.requires.from, order) at (holds _ (c.if-not-goes_with.ensures space c.requires.outer)) in
     let folds = rw (c.with-tables.ensures, tables, order) at c.fold.ensures.exact in
-    let off = join_offer space s c.args.place c.requires.place c.requires.is_open c.args.added.table (join_of c.args.added.join) c.args.added.cost c.fold.result c.saturating_sum.result c.requires.added goes folds (rw order at c.fold.ensures.within)
-    (sum_is _ _ _ _ _ c.saturating_sum.ensures.exact cost refl) in
-    let off' = subst (λ t. IsOffer space (at (states_in c.args.states.now) c.args.place).found.cost s t c.fold.result (record { step = JoinOn c.args.place (join_of c.args.added.join); sorted = None; cost = c.saturating_sum.result })) (sym (c.with-tables.ensures ∙ ap (λ t. with_table t c.args.added.table) tables)) off in
+    let off = join_offer space s c.args.place c.requires.place c.requires.is_open c.args.added.table (join_of c.args.added.join) c.args.added.cost.number c.fold.result c.plus.result.number c.requires.added goes folds (rw order at c.fold.ensures.within)
+    (sum_is _ _ _ _ _ c.plus.ensures cost refl) in
+    let off' = subst (λ t. IsOffer space (at (states_in c.args.states.now) c.args.place).found.cost s t c.fold.result (record { step = JoinOn c.args.place (join_of c.args.added.join); sorted = None; cost = c.plus.result.number })) (sym (c.with-tables.ensures ∙ ap (λ t. with_table t c.args.added.table) tables)) off in
     IfOk-weaker c.offer.result _ (λ r. AreMore s (search_of c.offer.new.self)) (λ r h. h space (at (states_in c.args.states.now) c.args.place).found.cost off') c.offer.ensures.more
 
 pub returns-clause-low : goal.returns-clause-low
@@ -75,6 +75,6 @@ returns-clause-low c =
     let order = ap (λ (x : StatePlan). x.order) c.at-state.ensures in
     let cost = ap (λ (x : StatePlan). x.found.cost) c.at-state.ensures in
     let folds = rw (c.with-tables.ensures, tables, order) at c.fold.ensures.exact in
-    let is = sum_is _ _ _ _ _ c.saturating_sum.ensures.exact cost refl in
+    let is = sum_is _ _ _ _ _ c.plus.ensures cost refl in
     IfOk-weaker c.offer.result _ (λ r. LowByAdded space (cost_at (search_of c.offer.new.self)) (at (states_in c.args.states.now) c.args.place) (added_of c.args.added))
-    (λ r h. added_low space (at (states_in c.args.states.now) c.args.place) (added_of c.args.added) (cost_at (search_of c.offer.new.self)) c.fold.result c.saturating_sum.result folds is (rw (c.with-tables.ensures, tables) at h)) c.offer.ensures.here
+    (λ r h. added_low space (at (states_in c.args.states.now) c.args.place) (added_of c.args.added) (cost_at (search_of c.offer.new.self)) c.fold.result c.plus.result.number folds is (rw (c.with-tables.ensures, tables) at h)) c.offer.ensures.here

@@ -8,5 +8,5 @@ use Rattle.join_dp.proofs.taking.take_sorts.Given as goal
 
 abbrev pub invariant-orders : goal.invariant-orders
 invariant-orders l =
-    (Sorted (space_in l.space) (at (states_in l.fn.states) l.place).tables l.cost (at (states_in l.fn.states) l.place).found.cost (at (states_in l.fn.states) l.place).found.step (search_of l.fn.states) (search_of l.states) l.order-iterator)
+    (Sorted (space_in l.space) (at (states_in l.fn.states) l.place).tables l.cost.number (at (states_in l.fn.states) l.place).found.cost (at (states_in l.fn.states) l.place).found.step (search_of l.fn.states) (search_of l.states) l.order-iterator)
     × ((orders : List ℕ) × AreSorts (space_in l.space) (at (states_in l.fn.states) l.place).tables orders × (l.states.steps + length l.order-iterator ≤ l.fn.states.steps + length orders))

@@ -14,7 +14,7 @@ returns-in_ok-push-2 c = λ space uses classes clause right path.
     let a = c.args in
     let item = item_of a.item in
     let old = map found_merge_of a.merges.now.items in
-    let cost : c.saturating_sum-sorted.result ≡ saturated (a.item.cost + a.clause.sort_cost) = c.saturating_sum-sorted.ensures.exact in
+    let cost : c.plus-sorted.result.number ≡ saturated (a.item.cost.number + a.clause.sort_cost.number) = c.plus-sorted.ensures in
     let first : map found_merge_of c.push.new.self.items ≡ old ++ with_sort space a.clause clause item right path ∷ [] =
     pushed a.merges.now.items c.push.new.self.items c.in_ok-merge_path.field-0 (with_sort space a.clause clause item right path) c.in_ok-push.ensures.items
     (c.in_ok-merge_path.ensures ∙ ap (listed space a.clause clause item right path true) cost) in
@@ -29,7 +29,7 @@ returns-else-goes_by c = λ space uses classes clause right path.
     let a = c.args in
     let item = item_of a.item in
     let old = map found_merge_of a.merges.now.items in
-    let cost : c.saturating_sum-sorted.result ≡ saturated (a.item.cost + a.clause.sort_cost) = c.saturating_sum-sorted.ensures.exact in
+    let cost : c.plus-sorted.result.number ≡ saturated (a.item.cost.number + a.clause.sort_cost.number) = c.plus-sorted.ensures in
     let first : map found_merge_of c.push.new.self.items ≡ old ++ with_sort space a.clause clause item right path ∷ [] =
     pushed a.merges.now.items c.push.new.self.items c.in_ok-merge_path.field-0 (with_sort space a.clause clause item right path) c.in_ok-push.ensures.items
     (c.in_ok-merge_path.ensures ∙ ap (listed space a.clause clause item right path true) cost) in

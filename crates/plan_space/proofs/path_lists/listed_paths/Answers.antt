@@ -4,7 +4,7 @@ use Rattle.std.specs.Prelude.{option_map, unwrap_or}
 use Rattle.std.proofs.lemmas.Result.{IfOk-weaker}
 use Rattle.query_tree.specs.Bound.{block_of}
 use Rattle.definitions.specs.Estimates.Orders.{known_indexes, indexes_at}
-use Rattle.interesting_orders.specs.Versions.{version_of}
+use Rattle.plan_tree.specs.Versions.{version_of}
 use Rattle.access_paths.specs.Found.{found_path_of}
 use Rattle.plan_space.specs.PathListed.{AreListed, listed_path_of, with_number}
 use Rattle.plan_space.specs.declared.path_lists.NumberedPath.{NumberedPath}

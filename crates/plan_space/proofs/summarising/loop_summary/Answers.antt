@@ -33,6 +33,6 @@ returns c = λ plan is.
     let path = path_of c.args.path.now in
     let item = loop_of c.in_ok-item.item in
     let follows : MayFollow space tables (table_of path) = subst (MayFollow space tables) c.table.ensures (subst (λ (s : TableSet). MayFollow space s c.table.result) same (c.if-not-follows.ensures.exact.0 refl)) in
-    let cost : c.saturating_sum.result ≡ saturated (c.args.outer.cost + item.cost) = c.saturating_sum.ensures.exact in
+    let cost : c.plus.result.number ≡ saturated (c.args.outer.cost.number + item.cost) = c.plus.ensures in
     a_loop space plan c.args.outer is path item _ follows (subst (λ (s : TableSet). IsLoopFound space s path (Some item)) same c.in_ok-item.ensures) (c.with.ensures ∙ ap (with_table tables) c.table-2.ensures) refl cost
     (or_lt space.table_count tables (only (table_of path)) is.inside (pow_below (table_of path) space.table_count follows.0))

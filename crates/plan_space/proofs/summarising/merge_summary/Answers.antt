@@ -44,6 +44,6 @@ returns c = λ plan is.
     let follows : MayFollow space tables (table_of inner.path) = subst (MayFollow space tables) c.table-table.ensures (subst (λ (s : TableSet). MayFollow space s c.table-table.result) same (c.if-not-follows.ensures.exact.0 refl)) in
     let goes : GoesBy space tables c.args.outer.order c.args.conjunct (table_of inner.path) =
     subst (λ (t : ℕ). GoesBy space tables c.args.outer.order c.args.conjunct t) c.table-table.ensures (subst (λ (s : TableSet). GoesBy space s c.args.outer.order c.args.conjunct c.table-table.result) same ((c.if-not-goes_by.ensures space c.relation-relation.ensures.exact).0 refl)) in
-    let cost : c.saturating_sum.result ≡ saturated (c.args.outer.cost + item.cost) = c.saturating_sum.ensures.exact in
+    let cost : c.plus.result.number ≡ saturated (c.args.outer.cost.number + item.cost) = c.plus.ensures in
     a_merge space plan c.args.outer is c.args.conjunct inner item _ follows goes (subst (λ (s : TableSet). IsMergeFound space s c.args.conjunct inner (Some item)) same c.in_ok-item.ensures) (c.with.ensures ∙ ap (with_table tables) c.table-table.ensures) refl cost
     (or_lt space.table_count tables (only (table_of inner.path)) is.inside (pow_below (table_of inner.path) space.table_count follows.0))

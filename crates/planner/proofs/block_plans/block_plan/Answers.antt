@@ -8,6 +8,6 @@ new-requires-2 c = has_plans c.args.database.now c.args.block.now c.in_ok-estima
 pub returns : goal.returns
 returns c =
     let space = c.in_ok-space in
-    least_of space.space c.in_ok-plan.plan c.args.database.now c.args.block.now
+    least_of _ c.args.database.now c.args.block.now c.in_ok-conjuncts.ensures
     (same_space space.space c.args.database.now c.args.block.now space.ensures.version (space.ensures.database ∙ c.in_ok-estimate.ensures.database) (space.ensures.block ∙ c.in_ok-estimate.ensures.block))
     c.in_ok-plan.ensures

@@ -1,7 +1,7 @@
 use Rattle.std.proofs.Common.{◌≡◌, ◌++◌, drop}
 use Rattle.std.specs.Prelude.{flat_map}
 use Rattle.definitions.specs.Queries.Conjuncts.{blocks_of}
-use Rattle.subqueries.specs.BlockText.{conditions_in}
+use Rattle.query_tree.specs.Walks.{conditions_in}
 use Rattle.subqueries.proofs.block_text.blocks_asked.Given as goal
 
 -- with those of the conditions that are left, it is all of them

@@ -1,5 +1,5 @@
 use Rattle.std.proofs.Common.{◌≡◌, ◌++◌, drop}
-use Rattle.subqueries.specs.BlockText.{trees_of}
+use Rattle.query_tree.specs.Walks.{trees_of}
 use Rattle.subqueries.proofs.Texts.{function_arguments}
 use Rattle.subqueries.proofs.block_text.push_arguments.Given as goal
 

@@ -1,7 +1,7 @@
 use Rattle.std.proofs.Common.{◌≡◌, ◌++◌, drop}
 use Rattle.std.specs.Prelude.{flat_map}
 use Rattle.definitions.specs.Queries.Conjuncts.{blocks_in}
-use Rattle.subqueries.specs.BlockText.{trees_of}
+use Rattle.query_tree.specs.Walks.{trees_of}
 use Rattle.subqueries.proofs.block_text.push_inner.Given as goal
 
 abbrev pub invariant-values : goal.invariant-values

@@ -1,5 +1,6 @@
 use Rattle.std.proofs.Common.{◌≡◌, ◌++◌, drop}
-use Rattle.subqueries.specs.BlockText.{item_values, trees_of}
+use Rattle.subqueries.specs.BlockText.{item_values}
+use Rattle.query_tree.specs.Walks.{trees_of}
 use Rattle.subqueries.proofs.block_text.push_items.Given as goal
 
 abbrev pub invariant-items : goal.invariant-items

@@ -2,7 +2,7 @@ use Rattle.std.proofs.Common.{◌≡◌, ◌++◌, drop}
 use Rattle.std.specs.Prelude.{flat_map}
 use Rattle.definitions_answers.specs.Parameters.{asked_blocks, own_parameters, parameters_in}
 use Rattle.query_tree.specs.Bound.{block_of}
-use Rattle.subqueries.specs.BlockText.{trees_of}
+use Rattle.query_tree.specs.Walks.{trees_of}
 use Rattle.subqueries.specs.OuterColumns.{inner_parameters, outer_columns_of}
 use Rattle.subqueries.proofs.parameters.parameters_of.Given as goal
 

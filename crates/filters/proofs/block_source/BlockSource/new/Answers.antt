@@ -1,11 +1,4 @@
-use Rattle.query_tree.specs.Bound.{block_of}
-use Rattle.predicates.proofs.FormedBlocks.{formed_few}
 use Rattle.filters.proofs.block_source.BlockSource.new.Goals as goal
-
-pub conjuncts-requires : goal.conjuncts-requires
-conjuncts-requires c =
-    let (blocks, around, n, formed) = c.requires.formed in
-    record { few = formed_few c.args.database.now blocks around n (block_of c.args.block.now) formed }
 
 pub invariant_of-result : goal.invariant_of-result
 invariant_of-result c =
@@ -15,5 +8,5 @@ invariant_of-result c =
       tables = c.in_ok-tables.ensures.exact;
       count = c.in_ok-tables.ensures.count;
       few = formed.count;
-      conditions = c.in_ok-conjuncts.ensures;
+      conditions = c.requires.conjuncts;
     }

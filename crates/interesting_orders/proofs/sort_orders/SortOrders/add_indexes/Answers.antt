@@ -1,6 +1,6 @@
 use Rattle.std.proofs.Common.{◌<◌, length, arith}
 use Rattle.query_tree.specs.Bound.{block_of}
-use Rattle.interesting_orders.specs.Versions.{version_of}
+use Rattle.plan_tree.specs.Versions.{version_of}
 use Rattle.interesting_orders.proofs.Adding.{next_table}
 use Rattle.interesting_orders.proofs.sort_orders.SortOrders.add_indexes.Goals as goal
 

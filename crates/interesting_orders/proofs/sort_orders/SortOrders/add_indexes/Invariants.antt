@@ -3,7 +3,7 @@ use Rattle.std.specs.Prelude.{fold, flat_map}
 use Rattle.std.specs.List.{range_with_len}
 use Rattle.definitions.specs.Estimates.Orders.{index_orders, table_orders}
 use Rattle.query_tree.specs.Bound.{block_of}
-use Rattle.interesting_orders.specs.Versions.{version_of}
+use Rattle.plan_tree.specs.Versions.{version_of}
 use Rattle.interesting_orders.specs.Adding.{added}
 use Rattle.interesting_orders.proofs.sort_orders.SortOrders.add_indexes.Given as goal
 

@@ -1,6 +1,6 @@
 use Rattle.std.proofs.Common.{◌≡◌, drop}
 use Rattle.std.specs.Prelude.{fold, flat_map}
-use Rattle.interesting_orders.specs.Versions.{version_of}
+use Rattle.plan_tree.specs.Versions.{version_of}
 use Rattle.interesting_orders.specs.Adding.{added, read_keys}
 use Rattle.interesting_orders.proofs.sort_orders.SortOrders.add_table.Given as goal
 

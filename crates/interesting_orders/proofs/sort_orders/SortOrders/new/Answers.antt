@@ -3,7 +3,7 @@ use Rattle.definitions.specs.Estimates.PlanConjuncts.{plan_conjuncts}
 use Rattle.query_tree.specs.Bound.{block_of}
 use Rattle.estimate.specs.PlanConjuncts.{conjunct_of}
 use Rattle.std.proofs.Common.{map}
-use Rattle.interesting_orders.specs.Versions.{version_of}
+use Rattle.plan_tree.specs.Versions.{version_of}
 use Rattle.interesting_orders.proofs.Adding.{added_in_turn}
 use Rattle.interesting_orders.proofs.sort_orders.SortOrders.new.Goals as goal
 

@@ -1,7 +1,7 @@
 use Rattle.std.proofs.Common.{◌≡◌, length, map}
 use Rattle.std.specs.Global.{Vec}
 use Rattle.query_tree.specs.Bound.{block_of}
-use Rattle.interesting_orders.specs.Versions.{version_of}
+use Rattle.plan_tree.specs.Versions.{version_of}
 use Rattle.plan_space.specs.PathListed.{AreListed, listed_path_of}
 use Rattle.plan_space.specs.declared.path_lists.NumberedPath.{NumberedPath}
 use Rattle.plan_space.proofs.Listing.{AreFirst}

@@ -5,7 +5,7 @@ use Rattle.definitions.specs.Plans.Order.{Order}
 use Rattle.query_tree.specs.Bound.{block_of}
 use Rattle.query_tree.specs.declared.block.Block.{Block}
 use Rattle.plan_tree.specs.Plans.{order_of}
-use Rattle.interesting_orders.specs.Versions.{version_of}
+use Rattle.plan_tree.specs.Versions.{version_of}
 use Rattle.plan_space.specs.Planned.{space_in}
 use Rattle.definitions.proofs.EstimateTheory.Complete.{complete}
 use Rattle.plan_space.proofs.Facts.{some_orders}

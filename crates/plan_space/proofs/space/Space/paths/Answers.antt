@@ -1,7 +1,7 @@
 use Rattle.std.proofs.Common.{sym, subst}
 use Rattle.definitions.specs.Plans.Space.{Space}
 use Rattle.plan_tree.specs.Sets.{set_of}
-use Rattle.interesting_orders.specs.Versions.{version_of}
+use Rattle.plan_tree.specs.Versions.{version_of}
 use Rattle.plan_space.specs.Item.{AreItems}
 use Rattle.plan_space.specs.Inside.{planned}
 use Rattle.plan_space.proofs.Facts.{is_space}
