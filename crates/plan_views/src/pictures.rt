@@ -18,22 +18,50 @@ pub(crate) fn picture(alloc: Global, block: &BlockView<'_>) -> Result<Graph, All
         nodes: Vec::new(alloc),
         edges: Vec::new(alloc),
     };
-    let keys = add_nodes(alloc, &mut graph, block, &way)?;
+    add_graph(alloc, &mut graph, block, &way)?;
+    Ok(graph)
+}
+
+/// Adds the nodes and the edges between them.
+fn add_graph(
+    alloc: Global,
+    graph: &mut Graph,
+    block: &BlockView<'_>,
+    way: &Way,
+) -> Result<(), AllocError> {
+    // boxed: what is owned is dropped at each exit behind it
+    let mut keys = Box::new(alloc, IndexSet::new(alloc))?;
+    add_listed(alloc, graph, block, way, &mut keys)?;
+    add_last(alloc, graph, block, &mut keys)?;
+    add_bounded(alloc, graph, block, &mut keys)?;
     for kept in &block.ledger.kept {
         if let Some((from, to)) = ends_of(kept, &keys)
             && (kept.above() == 0 || way.has(kept.to))
         {
-            let label = label_of(alloc, kept)?;
-            let marked = kept.above() == 0 && way.has(kept.to) && is_from(kept, &way);
-            graph.edges.push(Edge {
-                from,
-                to,
-                label,
-                marked,
-            })?;
+            let marked = kept.above() == 0 && way.has(kept.to) && is_from(kept, way);
+            add_edge(alloc, graph, kept, (from, to), marked)?;
         }
     }
-    Ok(graph)
+    Ok(())
+}
+
+/// Adds the edge of a step between two nodes.
+fn add_edge(
+    alloc: Global,
+    graph: &mut Graph,
+    kept: &KeptComparison,
+    ends: (usize, usize),
+    marked: bool,
+) -> Result<(), AllocError> {
+    let label = label_of(alloc, kept)?;
+    let (from, to) = ends;
+    graph.edges.push(Edge {
+        from,
+        to,
+        label,
+        marked,
+    })?;
+    Ok(())
 }
 
 /// A state by the numbers of its tables and its order.
@@ -43,16 +71,16 @@ fn numbers_of(key: StateKey) -> StateNumbers {
     (key.tables.place(), key.order)
 }
 
-/// Adds the nodes, and gives the state of each: of many states those that a comparison is told of, and the plan's way.
-fn add_nodes(
+/// Adds the listed states with their keys: of many those that a comparison is told of, and the plan's way.
+fn add_listed(
     alloc: Global,
     graph: &mut Graph,
     block: &BlockView<'_>,
     way: &Way,
-) -> Result<IndexSet<StateNumbers>, AllocError> {
-    let told = told_states(alloc, block)?;
+    keys: &mut IndexSet<StateNumbers>,
+) -> Result<(), AllocError> {
+    let told = Box::new(alloc, told_states(alloc, block)?)?;
     let states = &block.certificate().states;
-    let mut keys = IndexSet::new(alloc);
     for state in states {
         let key = key_of(state);
         if states.len() <= MANY_STATES || way.has(key) || told.contains(&numbers_of(key)) {
@@ -60,18 +88,39 @@ fn add_nodes(
             add_node(alloc, graph, block, key, state.cost, kind_of(way, key))?;
         }
     }
+    Ok(())
+}
+
+/// Adds the last state of the plan.
+fn add_last(
+    alloc: Global,
+    graph: &mut Graph,
+    block: &BlockView<'_>,
+    keys: &mut IndexSet<StateNumbers>,
+) -> Result<(), AllocError> {
+    let Some(found) = block.space().summary(block.plan()) else {
+        return Ok(());
+    };
+    let last = state_of(block.space(), found);
+    let _ = keys.insert(numbers_of(last))?;
     let target = block.certificate().target;
-    if let Some(found) = block.space().summary(block.plan()) {
-        let last = state_of(block.space(), found);
-        let _ = keys.insert(numbers_of(last))?;
-        add_node(alloc, graph, block, last, target, NodeKind::Chosen)?;
-    }
+    add_node(alloc, graph, block, last, target, NodeKind::Chosen)
+}
+
+/// Adds the states that aren't listed, and are told of comparisons.
+fn add_bounded(
+    alloc: Global,
+    graph: &mut Graph,
+    block: &BlockView<'_>,
+    keys: &mut IndexSet<StateNumbers>,
+) -> Result<(), AllocError> {
+    let target = block.certificate().target;
     for kept in &block.ledger.kept {
         if keys.insert(numbers_of(kept.to))? {
             add_node(alloc, graph, block, kept.to, target, NodeKind::Bounded)?;
         }
     }
-    Ok(keys)
+    Ok(())
 }
 
 /// The states from which comparisons are told.

@@ -184,6 +184,8 @@ fn answers(
             written,
             interest_of(question),
         )?;
+        // boxed at once: what is large and owned is dropped at each exit behind it
+        let view = Box::new(alloc, view)?;
         rows.push(view.rows())?;
         all.push(answer_of(alloc, question, &view)?)?;
         number = number.saturating_add(1);

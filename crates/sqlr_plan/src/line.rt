@@ -130,19 +130,29 @@ fn source_named(alloc: Global, word: &str) -> Result<Source, AllocError> {
 }
 
 fn command<'a>(alloc: Global) -> Result<Command<'a>, AllocError> {
-    Command::new(alloc, "sqlr-plan")
+    let mut command = Command::new(alloc, "sqlr-plan")
         .about("Shows the plans of a query, and what is proved of them")
         .after_help(AFTER_HELP)
         .version(VERSION)
-        .subcommand_required(true)
-        .subcommand(tree_command(alloc)?)?
-        .subcommand(why_command(alloc)?)?
-        .subcommand(sweep_command(alloc)?)?
-        .subcommand(indexes_command(alloc)?)?
-        .subcommand(difference_command(alloc)?)?
-        .subcommand(search_command(alloc)?)?
-        .subcommand(statistics_command(alloc)?)?
-        .subcommand(page_command(alloc)?)
+        .subcommand_required(true);
+    for view in view_commands(alloc)? {
+        command = command.subcommand(view)?;
+    }
+    Ok(command)
+}
+
+/// The subcommands, in the order in which help lists them.
+fn view_commands<'a>(alloc: Global) -> Result<Vec<Command<'a>>, AllocError> {
+    let mut commands = Vec::new(alloc);
+    commands.push(tree_command(alloc)?)?;
+    commands.push(why_command(alloc)?)?;
+    commands.push(sweep_command(alloc)?)?;
+    commands.push(indexes_command(alloc)?)?;
+    commands.push(difference_command(alloc)?)?;
+    commands.push(search_command(alloc)?)?;
+    commands.push(statistics_command(alloc)?)?;
+    commands.push(page_command(alloc)?)?;
+    Ok(commands)
 }
 
 fn tree_command<'a>(alloc: Global) -> Result<Command<'a>, AllocError> {
