@@ -20,6 +20,9 @@ use Rattle.certificate_files.specs.declared.checking.FileEnded.{FileEnded}
 use Rattle.certificate_files.specs.declared.checking.FileEnded.TheVariants as ended
 use Rattle.certificate_files.specs.declared.telling.Told.{Told}
 use Rattle.certificate_files.specs.declared.telling.Told.TheVariants as told
+use Rattle.certificate_files.specs.declared.telling.Judgement.{Judgement}
+use Rattle.certificate_files.specs.declared.telling.Judgement.TheVariants as j
+use Rattle.cert_check.specs.declared.kept_comparison.KeptComparison.{KeptComparison}
 
 -- want of memory is none, and is not told
 abbrev pub fault_of : TextFault → Fault
@@ -32,6 +35,15 @@ abbrev pub told_of : Told → spec.TextVerdict
 told_of told.Passes = spec.Passes
 told_of (told.Fails rule place) = spec.FailsAt (rule_of rule)
 told_of (told.Faulty fault) = spec.IsFaulty (fault_of fault)
+
+abbrev pub judgement_told : Judgement → Told
+judgement_told j.Passes = told.Passes
+judgement_told (j.Fails rule place failing) = told.Fails rule place
+
+-- the first comparison that fails, if one does
+abbrev pub failing_of : Judgement → Option KeptComparison
+failing_of j.Passes = None
+failing_of (j.Fails rule place failing) = failing
 
 abbrev pub IsOfText : Told → Type 0
 IsOfText (told.Faulty fault.Memory) = ⊥

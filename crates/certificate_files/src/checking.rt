@@ -11,7 +11,7 @@ ghost use Rattle.definitions.specs.Certificates.Explaining.{certified_from};
 ghost use Rattle.definitions.specs.Certificates.File.{lines_of};
 ghost use Rattle.definitions.specs.Certificates.Verdicts.{AreTold, ended_of, rest_ended};
 ghost use Rattle.query_tree.specs.Bound.{block_of};
-ghost use Rattle.certificate_files.specs.Judged.{AreKeptFrom};
+ghost use Rattle.certificate_files.specs.Judged.{AreBlocksTold};
 ghost use Rattle.certificate_files.specs.Telling.{told_of, check_ended_of};
 
 use crate::cutting::{text_end, version_in};
@@ -68,7 +68,8 @@ pub fn check_file<'a>(
     requires few { length blocks.now ≤ most_blocks }
     ensures told { IfOk result (λ told. AreTold current_version (certified_from database.now 0 (map block_of blocks.now))
         (lines_of file.now) told.text.items (check_ended_of told.ended)) }
-    ensures kept { IfOk result (λ told. AreKeptFrom database.now 0 (map block_of blocks.now) file.now told.blocks.items) }
+    ensures blocks { IfOk result (λ told. AreBlocksTold database.now 0 (map block_of blocks.now) file.now
+        (lines_of file.now) told.blocks.items) }
 {
     let mut text = Vec::new(alloc);
     let mut all = Vec::new(alloc);

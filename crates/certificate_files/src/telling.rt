@@ -1,6 +1,6 @@
 //! What is told of the text of one block.
 
-ghost use Rattle.std.specs.Prelude.{ℕ, ◌≡◌, List, None, IfOk, IfSome, option_map};
+ghost use Rattle.std.specs.Prelude.{ℕ, ◌≡◌, List, IfOk, option_map};
 ghost use Rattle.definitions.specs.Invariant.{IsDatabase};
 ghost use Rattle.definitions.specs.Binding.Formed.{IsFormedSomewhere};
 ghost use Rattle.definitions.specs.Plans.Certificate.{IsCertificate};
@@ -18,8 +18,8 @@ ghost use Rattle.cert_check.specs.Comparisons.{kept_comparison_of};
 ghost use Rattle.cert_check.specs.Verdicts.{below_of, verdict_of};
 ghost use Rattle.plan_tree.specs.Versions.{version_of};
 ghost use Rattle.certificate.specs.Planned.{space_in};
-ghost use Rattle.certificate_files.specs.Judged.{IsFirstFailing, IsJudgedIn};
-ghost use Rattle.certificate_files.specs.Telling.{StandsFor, IsToldBy, IsOfText, told_of};
+ghost use Rattle.certificate_files.specs.Judged.{IsKeptOf};
+ghost use Rattle.certificate_files.specs.Telling.{StandsFor, IsToldBy, IsOfText, failing_of, judgement_told, told_of};
 
 use catalog::Database;
 use cert_check::{KeptComparison, Rule, StateKey, Verdict, check, check_outside};
@@ -56,11 +56,16 @@ pub(crate) struct TextTold<'a> {
     pub refused: Option<RefusedText<'a>>,
 }
 
-/// What is told of a text, and the comparison that fails of it, if one does.
+/// What is told of what a text spells: that it passes, or the first rule that fails and the state there, with the comparison that fails,
+/// unless the plan is none of the space.
 #[derive(Drop)]
-struct Judgement {
-    told: Told,
-    failing: Option<KeptComparison>,
+enum Judgement {
+    Passes,
+    Fails {
+        rule: Rule,
+        place: StateKey,
+        failing: Option<KeptComparison>,
+    },
 }
 
 /// What is told of the text of the block of a number, in a version of its plan space (own). Where it passes, what there is to know of it
@@ -79,41 +84,52 @@ pub(crate) fn block_told<'a>(
     ensures told { IfOk result (λ text. IsTextVerdict (certified database.now number (block_of block.now)
         (version_of version)) bytes.now (told_of text.told)) }
     ensures text { IfOk result (λ text. IsOfText text.told) }
-    ensures kept { IfOk result (λ text. IfSome text.refused (IsJudgedIn (certified database.now number
-        (block_of block.now) (version_of version)) bytes.now)) }
+    ensures kept { IfOk result (λ text. IsKeptOf (certified database.now number (block_of block.now)
+        (version_of version)) bytes.now text.told text.refused) }
 {
     let own = BlockSpace::new(alloc, database, block, number, version)?;
     match read_text(alloc, &own.certified_block(), bytes) {
         Ok(spelled) => {
             let judged = spelled_told(&own.space, &spelled)?;
-            add_notes(alloc, notes, &own, &spelled, judged.told);
-            Ok(with_text(judged, own, Some(spelled)))
+            add_notes(alloc, notes, &own, &spelled, &judged);
+            Ok(with_text(judged, own, spelled))
         }
         Err(fault) => {
-            let judged = fault_told(fault)?;
-            Ok(with_text(judged, own, None))
+            let told = fault_told(fault)?;
+            Ok(TextTold {
+                told,
+                refused: Some(RefusedText {
+                    own,
+                    spelled: None,
+                    failing: None,
+                }),
+            })
         }
     }
 }
 
-/// What is told of a text, with what it was judged in unless it passes.
-fn with_text<'a>(judged: Judgement, own: BlockSpace<'a>, spelled: Option<Spelled>) -> TextTold<'a>
-    ensures told { result.told ≡ judged.told }
-    ensures kept { (block : CertifiedBlock) (bytes : List ℕ) → IsBlockSpace block own.entry →
-        IfSome spelled (IsRead block bytes) → IsFirstFailing (space_in own.entry.space) spelled judged.failing →
-        IfSome result.refused (IsJudgedIn block bytes) }
+/// What is told of what a text spells, with what it was judged in unless it passes.
+fn with_text<'a>(judged: Judgement, own: BlockSpace<'a>, spelled: Spelled) -> TextTold<'a>
+    ensures told { result.told ≡ judgement_told judged }
+    ensures kept { (block : CertifiedBlock) (bytes : List ℕ) → IsBlockSpace block own.entry → IsRead block bytes spelled →
+        IsFirstBelow (space_in own.entry.space) (certificate_of spelled.certificate)
+        (option_map kept_comparison_of (failing_of judged)) → IsKeptOf block bytes result.told result.refused }
 {
-    match judged.told {
-        Told::Passes => TextTold {
+    match judged {
+        Judgement::Passes => TextTold {
             told: Told::Passes,
             refused: None,
         },
-        told => TextTold {
-            told,
+        Judgement::Fails {
+            rule,
+            place,
+            failing,
+        } => TextTold {
+            told: Told::Fails { rule, place },
             refused: Some(RefusedText {
                 own,
-                spelled,
-                failing: judged.failing,
+                spelled: Some(spelled),
+                failing,
             }),
         },
     }
@@ -125,9 +141,9 @@ fn add_notes(
     notes: &mut Vec<PlanNote>,
     own: &BlockSpace<'_>,
     spelled: &Spelled,
-    told: Told,
+    judged: &Judgement,
 ) {
-    if let Told::Passes = told {
+    if let Judgement::Passes = judged {
         let least = Cost::of(u128::from(spelled.certificate.target));
         own.space
             .add_notes(alloc, notes, own.number as usize, least);
@@ -135,17 +151,14 @@ fn add_notes(
 }
 
 /// What is told of a text that has a fault.
-fn fault_told(fault: TextFault) -> Result<Judgement, AllocError>
+fn fault_told(fault: TextFault) -> Result<Told, AllocError>
     ensures told { (block : CertifiedBlock) (bytes : List ℕ) → HasTextFault block bytes fault →
-        IfOk result (λ judged. IsTextVerdict block bytes (told_of judged.told)) }
-    ensures text { IfOk result (λ judged. IsOfText judged.told) }
-    ensures none { IfOk result (λ judged. judged.failing ≡ None) }
+        IfOk result (λ told. IsTextVerdict block bytes (told_of told)) }
+    ensures faulty { IfOk result (λ told. told ≡ Told.Faulty fault) }
+    ensures text { IfOk result IsOfText }
 {
     match fault {
-        TextFault::Form { .. } | TextFault::Missing(_) | TextFault::States(_) => Ok(Judgement {
-            told: Told::Faulty(fault),
-            failing: None,
-        }),
+        TextFault::Form { .. } | TextFault::Missing(_) | TextFault::States(_) => Ok(Told::Faulty(fault)),
         TextFault::Memory => Err(AllocError),
     }
 }
@@ -154,28 +167,20 @@ fn fault_told(fault: TextFault) -> Result<Judgement, AllocError>
 fn spelled_told(space: &Space<'_>, spelled: &Spelled) -> Result<Judgement, AllocError>
     requires { IsCertificate (space_in space.now) (certificate_of spelled.now.certificate) }
     ensures told { IfOk result (λ judged. (plan : spec.Plan) → StandsFor (space_in space.now) plan spelled.now.plan →
-        IsToldBy (space_in space.now) plan (certificate_of spelled.now.certificate) (told_of judged.told)) }
-    ensures text { IfOk result (λ judged. IsOfText judged.told) }
+        IsToldBy (space_in space.now) plan (certificate_of spelled.now.certificate) (told_of (judgement_told judged))) }
     ensures first { IfOk result (λ judged. IsFirstBelow (space_in space.now) (certificate_of spelled.now.certificate)
-        (option_map kept_comparison_of judged.failing)) }
+        (option_map kept_comparison_of (failing_of judged))) }
 {
     match verdict_on(space, spelled) {
-        Verdict::Pass => Ok(Judgement {
-            told: Told::Passes,
-            failing: None,
-        }),
-        Verdict::Below(failing) => Ok(Judgement {
-            told: Told::Fails {
-                rule: failing.rule(),
-                place: failing.place(),
-            },
+        Verdict::Pass => Ok(Judgement::Passes),
+        Verdict::Below(failing) => Ok(Judgement::Fails {
+            rule: failing.rule(),
+            place: failing.place(),
             failing: Some(KeptComparison::new(&failing)?),
         }),
-        Verdict::Unmet(place) => Ok(Judgement {
-            told: Told::Fails {
-                rule: Rule::Target,
-                place,
-            },
+        Verdict::Unmet(place) => Ok(Judgement::Fails {
+            rule: Rule::Target,
+            place,
             failing: None,
         }),
     }

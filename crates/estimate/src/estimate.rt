@@ -21,7 +21,7 @@ use crate::planning::plan_conjuncts;
 use crate::shares::{left_by_completed, left_by_known};
 use crate::table_size::TableSize;
 use catalog::{Database, Table};
-use plan_tree::{Cost, TableSet, saturate, saturating_product};
+use plan_tree::{TableSet, saturate, saturating_product};
 use predicates::Conjunct;
 use query_tree::Block;
 use std::alloc::{AllocError, Global};
@@ -192,28 +192,13 @@ impl<'a> Estimate<'a> {
     }
 
     /// How many pages the rows of a set of tables fill, where it is known how many they are.
-    fn pages_of(&self, tables: TableSet, rows: u64) -> u64
+    pub fn pages_of(&self, tables: TableSet, rows: u64) -> u64
         requires { rows ≡ spec.cardinality self.now.database (block_of self.now.block) (set_of tables) }
         ensures exact { result ≡ spec.pages self.now.database (block_of self.now.block) (set_of tables) }
         ensures below { result ≤ limit }
     {
         let bytes = u128::from(rows) * u128::from(self.width(tables));
         saturate(bytes.div_ceil(PAGE_BYTES))
-    }
-
-    /// What a sort of the rows of a set of tables costs: it writes and reads each page, and handles each row.
-    pub fn sort_cost(&self, tables: TableSet) -> Cost
-        ensures { result.number ≡ spec.sort_cost self.now.database (block_of self.now.block) (set_of tables) }
-    {
-        self.sort_cost_of(tables, self.cardinality(tables))
-    }
-
-    /// What a sort of the rows of a set of tables costs, where it is known how many they are.
-    pub fn sort_cost_of(&self, tables: TableSet, rows: u64) -> Cost
-        requires { rows ≡ spec.cardinality self.now.database (block_of self.now.block) (set_of tables) }
-        ensures { result.number ≡ spec.sort_cost self.now.database (block_of self.now.block) (set_of tables) }
-    {
-        Cost::of(20 * u128::from(self.pages_of(tables, rows)) + u128::from(rows))
     }
 }
 

@@ -1,5 +1,5 @@
 //! What the rows of a block are taken to be: the shares that conditions leave of them, how many its tables and sets of its
-//! tables give, and what a sort of them costs (Selinger et al. 1979, sections 4 and 5).
+//! tables give, and how many pages those fill (Selinger et al. 1979, sections 4 and 5).
 #![tactic(auto)]
 
 mod column_keys;

@@ -27,11 +27,12 @@ pub(crate) struct Equality {
 
 /// Labels columns by the equations whose tables are all in a set.
 pub(crate) fn label(
-    labels: &mut [usize],
+    labels: &mut [u8],
     columns: &[BlockColumn],
     equations: &[Equality],
     tables: TableSet,
 )
+    requires few { length columns.now ≤ 128 }
     requires paired { length labels.old ≡ length columns.now }
     requires between { All (IsBetween (length columns.now)) equations.now }
     ensures len { length labels.new ≡ length labels.old }
@@ -61,7 +62,7 @@ fn has_both(tables: TableSet, columns: &[BlockColumn], equation: Equality) -> bo
 #[derive(Clone, Copy)]
 pub struct EquivalenceClasses {
     // by place; columns of one class have one label
-    labels: [usize; MAX_EQUATED],
+    labels: [u8; MAX_EQUATED],
 }
 
 impl EquivalenceClasses {

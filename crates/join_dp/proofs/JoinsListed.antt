@@ -2,6 +2,7 @@
 use Rattle.std.proofs.Common.{◌≡◌, ◌≢◌, ◌∙◌, ℕ, ◌+◌, ◌-◌, ◌*◌, ◌^◌, ◌<◌, ◌≤◌, ◌⊎◌, inl, inr, List, [], ◌∷◌, ◌++◌, Option, Some, None, length, length-append, get_or, set, if◌then◌else◌, true, false, Bool, add-one, arith, refl, sym, ap, subst}
 use Rattle.std.proofs.lemmas.Bool.{cases_lt, cases_eq}
 use Rattle.std.proofs.lemmas.List.{get_or_append_left, get_or-append_right, get_or-set_same, get_or-set_other, length-set}
+use Rattle.std.proofs.Math.Seq.{get_or-append_seam}
 use Rattle.std.specs.List.{AllByRecursion}
 use Rattle.definitions.specs.Estimates.BlockTables.{has}
 use Rattle.definitions.specs.Plans.Path.{Path, table_of}
@@ -11,11 +12,14 @@ use Rattle.definitions.specs.Plans.PlanSpace.{MayFollow, IsPath}
 use Rattle.definitions.specs.Plans.Cost.{limit, saturated, merge_cost}
 use Rattle.plan_space.specs.Item.{Item}
 use Rattle.plan_space.specs.Merge.{Merge as CostedMerge, IsMergeItem, AreMerges}
+use Rattle.plan_space.specs.Relation.{IsRelation}
+use Rattle.plan_space.specs.declared.join_relation.JoinRelation.{JoinRelation}
 use Rattle.plan_space.proofs.Lists.{has_each}
+use Rattle.plan_tree.specs.Sets.{set_of}
 use Rattle.plan_space.proofs.PathItems.{IsPathItem}
 use Rattle.plan_tree.proofs.Tests.{has_not}
 use Rattle.join_dp.specs.Counting.{AreCounts, most_joins}
-use Rattle.join_dp.specs.JoinLists.{added_at, AreAdded, Covers, AreJoinsWith, AreLoops, AreMergesBelow, AreJoins, IsLonger, AreLists, joins_in, Stand, one_if, listed_in, IsListed}
+use Rattle.join_dp.specs.JoinLists.{added_at, AreAdded, Covers, AreJoinsWith, AreLoops, AreMergesBelow, AreJoins, IsLonger, IsRelationAt, AreLists, joins_in, Stand, one_if, listed_in, IsListed}
 use Rattle.join_dp.specs.Joining.{CanJoin, join_cost, IsJoin, GoesWith, IsAdded}
 use Rattle.join_dp.specs.Searched.{LowBySorts, AreSortsTaken}
 use Rattle.join_dp.specs.StatePlans.{StatePlan}
@@ -303,8 +307,17 @@ module _ (old items : List (Option Places)) (tables : ℕ) (places : Places) (in
   pub listed_others : (other : ℕ) → other ≢ tables → get_or items other None ≡ get_or old other None
   listed_others other ne = rw is (get_or-set_other old tables other (Some places) None ne)
 
-module _ (space : Space) (old new : JoinLists) (tables : ℕ) (places : Places) (lists : AreLists space old) (inside : tables < 2 ^ space.table_count) (longer : IsLonger (joins_in old) (joins_in new))
-    (are : AreJoins space (joins_in new) tables places.start places.end space.table_count) (is : new.places.items ≡ set old.places.items tables (Some places)) where
+-- relations stay where they stand
+relation_later : (space : Space) (xs : List JoinRelation) (x : JoinRelation) (place tables : ℕ) → IsRelationAt space xs place tables → IsRelationAt space (xs ++ x ∷ []) place tables
+relation_later space xs x place tables (within, is) = (omega (arith, length-append xs (x ∷ []), within), λ r e. is r (e ∙ get_or_append_left xs (x ∷ []) r place within))
+
+-- and one more stands behind them
+pub relation_here : (space : Space) (xs : List JoinRelation) (x : JoinRelation) (place : ℕ) → place ≡ length xs → IsRelation space x → IsRelationAt space (xs ++ x ∷ []) place (set_of x.tables)
+relation_here space xs x place e is = (omega (arith, length-append xs (x ∷ []), e), λ r at. let same : x ≡ r = sym (get_or-append_seam xs x [] r) ∙ ap (λ n. get_or (xs ++ x ∷ []) n r) (sym e) ∙ sym at in subst (λ (q : JoinRelation). IsRelation space q × (set_of q.tables ≡ set_of x.tables)) same (is, refl))
+
+module _ (space : Space) (old new : JoinLists) (tables : ℕ) (places : Places) (x : JoinRelation) (lists : AreLists space old) (inside : tables < 2 ^ space.table_count) (longer : IsLonger (joins_in old) (joins_in new))
+    (are : AreJoins space (joins_in new) tables places.start places.end space.table_count) (pushed : new.relations.items ≡ old.relations.items ++ x ∷ [])
+    (here : IsRelationAt space new.relations.items places.relation tables) (is : new.places.items ≡ set old.places.items tables (Some places)) where
   within : tables < length old.places.items
   within = let s = lists.sets in omega (arith, inside, s)
 
@@ -312,13 +325,23 @@ module _ (space : Space) (old new : JoinLists) (tables : ℕ) (places : Places) 
   more_lists = record {
     sets = ap length is ∙ length-set old.places.items tables (Some places) ∙ lists.sets;
     each = λ t p stand. of_cases t p stand (cases_eq t tables);
+    relations = λ t p stand. relation_of t p stand (cases_eq t tables);
   }
     where
+      now : (t : ℕ) (p : Places) → Stand new t p → t ≡ tables → places ≡ p
+      now t p stand e = places_once (get_or new.places.items tables None) places p (listed_here old.places.items new.places.items tables places within is) (subst (λ n. get_or new.places.items n None ≡ Some p) e stand)
+
+      before : (t : ℕ) (p : Places) → Stand new t p → t ≢ tables → Stand old t p
+      before t p stand ne = sym (listed_others old.places.items new.places.items tables places within is t ne) ∙ stand
+
+      relation_of : (t : ℕ) (p : Places) → Stand new t p → (t ≡ tables) ⊎ (t ≢ tables) → IsRelationAt space new.relations.items p.relation t
+      relation_of t p stand (inl e) = rw e (subst (λ (q : Places). IsRelationAt space new.relations.items q.relation tables) (now t p stand e) here)
+      relation_of t p stand (inr ne) = rw pushed (relation_later space old.relations.items x p.relation t (lists.relations t p (before t p stand ne)))
+
       of_cases : (t : ℕ) (p : Places) → Stand new t p → (t ≡ tables) ⊎ (t ≢ tables) → AreJoins space (joins_in new) t p.start p.end space.table_count
       of_cases t p stand (inl e) =
-          let same : places ≡ p = places_once (get_or new.places.items tables None) places p (listed_here old.places.items new.places.items tables places within is) (subst (λ n. get_or new.places.items n None ≡ Some p) e stand) in
-          rw e (subst (λ (q : Places). AreJoins space (joins_in new) tables q.start q.end space.table_count) same are)
-      of_cases t p stand (inr ne) = joins_later space (joins_in old) (joins_in new) t p.start p.end space.table_count longer (lists.each t p (sym (listed_others old.places.items new.places.items tables places within is t ne) ∙ stand))
+          rw e (subst (λ (q : Places). AreJoins space (joins_in new) tables q.start q.end space.table_count) (now t p stand e) are)
+      of_cases t p stand (inr ne) = joins_later space (joins_in old) (joins_in new) t p.start p.end space.table_count longer (lists.each t p (before t p stand ne))
 
 -- ---- sorts of the set that is listed
 

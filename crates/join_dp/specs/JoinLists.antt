@@ -8,6 +8,9 @@ use Rattle.definitions.specs.Plans.Plan.{Inner}
 use Rattle.definitions.specs.Plans.Space.{Space}
 use Rattle.definitions.specs.Plans.Cost.{limit}
 use Rattle.plan_space.specs.Merge.{Merge as CostedMerge, AreMerges}
+use Rattle.plan_space.specs.Relation.{IsRelation}
+use Rattle.plan_space.specs.declared.join_relation.JoinRelation.{JoinRelation}
+use Rattle.plan_tree.specs.Sets.{set_of}
 use Rattle.plan_tree.specs.declared.cost.Cost.{Cost}
 use Rattle.join_dp.specs.Costs.{unknown}
 use Rattle.join_dp.specs.Counting.{AreCounts, most_joins}
@@ -97,7 +100,14 @@ one_if (Some places) = 1
 abbrev pub listed_in : JoinLists → TableSet → ℕ
 listed_in lists tables = one_if (get_or lists.places.items tables None)
 
+-- the relation of a set stands at a place
+abbrev pub IsRelationAt : Space → List JoinRelation → ℕ → TableSet → Type 0
+IsRelationAt space relations place tables = (place < length relations)
+    × ((r : JoinRelation) → r ≡ get_or relations place r → IsRelation space r × (set_of r.tables ≡ tables))
+
 pub record AreLists (space : Space) (lists : JoinLists) : Type 0 where
   pub sets : length lists.places.items ≡ 2 ^ space.table_count
   pub each : (tables : TableSet) (places : Places) → Stand lists tables places
       → AreJoins space (joins_in lists) tables places.start places.end space.table_count
+  pub relations : (tables : TableSet) (places : Places) → Stand lists tables places
+      → IsRelationAt space lists.relations.items places.relation tables

@@ -19,16 +19,19 @@ use plan_space::{JoinRelation, Space, loop_cost};
 use plan_tree::{Cost, TableSet};
 use std::alloc::{AllocError, Global};
 
-/// Where the joins on top of the plans of a set stand.
+/// Where the relation of a set stands, and where the joins on top of its plans do.
 #[derive(Clone, Copy)]
 pub(crate) struct Places {
+    pub relation: usize,
     pub start: usize,
     pub end: usize,
 }
 
-/// The joins on top of the plans of sets of tables, of each set those that one of its plans may need.
+/// The sets of tables that were met, as joins go on from them: the relation of each, and the joins on top of its plans, those that one of
+/// them may need.
 #[derive(Drop)]
 pub(crate) struct JoinLists<'a> {
+    pub relations: Vec<JoinRelation<'a>>,
     pub joins: Vec<AddedJoin<'a>>,
     pub places: Vec<Option<Places>>,
 }
@@ -44,6 +47,7 @@ impl<'a> JoinLists<'a> {
             places.push(None)?;
         }
         Ok(JoinLists {
+            relations: Vec::new(alloc),
             joins: Vec::new(alloc),
             places,
         })
@@ -57,25 +61,30 @@ impl<'a> JoinLists<'a> {
         self.places[tables.place()]
     }
 
-    /// Lists the joins on top of the plans of a set.
-    pub fn list(&mut self, space: &'a Space<'_>, tables: TableSet) -> Result<Places, AllocError>
-        requires set { set_of tables < 2 ^ (space_in space.now).table_count }
+    /// Lists the joins on top of the plans of a set, and keeps its relation.
+    pub fn list(&mut self, space: &'a Space<'_>, outer: JoinRelation<'a>) -> Result<Places, AllocError>
+        requires outer { IsRelation (space_in space.now) outer }
+        requires set { set_of outer.tables < 2 ^ (space_in space.now).table_count }
         requires lists { AreLists (space_in space.now) self.old }
-        requires none { get_or self.old.places.items (set_of tables) None ≡ None }
+        requires none { get_or self.old.places.items (set_of outer.tables) None ≡ None }
         ensures lists { IfOk result (λ _. AreLists (space_in space.now) self.new) }
-        ensures here { IfOk result (λ places. Stand self.new (set_of tables) places) }
-        ensures others { IfOk result (λ _. (other : ℕ) → other ≢ set_of tables →
+        ensures here { IfOk result (λ places. Stand self.new (set_of outer.entry.tables) places) }
+        ensures others { IfOk result (λ _. (other : ℕ) → other ≢ set_of outer.entry.tables →
             get_or self.new.places.items other None ≡ get_or self.old.places.items other None) }
     {
         let start = self.joins.len();
-        let outer = space.relation(tables);
         'tables: for table in 0..space.table_count() {
             push_last(space, &outer, table, &mut self.joins)?;
         }
+        let tables = outer.tables;
+        let relation = self.relations.len();
+        let end = self.joins.len();
         let places = Places {
+            relation,
             start,
-            end: self.joins.len(),
+            end,
         };
+        self.relations.push(outer)?;
         self.places[tables.place()] = Some(places);
         Ok(places)
     }

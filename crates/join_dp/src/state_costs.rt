@@ -3,25 +3,22 @@
 ghost use Rattle.std.specs.Prelude.{ℕ, ◌≡◌, ◌+◌, ◌<◌, ◌≤◌, Some, None, IfOk, length, get_or, false};
 ghost use Rattle.plan_tree.specs.Sets.{set_of};
 ghost use Rattle.join_dp.specs.Costs.{unknown, IsFoundAt, IsSettledAt};
-ghost use Rattle.join_dp.specs.Slots.{AreRows, AreSame};
+ghost use Rattle.join_dp.specs.Slots.{AreBehind, AreClearBehind, AreRows, AreSame};
 
 use plan_tree::{Cost, TableSet};
 use std::alloc::{AllocError, Global};
 
-/// The least cost of a state that was found so far, `u64::MAX` where none is found, and whether it is settled.
-#[derive(Clone, Copy)]
-pub(crate) struct Slot {
-    cost: u64,
-    settled: bool,
-}
-
-/// The costs of states. A set of tables has a row, with a slot for each order, from the first of its states that is found.
+/// The costs of states. A set of tables has a row, with a place for each order, from the first of its states that is found. What is told of a
+/// place stands in columns, as a record of both would take several times as much memory.
 #[derive(Drop)]
 pub(crate) struct StateCosts {
     orders: usize,
     rows: Vec<Option<usize>>,
-    slots: Vec<Slot>,
-    ghost apart: { AreRows orders rows.items (length slots.items) },
+    // the least cost that was found so far, `u64::MAX` where none is found
+    costs: Vec<u64>,
+    settled: Vec<bool>,
+    ghost apart: { AreRows orders rows.items (length costs.items) },
+    ghost clear: { AreClearBehind (length costs.items) settled.items },
 }
 
 impl StateCosts {
@@ -41,7 +38,8 @@ impl StateCosts {
         Ok(StateCosts {
             orders,
             rows,
-            slots: Vec::new(alloc),
+            costs: Vec::new(alloc),
+            settled: Vec::new(alloc),
         })
     }
 
@@ -52,7 +50,7 @@ impl StateCosts {
         ensures { result ≡ (costs_of self.now).cost (set_of tables) order }
     {
         match self.rows[tables.place()] {
-            Some(start) => self.slots[start + order].cost,
+            Some(start) => self.costs[start + order],
             None => u64::MAX,
         }
     }
@@ -72,7 +70,7 @@ impl StateCosts {
         ensures { result ≡ (costs_of self.now).settled (set_of tables) order }
     {
         match self.rows[tables.place()] {
-            Some(start) => self.slots[start + order].settled,
+            Some(start) => self.settled[start + order],
             None => false,
         }
     }
@@ -83,8 +81,9 @@ impl StateCosts {
         requires order { order < (costs_of self.old).orders }
         ensures { IfOk result (λ _. IsFoundAt (set_of tables) order cost.number (costs_of self.old) (costs_of self.new)) }
     {
-        let start = row(&mut self.rows, &mut self.slots, self.orders, tables)?;
-        self.slots[start + order].cost = cost.number;
+        let (rows, costs, settled) = (&mut self.rows, &mut self.costs, &mut self.settled);
+        let start = row(rows, costs, settled, self.orders, tables)?;
+        self.costs[start + order] = cost.number;
         Ok(())
     }
 
@@ -96,7 +95,7 @@ impl StateCosts {
         ensures { IsSettledAt (set_of tables) order (costs_of self.old) (costs_of self.new) }
     {
         if let Some(start) = self.rows[tables.place()] {
-            self.slots[start + order].settled = true;
+            self.settled[start + order] = true;
         }
     }
 }
@@ -104,27 +103,39 @@ impl StateCosts {
 /// Where the row of a set begins, which is made if there is none.
 fn row(
     rows: &mut Vec<Option<usize>>,
-    slots: &mut Vec<Slot>,
+    costs: &mut Vec<u64>,
+    settled: &mut Vec<bool>,
     orders: usize,
     tables: TableSet,
 ) -> Result<usize, AllocError>
     requires set { set_of tables < length rows.old.items }
-    requires rows { AreRows orders rows.old.items (length slots.old.items) }
-    ensures rows { AreRows orders rows.new.items (length slots.new.items) }
+    requires rows { AreRows orders rows.old.items (length costs.old.items) }
+    requires clear { AreClearBehind (length costs.old.items) settled.old.items }
+    ensures rows { AreRows orders rows.new.items (length costs.new.items) }
+    ensures clear { AreClearBehind (length costs.new.items) settled.new.items }
     ensures sets { length rows.new.items ≡ length rows.old.items }
     ensures here { IfOk result (λ start. get_or rows.new.items (set_of tables) None ≡ Some start) }
-    ensures same { IfOk result (λ _. AreSame orders rows.old.items slots.old.items rows.new.items slots.new.items) }
+    ensures costs { IfOk result (λ _. AreSame unknown orders rows.old.items costs.old.items rows.new.items costs.new.items) }
+    ensures settled { IfOk result (λ _.
+        AreSame false orders rows.old.items settled.old.items rows.new.items settled.new.items) }
 {
     if let Some(start) = rows[tables.place()] {
         return Ok(start);
     }
-    let start = slots.len();
-    'orders: for _ in 0..orders {
-        slots.push(Slot {
-            cost: u64::MAX,
-            settled: false,
-        })?;
-    }
+    let start = costs.len();
+    push_times(settled, false, orders)?;
+    push_times(costs, u64::MAX, orders)?;
     rows[tables.place()] = Some(start);
     Ok(start)
+}
+
+/// Pushes an item so many times. An `Err` leaves some of them behind the others.
+fn push_times<T: Copy>(items: &mut Vec<T>, item: T, count: usize) -> Result<(), AllocError>
+    ensures all { IfOk result (λ _. AreBehind item items.old.items items.new.items count) }
+    ensures some { (pushed : ℕ) × (pushed ≤ count) × AreBehind item items.old.items items.new.items pushed }
+{
+    'items: for _ in 0..count {
+        items.push(item)?;
+    }
+    Ok(())
 }

@@ -7,7 +7,7 @@ ghost use Rattle.plan_tree.specs.Sets.{set_of};
 ghost use Rattle.plan_space.specs.InterestingOrders.Sorts.{AreSorts};
 ghost use Rattle.join_dp.specs.Counting.{AreCounts, most_joins};
 ghost use Rattle.join_dp.specs.Final.{IsFinal};
-ghost use Rattle.join_dp.specs.JoinLists.{joins_in, listed_in, AreJoins, AreLists, IsListed, Stand};
+ghost use Rattle.join_dp.specs.JoinLists.{joins_in, listed_in, AreJoins, AreLists, IsListed, IsRelationAt, Stand};
 ghost use Rattle.join_dp.specs.Joining.{GoesWith, IsAdded};
 ghost use Rattle.join_dp.specs.Searched.{cost_sorted, AreSortsTaken, LowByAdded, LowByJoins, LowBySorts, IsSearched, IsSame, IsNone};
 ghost use Rattle.join_dp.specs.Searching.{cost_at, IsOpen, AreMore};
@@ -86,16 +86,20 @@ fn list_joins<'a>(
     if let Some(places) = lists.places(tables) {
         return Ok(places);
     }
-    take_sorts(space, states, place)?;
-    lists.list(space, tables)
+    let outer = space.relation(tables);
+    take_sorts(space, &outer, states, place)?;
+    lists.list(space, outer)
 }
 
-/// Looks at all sorts of the plan at a place.
+/// Looks at all sorts of the plan at a place, whose set has this relation.
 fn take_sorts<'a>(
     space: &'a Space<'_>,
+    outer: &JoinRelation<'_>,
     states: &mut States<'a>,
     place: usize,
 ) -> Result<(), AllocError>
+    requires outer { IsRelation (space_in space.now) outer.now }
+    requires from { set_of outer.now.tables ≡ (at (states_in states.old) place).tables }
     requires place { place < length (states_in states.old) }
     requires is_open { IsOpen (space_in space.now) (at (states_in states.old) place).found.cost (search_of states.old) }
     ensures is_open { IfOk result (λ _. IsOpen (space_in space.now) (at (states_in states.old) place).found.cost
@@ -108,7 +112,7 @@ fn take_sorts<'a>(
         × (states.new.steps ≤ states.old.steps + length orders)) }
 {
     let state = states.at(place);
-    let cost = sorted_cost(space, state);
+    let cost = sorted_cost(space, outer, state);
     'orders: for order in space.sorts(state.tables) {
         let found = Candidate {
             step: state.found.step,
@@ -121,13 +125,14 @@ fn take_sorts<'a>(
 }
 
 /// What a state's plan costs when it is sorted. One that is sorted already is sorted into another order in place of that one.
-fn sorted_cost(space: &Space<'_>, state: StatePlan<'_>) -> Cost
-    requires { set_of state.tables < 2 ^ (space_in space.now).table_count }
+fn sorted_cost(space: &Space<'_>, outer: &JoinRelation<'_>, state: StatePlan<'_>) -> Cost
+    requires outer { IsRelation (space_in space.now) outer.now }
+    requires from { set_of outer.now.tables ≡ set_of state.tables }
     ensures { result.number ≡ cost_sorted (space_in space.now) (state_plan_of state.entry) }
 {
     match state.found.sorted {
         Some(_) => state.found.cost,
-        None => state.found.cost.plus(space.sort_cost(state.tables)),
+        None => state.found.cost.plus(space.sort_cost_on(outer)),
     }
 }
 
@@ -142,6 +147,8 @@ fn take_joins<'a>(
     requires few { (space_in space.now).table_count ≤ most_from_tables }
     requires place { place < length (states_in states.old) }
     requires is_open { IsOpen (space_in space.now) (at (states_in states.old) place).found.cost (search_of states.old) }
+    requires relation { IsRelationAt (space_in space.now) lists.now.relations.items places.relation
+        (at (states_in states.old) place).tables }
     requires joins { AreJoins (space_in space.now) (joins_in lists.now) (at (states_in states.old) place).tables
         places.start places.end (space_in space.now).table_count }
     ensures is_open { IfOk result (λ _. IsOpen (space_in space.now) (at (states_in states.old) place).found.cost
@@ -152,9 +159,9 @@ fn take_joins<'a>(
         (at (states_in states.old) place).found.cost) }
     ensures steps { IfOk result (λ _. states.new.steps + places.start ≤ states.old.steps + places.end) }
 {
-    let outer = space.relation(states.at(place).tables);
+    let outer = &lists.relations[places.relation];
     'joins: for number in places.start..places.end {
-        take_join(space, &outer, lists.joins[number], states, place)?;
+        take_join(space, outer, lists.joins[number], states, place)?;
     }
     Ok(())
 }

@@ -15,6 +15,7 @@ pub mod Merge
 pub mod Merges
 pub mod MergeListed
 pub mod MergeLists
+pub mod MergeSources
 pub mod Planned
 pub mod Relation
 pub mod Inside

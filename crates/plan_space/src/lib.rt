@@ -14,6 +14,7 @@ mod path_lists;
 mod paths;
 mod plan_summary;
 mod same;
+mod sort_costs;
 mod space;
 mod summarising;
 

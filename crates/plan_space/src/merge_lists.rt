@@ -1,28 +1,29 @@
 //! The merges that may bring tables, for every set of tables.
 
-ghost use Rattle.std.specs.Prelude.{◌≡◌, ◌<◌, ◌*◌, IfOk, IfSome, OnOk, length, map};
+ghost use Rattle.std.specs.Prelude.{◌≡◌, ◌<◌, ◌*◌, IfOk, IfSome, OnOk, length};
 ghost use Rattle.definitions.specs.Limits.{most_from_tables};
 ghost use Rattle.definitions.specs.Plans.Cost.{saturated};
 ghost use Rattle.definitions.specs.Plans.PlanSpace.{IsPath};
 ghost use Rattle.definitions.specs.Plans.Space.{Space};
 ghost use Rattle.definitions.specs.Plans.TableSet.{no_tables, only};
-ghost use Rattle.definitions.specs.Estimates.BlockSpace.{space_of};
 ghost use Rattle.definitions.specs.Estimates.PlanConjuncts as plans;
-ghost use Rattle.definitions.specs.Estimates.Version as versions;
+ghost use Rattle.definitions.specs.Estimates.Version.{Version};
 ghost use Rattle.query_tree.specs.Bound.{block_of};
 ghost use Rattle.plan_tree.specs.Plans.{path_of};
 ghost use Rattle.plan_tree.specs.Sets.{set_of};
-ghost use Rattle.interesting_orders.specs.Uses.{AreClassesIn, AreUses};
+ghost use Rattle.interesting_orders.specs.Uses.{AreUses};
 ghost use Rattle.plan_space.specs.Item.{AreItems, IsItem};
 ghost use Rattle.plan_space.specs.Items.{item_of};
 ghost use Rattle.plan_space.specs.PathLists as block_paths;
 ghost use Rattle.plan_space.specs.Merge.{AddsMerges, AddsPath, AreMerges, ListsPathsOnce};
 ghost use Rattle.plan_space.specs.MergeListed.{found_merge_of, AreMergesOf, IsWay};
+ghost use Rattle.plan_space.specs.MergeSources.{estimated_space, merges_in, AreOfBlock, CanMergeBy, HasFigures};
 
 use crate::listed::{MergeClause, MergeJoinPath};
 use crate::merge_joins::Merges;
 use crate::path_lists::BlockPaths;
 use crate::paths::{CostedPath, Paths};
+use crate::sort_costs::sort_cost_of;
 use estimate::Estimate;
 use interesting_orders::{EquivalenceClasses, InterestingOrders};
 use plan_tree::{Cost, Path, TableSet};
@@ -46,10 +47,8 @@ impl BlockMerges {
     ) -> Result<BlockMerges, AllocError>
         requires paths { block_paths.tables_in paths.now ≡ length (block_of estimate.now.block).tables }
         ensures tables { IfOk result (λ m. tables_in m ≡ length (block_of estimate.now.block).tables) }
-        ensures merges { (version : versions.Version) →
-            block_paths.AreBlockPaths version estimate.now.database (block_of estimate.now.block) paths.now →
-            AreUses (space_of version estimate.now.database (block_of estimate.now.block)) uses.now →
-            IfOk result (AreBlockMerges (space_of version estimate.now.database (block_of estimate.now.block))) }
+        ensures merges { (version : Version) → AreOfBlock version estimate.now paths.now uses.now →
+            IfOk result (AreBlockMerges (estimated_space version estimate.now)) }
     {
         let mut tables = Vec::new(alloc);
         'tables: for table in 0..estimate.table_count() {
@@ -81,14 +80,11 @@ fn table_merges(
     requires table { table < length (block_of estimate.now.block).tables }
     requires few { table < most_from_tables }
     requires paths { block_paths.tables_in paths.now ≡ length (block_of estimate.now.block).tables }
-    ensures { (version : versions.Version) → block_paths.AreBlockPaths version estimate.now.database
-        (block_of estimate.now.block) paths.now → AreUses
-        (space_of version estimate.now.database (block_of estimate.now.block)) uses.now →
-        IfOk result (λ merges. AreMergesOf (space_of version estimate.now.database (block_of estimate.now.block))
-        table (map found_merge_of merges.items)) }
+    ensures { (version : Version) → AreOfBlock version estimate.now paths.now uses.now →
+        IfOk result (λ merges. AreMergesOf (estimated_space version estimate.now) table (merges_in merges)) }
 {
     let alone = TableSet::only(table);
-    let sort_cost = estimate.sort_cost(alone);
+    let sort_cost = sort_cost_of(estimate, alone, estimate.cardinality(alone));
     let classes = uses.classes(alone);
     let mut merges = Vec::new(alloc);
     'conjuncts: for conjunct in 0..estimate.conjuncts().len() {
@@ -116,9 +112,8 @@ fn merge_way(
     requires table { table < most_from_tables }
     requires conjunct { conjunct < length (plans.plan_conjuncts estimate.now.database (block_of estimate.now.block)) }
     ensures table { IfSome result (λ clause. clause.table ≡ table) }
-    ensures exact { (space : Space) → space.conjuncts ≡ plans.plan_conjuncts estimate.now.database
-        (block_of estimate.now.block) → AreUses space uses.now → sort_cost.number ≡ space.sort_cost (only table) →
-        IsWay space table conjunct result }
+    ensures exact { (space : Space) → HasFigures space estimate.now table sort_cost.number →
+        AreUses space uses.now → IsWay space table conjunct result }
 {
     let other = uses.merged_with(conjunct, table)?;
     Some(MergeClause {
@@ -139,11 +134,9 @@ fn add_merges(
     clause: MergeClause,
     paths: Paths<'_>,
 ) -> Result<(), AllocError>
-    ensures { (space : Space) → AreUses space uses.now → AreClassesIn space (only clause.table) uses.now classes.now →
-        IsWay space clause.table clause.conjunct (Some clause) →
+    ensures { (space : Space) → CanMergeBy space clause uses.now classes.now →
         AreItems space no_tables clause.table paths.entry → ListsPathsOnce space clause.table →
-        OnOk result (AddsMerges space clause.table clause.conjunct (map found_merge_of merges.old.items)
-        (map found_merge_of merges.new.items)) }
+        OnOk result (AddsMerges space clause.table clause.conjunct (merges_in merges.old) (merges_in merges.new)) }
 {
     let mut rest = paths;
     'paths: while let Some(item) = rest.next() {
@@ -160,11 +153,9 @@ fn add_path(
     clause: MergeClause,
     item: CostedPath<'_>,
 ) -> Result<(), AllocError>
-    ensures { (space : Space) → AreUses space uses.now → AreClassesIn space (only clause.table) uses.now classes.now →
-        IsWay space clause.table clause.conjunct (Some clause) →
-        IsItem space no_tables clause.table (item_of item.entry) → IsPath space no_tables (path_of item.entry.path.now) →
-        OnOk result (AddsPath space clause.table clause.conjunct (path_of item.entry.path.now)
-        (map found_merge_of merges.old.items) (map found_merge_of merges.new.items)) }
+    ensures { (space : Space) → CanMergeBy space clause uses.now classes.now → let path = path_of item.entry.path.now in
+        IsItem space no_tables clause.table (item_of item.entry) → IsPath space no_tables path →
+        OnOk result (AddsPath space clause.table clause.conjunct path (merges_in merges.old) (merges_in merges.new)) }
 {
     let sorted = item.cost.plus(clause.sort_cost);
     merges.push(merge_path(clause, item.path, true, sorted)?)?;

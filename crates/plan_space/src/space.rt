@@ -32,6 +32,7 @@ use crate::notes::{PlanNote, add_notes};
 use crate::path_lists::BlockPaths;
 use crate::paths::Paths;
 use crate::plan_summary::PlanSummary;
+use crate::sort_costs::sort_cost_of;
 use crate::summarising::summarise;
 use estimate::Estimate;
 use interesting_orders::{InterestingOrders, SortOrders, Sorts, required_order};
@@ -260,7 +261,23 @@ impl<'a> Space<'a> {
     pub fn sort_cost(&self, tables: TableSet) -> Cost
         ensures { result.number ≡ (space_in self.now).sort_cost (set_of tables) }
     {
-        self.estimate.sort_cost(tables)
+        self.sort_cost_with(tables, self.cardinality(tables))
+    }
+
+    /// What a sort of the rows of a relation costs.
+    pub fn sort_cost_on(&self, outer: &JoinRelation<'_>) -> Cost
+        requires { IsRelation (space_in self.now) outer.now }
+        ensures { result.number ≡ (space_in self.now).sort_cost (set_of outer.now.tables) }
+    {
+        self.sort_cost_with(outer.tables, outer.rows)
+    }
+
+    /// What a sort of the rows of a set of tables costs, where it is known how many they are.
+    fn sort_cost_with(&self, tables: TableSet, rows: u64) -> Cost
+        requires { rows ≡ (space_in self.now).cardinality (set_of tables) }
+        ensures { result.number ≡ (space_in self.now).sort_cost (set_of tables) }
+    {
+        sort_cost_of(&self.estimate, tables, rows)
     }
 
     /// Adds what a reader should know of the figures that the block's plans rest on, where the block has this number and its least plan

@@ -6,7 +6,7 @@ use Rattle.plan_tree.specs.Versions.{version_of}
 use Rattle.certificate_files.specs.Telling.{told_of, check_ended_of}
 use Rattle.certificate_files.proofs.FirstLines.{whole_left}
 use Rattle.certificate_files.proofs.Checked.{next_in_file, file_told, each_formed, first_of}
-use Rattle.certificate_files.proofs.Kept.{KeptTo, all_kept, judged_at, next_kept}
+use Rattle.certificate_files.proofs.Kept.{all_kept, told_at, next_in_file_kept}
 use Rattle.certificate_files.proofs.checking.check_file.Goals as goal
 
 pub block_told-requires-clause-formed : goal.block_told-requires-clause-formed
@@ -23,20 +23,19 @@ texts-preserved c =
           c.write_block.new.text.items (check_ended_of c.texts.ended) (check_ended_of c.with_block-ended.result) (version_of c.version_in-version.result) (told_of c.in_ok-judged.judged.told)
           (whole_left file start) c.texts.invariant.number (first_of c.args.blocks.now c.texts.block-index c.block-item.result c.texts-test.true c.block-item.is) c.version_in-version.ensures
           c.text_end-end.ensures.own c.text_end-end.ensures.rest c.in_ok-judged.ensures.told c.in_ok-write_block.ensures c.with_block-ended.ensures c.texts.invariant.told;
-      kept = subst (KeptTo c.args.database.now (map block_of c.args.blocks.now) file (c.texts.block-index + 1)) (sym c.in_ok-push.ensures.items)
-          (next_kept c.args.database.now (map block_of c.args.blocks.now) file c.texts.block-index (block_of c.block-item.result) c.texts.all.items _
-          (first_of c.args.blocks.now c.texts.block-index c.block-item.result c.texts-test.true c.block-item.is)
-          (judged_at c.args.database.now c.texts.number c.texts.block-index (block_of c.block-item.result) (version_of c.version_in-version.result) file _ start end c.in_ok-judged.judged.refused
-          (whole_left file start) c.texts.invariant.number c.in_ok-judged.ensures.kept)
-          c.texts.invariant.kept);
+      kept = next_in_file_kept c.args.database.now (map block_of c.args.blocks.now) file start end c.texts.block-index (block_of c.block-item.result) _ c.texts.all.items c.push.new.self.items _
+          (whole_left file start) (first_of c.args.blocks.now c.texts.block-index c.block-item.result c.texts-test.true c.block-item.is) c.text_end-end.ensures.rest c.in_ok-push.ensures.items
+          (told_at c.args.database.now c.texts.number c.texts.block-index (block_of c.block-item.result) file _ end _ (whole_left file start) c.texts.invariant.number
+          c.version_in-version.ensures c.text_end-end.ensures.own c.in_ok-judged.ensures.told c.in_ok-judged.ensures.kept)
+          c.texts.invariant.kept;
       number = ap (λ (n : ℕ). n + 1) c.texts.invariant.number;
       within = omega (arith, within, length-drop start file, c.texts.invariant.within);
     }
 
-pub returns-clause-kept : goal.returns-clause-kept
-returns-clause-kept c =
+pub returns-clause-blocks : goal.returns-clause-blocks
+returns-clause-blocks c =
     let behind : length (map block_of c.args.blocks.now) ≤ c.texts.block-index = omega (arith, c.texts-test.false, length-map c.args.blocks.now block_of) in
-    all_kept c.args.database.now (map block_of c.args.blocks.now) c.args.file.now c.texts.block-index c.texts.all.items behind c.texts.invariant.kept
+    all_kept c.args.database.now (map block_of c.args.blocks.now) c.args.file.now c.texts.block-index _ c.texts.all.items behind c.texts.invariant.kept
 
 pub returns-clause-told : goal.returns-clause-told
 returns-clause-told c =

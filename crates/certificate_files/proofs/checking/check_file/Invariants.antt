@@ -9,7 +9,7 @@ use Rattle.certificate_files.proofs.checking.check_file.Given as goal
 abbrev pub invariant-texts : goal.invariant-texts
 invariant-texts l = record {
   told : TellsTo l.database (map block_of l.blocks) (lines_of l.file) l.block-index (lines_of (drop l.start l.file)) l.text.items (check_ended_of l.ended);
-  kept : KeptTo l.database (map block_of l.blocks) l.file l.block-index l.all.items;
+  kept : KeptTo l.database (map block_of l.blocks) l.file l.block-index (lines_of (drop l.start l.file)) l.all.items;
   number : l.number ≡ l.block-index;
   within : l.start ≤ length l.file;
 }

@@ -26,7 +26,7 @@ states-init c =
     let l = c.in_ok-lists.ensures in
     let o = c.in_ok-states.ensures in
     let a = c.in_ok-take_accesses.ensures in (
-      record { sets = l.sets ∙ sets_are _ _ n.exact n.few; each = λ t p stand. absurd (let e = l.none t in cc) },
+      record { sets = l.sets ∙ sets_are _ _ n.exact n.few; each = λ t p stand. absurd (let e = l.none t in cc); relations = λ t p stand. absurd (let e = l.none t in cc) },
       (0, begun space (IsListed c.in_ok-lists.lists) (search_of c.take_accesses.new.states) a.is_open a.low (λ t k. a.more.settled t k ∙ o.settled t k) (λ t is. absurd (let e = l.none t in let e' = is.1 in cc))),
       λ sorts joins counts. let few = a.steps in let none = o.steps in accesses_pay space sorts joins (costs_of c.take_accesses.new.states.costs).settled (listed_in c.in_ok-lists.lists) c.take_accesses.new.states.steps (omega (arith, few, none)),
     )

@@ -16,7 +16,8 @@ pub joins-init : goal.joins-init
 joins-init c = (joins_begin (space_in c.args.space.now) (joins_in c.args.lists.now) (at (states_in c.args.states.now) c.args.place) c.args.places.start (search_of c.args.states.now) c.requires.is_open, omega arith)
 
 pub take_join-requires-clause-from : goal.take_join-requires-clause-from
-take_join-requires-clause-from c = rw (c.joins.invariant.0.more.kept c.args.place c.requires.place) (ap set_of c.relation-outer.ensures.tables ∙ ap (λ (x : StatePlan). x.tables) c.at.ensures)
+take_join-requires-clause-from c =
+    rw (c.joins.invariant.0.more.kept c.args.place c.requires.place) ((c.requires.relation.1 c.index-outer.result.now c.index-outer.ensures).1)
 
 pub take_join-requires-clause-place : goal.take_join-requires-clause-place
 take_join-requires-clause-place c = let l = c.joins.invariant.0.more.longer in omega (arith, l, c.requires.place)

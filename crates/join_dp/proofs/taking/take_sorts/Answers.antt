@@ -1,5 +1,5 @@
 use Rattle.plan_space.specs.Planned.{space_in}
-use Rattle.std.proofs.Common.{◌∙◌, ap, length, Some, arith}
+use Rattle.std.proofs.Common.{◌∙◌, ap, sym, length, Some, arith}
 use Rattle.plan_tree.specs.Sets.{set_of}
 use Rattle.join_dp.specs.Searched.{cost_sorted}
 use Rattle.join_dp.specs.Searching.{cost_at, IsOffer}
@@ -9,8 +9,8 @@ use Rattle.join_dp.specs.Views.{step_of}
 use Rattle.join_dp.proofs.Leading.{sort_numbered, sort_offer, sorts_go, state_sorts, sorts_end, ends_low}
 use Rattle.join_dp.proofs.taking.take_sorts.Goals as goal
 
-pub sorted_cost-cost-requires : goal.sorted_cost-cost-requires
-sorted_cost-cost-requires c = rw (ap (λ (x : StatePlan). x.tables) c.at-state.ensures) (c.requires.is_open.inside c.args.place c.requires.place)
+pub sorted_cost-cost-requires-clause-from : goal.sorted_cost-cost-requires-clause-from
+sorted_cost-cost-requires-clause-from c = c.requires.from ∙ sym (ap (λ (x : StatePlan). x.tables) c.at-state.ensures)
 
 pub orders-init : goal.orders-init
 orders-init c =

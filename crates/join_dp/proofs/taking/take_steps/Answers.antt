@@ -1,7 +1,7 @@
 use Rattle.plan_space.specs.Planned.{space_in}
 use Rattle.std.proofs.Common.{◌≤◌, ◌+◌, ◌*◌, sym, subst, arith}
 use Rattle.std.proofs.lemmas.Result.{IfOk-weaker}
-use Rattle.join_dp.specs.JoinLists.{joins_in, listed_in, AreJoins, IsListed}
+use Rattle.join_dp.specs.JoinLists.{joins_in, listed_in, AreJoins, IsListed, IsRelationAt}
 use Rattle.join_dp.specs.Counting.{most_joins}
 use Rattle.join_dp.specs.Searched.{IsSearched, IsNone}
 use Rattle.join_dp.specs.Searching.{IsOpen, AreMore}
@@ -18,6 +18,13 @@ take_joins-requires-clause-joins c =
     let kept = o.more.kept c.args.place c.requires.place in
     subst (λ (x : StatePlan). AreJoins (space_in c.args.space.now) (joins_in c.list_joins.new.lists) x.tables c.in_ok-places.places.start c.in_ok-places.places.end (space_in c.args.space.now).table_count) (sym kept)
     (o.lists.each (at (states_in c.args.states.now) c.args.place).tables c.in_ok-places.places o.here)
+
+pub take_joins-requires-clause-relation : goal.take_joins-requires-clause-relation
+take_joins-requires-clause-relation c =
+    let o = c.in_ok-places.ensures in
+    let kept = o.more.kept c.args.place c.requires.place in
+    subst (λ (x : StatePlan). IsRelationAt (space_in c.args.space.now) c.list_joins.new.lists.relations.items c.in_ok-places.places.relation x.tables) (sym kept)
+    (o.lists.relations (at (states_in c.args.states.now) c.args.place).tables c.in_ok-places.places o.here)
 
 pub returns-clause-searched : goal.returns-clause-searched
 returns-clause-searched c =

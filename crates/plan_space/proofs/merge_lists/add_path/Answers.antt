@@ -10,7 +10,10 @@ use Rattle.plan_space.proofs.Adding.{adds_sorted, adds_both, with_sort, as_it_is
 use Rattle.plan_space.proofs.merge_lists.add_path.Goals as goal
 
 pub returns-in_ok-push-2 : goal.returns-in_ok-push-2
-returns-in_ok-push-2 c = λ space uses classes clause right path.
+returns-in_ok-push-2 c = λ space by right path.
+    let uses = by.uses in
+    let classes = by.classes in
+    let clause = by.way in
     let a = c.args in
     let item = item_of a.item in
     let old = map found_merge_of a.merges.now.items in
@@ -25,7 +28,10 @@ returns-in_ok-push-2 c = λ space uses classes clause right path.
     rw (second ∙ ap (λ (xs : List FoundMerge). xs ++ as_it_is space a.clause clause item right path ∷ []) first) (adds_both space a.clause clause item right path old goes)
 
 pub returns-else-goes_by : goal.returns-else-goes_by
-returns-else-goes_by c = λ space uses classes clause right path.
+returns-else-goes_by c = λ space by right path.
+    let uses = by.uses in
+    let classes = by.classes in
+    let clause = by.way in
     let a = c.args in
     let item = item_of a.item in
     let old = map found_merge_of a.merges.now.items in

@@ -5,4 +5,9 @@ use Rattle.join_dp.specs.JoinLists.{joins_in, AreJoins, IsLonger}
 use Rattle.join_dp.proofs.join_lists.JoinLists.list.Given as goal
 
 abbrev pub invariant-tables : goal.invariant-tables
-invariant-tables l = IsLonger (joins_in l.fn.self) (joins_in l.self) × (AreJoins (space_in l.space) (joins_in l.self) (set_of l.tables) (length (joins_in l.fn.self)) (length (joins_in l.self)) l.table) × (l.self.places.items ≡ l.fn.self.places.items)
+invariant-tables l = record {
+  longer : IsLonger (joins_in l.fn.self) (joins_in l.self);
+  joins : AreJoins (space_in l.space) (joins_in l.self) (set_of l.outer.tables) (length (joins_in l.fn.self)) (length (joins_in l.self)) l.table;
+  places : l.self.places.items ≡ l.fn.self.places.items;
+  relations : l.self.relations.items ≡ l.fn.self.relations.items;
+}

@@ -1,5 +1,5 @@
 use Rattle.std.proofs.Common.{◌∙◌, ◌+◌, ap, length-append, None, [], ◌∷◌, refl, arith}
-use Rattle.join_dp.proofs.Slots.{none_pushed, no_rows}
+use Rattle.join_dp.proofs.Slots.{none_pushed, no_rows, no_flags}
 use Rattle.join_dp.proofs.state_costs.StateCosts.new.Goals as goal
 
 pub sets-init : goal.sets-init
@@ -9,7 +9,10 @@ pub sets-preserved : goal.sets-preserved
 sets-preserved c = rw c.in_ok-push.ensures.items (none_pushed c.sets.rows.items c.sets.invariant.0, length-append c.sets.rows.items (None ∷ []) ∙ ap (λ n. n + 1) c.sets.invariant.1)
 
 pub invariant_of-result : goal.invariant_of-result
-invariant_of-result c = record { apart = no_rows c.args.orders c.sets.rows.items _ c.sets.invariant.0 }
+invariant_of-result c = record {
+  apart = no_rows c.args.orders c.sets.rows.items _ c.sets.invariant.0;
+  clear = rw (c.new.ensures.items, c.new-2.ensures.items) no_flags;
+}
 
 pub returns-clause-sets : goal.returns-clause-sets
 returns-clause-sets c = omega (arith, c.sets.invariant.1, c.sets-test.false, c.sets.auto.counter-end)

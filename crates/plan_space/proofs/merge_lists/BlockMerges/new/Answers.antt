@@ -16,10 +16,10 @@ tables-preserved c =
     let new = c.in_ok-table_merges.field-0 in
     rw c.in_ok-push.ensures.items (record {
       len = length-append before _ ∙ omega (arith, c.tables.invariant.len);
-      each = λ version paths uses.
+      each = λ version of.
           one_table_more (AreMergesOf (space_of version db block)) (λ (v : Vec MergeJoinPath). map found_merge_of v.items) before new c.tables.table
-          c.tables.invariant.len (c.tables.invariant.each version paths uses) (c.in_ok-table_merges.ensures version paths uses);
+          c.tables.invariant.len (c.tables.invariant.each version of) (c.in_ok-table_merges.ensures version of);
     })
 
 pub returns-clause-merges : goal.returns-clause-merges
-returns-clause-merges c = λ version paths uses. λ table lt. c.tables.invariant.each version paths uses table (omega (arith, lt, c.tables.invariant.len))
+returns-clause-merges c = λ version of. λ table lt. c.tables.invariant.each version of table (omega (arith, lt, c.tables.invariant.len))

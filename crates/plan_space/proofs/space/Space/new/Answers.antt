@@ -28,7 +28,7 @@ invariant_of-result c =
       some = subst (λ (orders : List Order). 0 < length orders) (sym c.in_ok-orders.ensures) (some_orders version db block);
       paths = c.in_ok-paths.ensures.paths;
       paths_count = c.in_ok-paths.ensures.tables;
-      merges = c.in_ok-merges.ensures.merges version c.in_ok-paths.ensures.paths uses;
+      merges = c.in_ok-merges.ensures.merges version (record { paths = c.in_ok-paths.ensures.paths; uses = uses });
       merges_count = c.in_ok-merges.ensures.tables;
       uses = uses;
     }
