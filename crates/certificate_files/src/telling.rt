@@ -158,7 +158,9 @@ fn fault_told(fault: TextFault) -> Result<Told, AllocError>
     ensures text { IfOk result IsOfText }
 {
     match fault {
-        TextFault::Form { .. } | TextFault::Missing(_) | TextFault::States(_) => Ok(Told::Faulty(fault)),
+        TextFault::Form { .. } | TextFault::Missing(_) | TextFault::States(_) => {
+            Ok(Told::Faulty(fault))
+        }
         TextFault::Memory => Err(AllocError),
     }
 }

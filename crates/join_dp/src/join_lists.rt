@@ -62,7 +62,11 @@ impl<'a> JoinLists<'a> {
     }
 
     /// Lists the joins on top of the plans of a set, and keeps its relation.
-    pub fn list(&mut self, space: &'a Space<'_>, outer: JoinRelation<'a>) -> Result<Places, AllocError>
+    pub fn list(
+        &mut self,
+        space: &'a Space<'_>,
+        outer: JoinRelation<'a>,
+    ) -> Result<Places, AllocError>
         requires outer { IsRelation (space_in space.now) outer }
         requires set { set_of outer.tables < 2 ^ (space_in space.now).table_count }
         requires lists { AreLists (space_in space.now) self.old }
