@@ -1,0 +1,264 @@
+//! Comparisons of arithmetic on many rows at a time: of each part of an expression the values on all rows, before the next part.
+
+ghost use Rattle.std.specs.Prelude.{◌≡◌, ◌≤◌, ◌<◌, ◌+◌, ◌^◌, ◌-◌, ℕ, pos, true, map, IfSome};
+ghost use Rattle.std.specs.List.{range_with_len};
+ghost use Rattle.definitions.specs.Arithmetic.{Is};
+ghost use Rattle.definitions.specs.Scanning.{word_of};
+ghost use Rattle.definitions.specs.Truth.{compared, is_true};
+ghost use Rattle.definitions.specs.Queries.Combinations.{is_surely_true};
+ghost use Rattle.definitions.specs.Queries.Evaluation as meaning;
+ghost use Rattle.sqlvalue.specs.Meaning.{number_of, op_of, value_of};
+ghost use Rattle.query_tree.specs.Bound.{column_of, condition_of, operator_of, value_of as tree_of};
+ghost use Rattle.expr.specs.Vectors.{of_units, value_at, AreValues, IsScaleOf};
+
+use crate::many_rows::ManyRows;
+use query_tree::{BlockColumn, Condition, Operator, ValueExpr};
+use sqlvalue::{ComparisonOperator, Num, SqlType, Value};
+
+/// How many levels an expression may have of which vectors are made: each takes some thousand bytes of the stack (own).
+const MOST_LEVELS: u8 = 8;
+
+/// The values of an expression on as many as 64 rows, which are numbers of one scale or null: the units of each, or none.
+#[derive(Clone, Copy)]
+pub(crate) struct Vector {
+    units: [Option<i64>; 64],
+    scale: u8,
+}
+
+/// Of so many rows from `first` on, those on which a condition is true, where that is found for all of them together: it is a comparison of
+/// what is made of columns and numbers by signs, sums, differences and products, and all that is met fits 64 bits (ISO/IEC 9075:1992, 8.2 and
+/// 6.12). Bit i of the word is that of the row `first + i`. None says nothing.
+pub fn true_rows<S: ManyRows>(
+    condition: &Condition,
+    rows: &S,
+    first: usize,
+    count: usize,
+) -> Option<u64>
+    requires few { count ≤ 64 }
+    requires small { first + count ≤ 2 ^ 32 }
+    ensures { IfSome result (λ word. word ≡ word_of (map (λ row. is_surely_true
+        (meaning.truth (S.environment rows.now row) (condition_of condition.now))) (range_with_len first count))) }
+{
+    let Condition::Compare { op, left, right } = condition else {
+        return None;
+    };
+    let _scales = (scale_of(left, MOST_LEVELS)?, scale_of(right, MOST_LEVELS)?);
+    let a = vector_of(left, rows, first, count)?;
+    let b = vector_of(right, rows, first, count)?;
+    met_rows(*op, &a, &b, count)
+}
+
+/// The scale that the values of an expression have, if it is one of those of which vectors are made, and has no more than so many levels.
+fn scale_of(expr: &ValueExpr, levels: u8) -> Option<u8> {
+    let below = levels.checked_sub(1)?;
+    match expr {
+        ValueExpr::Column { sql_type, .. } => column_scale(*sql_type),
+        ValueExpr::Number(literal) => Some(literal.scale),
+        ValueExpr::Signed { operand, .. } => scale_of(operand, below),
+        ValueExpr::Chain { first, others } => {
+            let mut scale = scale_of(first, below)?;
+            for operand in others {
+                let right = scale_of(&operand.value, below)?;
+                scale = applied_scale(operand.operator, scale, right)?;
+            }
+            Some(scale)
+        }
+        _ => None,
+    }
+}
+
+fn column_scale(sql_type: SqlType) -> Option<u8> {
+    match sql_type {
+        SqlType::Smallint | SqlType::Integer => Some(0),
+        SqlType::Numeric { scale, .. } => Some(scale),
+        SqlType::Char { .. } => None,
+    }
+}
+
+/// The values of an expression on so many rows from `first` on.
+fn vector_of<S: ManyRows>(expr: &ValueExpr, rows: &S, first: usize, count: usize) -> Option<Vector>
+    requires few { count ≤ 64 }
+    requires small { first + count ≤ 2 ^ 32 }
+    ensures { IfSome result (AreValues (S.environment rows.now) (tree_of expr.now) first count) }
+{
+    match expr {
+        ValueExpr::Column { column, sql_type } => {
+            column_vector(*column, column_scale(*sql_type)?, rows, first, count)
+        }
+        ValueExpr::Number(literal) => number_vector(literal.number()),
+        ValueExpr::Signed { minus, operand } => {
+            under_sign(*minus, vector_of(operand, rows, first, count)?, count)
+        }
+        ValueExpr::Chain {
+            first: operand,
+            others,
+        } => {
+            let mut left = vector_of(operand, rows, first, count)?;
+            for operand in others {
+                let right = vector_of(&operand.value, rows, first, count)?;
+                left = applied(operand.operator, &left, &right, count)?;
+            }
+            Some(left)
+        }
+        _ => None,
+    }
+}
+
+/// The values in a column, if they are numbers of a scale or null.
+fn column_vector<S: ManyRows>(
+    column: BlockColumn,
+    scale: u8,
+    rows: &S,
+    first: usize,
+    count: usize,
+) -> Option<Vector>
+    requires few { count ≤ 64 }
+    requires small { first + count ≤ 2 ^ 32 }
+    ensures { IfSome result (λ vector. (place : ℕ) → place < count →
+        value_at vector place ≡ meaning.cell (S.environment rows.now (first + place)).combination (column_of column)) }
+{
+    let mut units = [None; 64];
+    for place in 0..count {
+        units[place] = units_of(rows.cell(first + place, column), scale)?;
+    }
+    Some(Vector { units, scale })
+}
+
+/// The units of a value that is null or a number of a scale.
+fn units_of(value: Value, scale: u8) -> Option<Option<i64>>
+    ensures { IfSome result (λ units. of_units scale units ≡ value_of value.entry) }
+{
+    match value {
+        Value::Null => Some(None),
+        Value::Num(number) if number.scale == scale => match i64::try_from(number.units) {
+            Ok(units) => Some(Some(units)),
+            Err(_) => None,
+        },
+        _ => None,
+    }
+}
+
+/// A number on each row.
+fn number_vector(number: Num) -> Option<Vector>
+    ensures { IfSome result (λ vector. (place : ℕ) → place < 64 → value_at vector place ≡ number_of number) }
+{
+    match i64::try_from(number.units) {
+        Ok(units) => Some(Vector {
+            units: [Some(units); 64],
+            scale: number.scale,
+        }),
+        Err(_) => None,
+    }
+}
+
+/// Values under a sign: minus, or else plus (ISO/IEC 9075:1992, 6.12).
+fn under_sign(minus: bool, operand: Vector, count: usize) -> Option<Vector>
+    requires { count ≤ 64 }
+    ensures { IfSome result (λ vector. (place : ℕ) → place < count →
+        value_at vector place ≡ meaning.signed minus (value_at operand place)) }
+{
+    if !minus {
+        return Some(operand);
+    }
+    let mut units = [None; 64];
+    for place in 0..count {
+        units[place] = negative(operand.units[place])?;
+    }
+    Some(Vector {
+        units,
+        scale: operand.scale,
+    })
+}
+
+fn negative(units: Option<i64>) -> Option<Option<i64>>
+    ensures { (scale : ℕ) → IfSome result (λ u. of_units scale u ≡ meaning.signed true (of_units scale units)) }
+{
+    match units {
+        Some(units) => Some(Some(units.checked_neg()?)),
+        None => Some(None),
+    }
+}
+
+/// Two operands with an operator between them: null where one is null (ISO/IEC 9075:1992, 6.12).
+fn applied(operator: Operator, left: &Vector, right: &Vector, count: usize) -> Option<Vector>
+    requires { count ≤ 64 }
+    ensures { IfSome result (λ vector. (place : ℕ) → place < count →
+        meaning.operation (operator_of operator) (value_at left.now place) (value_at right.now place)
+        ≡ Is (value_at vector place)) }
+{
+    let scale = applied_scale(operator, left.scale, right.scale)?;
+    let mut units = [None; 64];
+    for place in 0..count {
+        units[place] = applied_units(operator, left.units[place], right.units[place])?;
+    }
+    Some(Vector { units, scale })
+}
+
+/// The scale of what an operator makes of units as they are.
+fn applied_scale(operator: Operator, left: u8, right: u8) -> Option<u8>
+    ensures { IfSome result (IsScaleOf operator left right) }
+{
+    match operator {
+        Operator::Plus | Operator::Minus if left == right => Some(left),
+        Operator::Times => left.checked_add(right),
+        _ => None,
+    }
+}
+
+fn applied_units(operator: Operator, left: Option<i64>, right: Option<i64>) -> Option<Option<i64>>
+    ensures { (m n scale : ℕ) → IsScaleOf operator m n scale → IfSome result (λ units.
+        meaning.operation (operator_of operator) (of_units m left) (of_units n right) ≡ Is (of_units scale units)) }
+{
+    let (Some(a), Some(b)) = (left, right) else {
+        return Some(None);
+    };
+    match operator {
+        Operator::Plus => Some(Some(a.checked_add(b)?)),
+        Operator::Minus => Some(Some(a.checked_sub(b)?)),
+        Operator::Times => Some(Some(a.checked_mul(b)?)),
+        Operator::Over => None,
+    }
+}
+
+/// The rows on which a comparison of two values is true, brought to one scale: bit i is that of the row i (ISO/IEC 9075:1992, 8.2).
+fn met_rows(op: ComparisonOperator, left: &Vector, right: &Vector, count: usize) -> Option<u64>
+    requires { count ≤ 64 }
+    ensures { IfSome result (λ word. word ≡ word_of (map (λ place. is_true (compared (op_of op)
+        (value_at left.now place) (value_at right.now place))) (range_with_len 0 count))) }
+{
+    let m = power(right.scale.saturating_sub(left.scale))?;
+    let n = power(left.scale.saturating_sub(right.scale))?;
+    let mut word = 0;
+    let mut place = count;
+    while 0 < place {
+        place -= 1;
+        let is_met = is_met(op, left.units[place], m, right.units[place], n)?;
+        word = 2 * word + u64::from(is_met);
+    }
+    Some(word)
+}
+
+/// Whether a comparison of the units of two values is true, each taken times what brings it to the scale of both.
+fn is_met(
+    op: ComparisonOperator,
+    left: Option<i64>,
+    times_left: i64,
+    right: Option<i64>,
+    times_right: i64,
+) -> Option<bool>
+    ensures { (m n : ℕ) → times_left ≡ pos (10 ^ (n - m)) → times_right ≡ pos (10 ^ (m - n)) →
+        IfSome result (λ met. met ≡ is_true (compared (op_of op) (of_units m left) (of_units n right))) }
+{
+    let (Some(a), Some(b)) = (left, right) else {
+        return Some(false);
+    };
+    let a = a.checked_mul(times_left)?;
+    let b = b.checked_mul(times_right)?;
+    Some(op.agrees(a.cmp(&b)))
+}
+
+fn power(digits: u8) -> Option<i64>
+    ensures { IfSome result (λ power. power ≡ pos (10 ^ digits)) }
+{
+    10i64.checked_pow(u32::from(digits))
+}
