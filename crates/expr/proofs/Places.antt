@@ -1,15 +1,18 @@
 -- Values on many rows: what a loop over places keeps, and the word of the rows on which a test passes.
-use Rattle.std.proofs.Common.{◌≡◌, ◌≢◌, ◌∙◌, refl, sym, ap, ap₂, subst, ℕ, zero, suc, ◌+◌, ◌-◌, ◌*◌, ◌^◌, ◌<◌, ◌≤◌, List, ◌∷◌, length, get_or, set, Bool, true, false, cond, map, Option, below_more, arith}
-use Rattle.std.specs.Prelude.{ℤ, ◌+ℤ◌, ◌-ℤ◌, FitsSigned, IfSome}
+use Rattle.std.proofs.Common.{◌≡◌, ◌≢◌, ◌∙◌, refl, sym, ap, ap₂, subst, ℕ, zero, suc, ◌+◌, ◌-◌, ◌*◌, ◌^◌, ◌<◌, ◌≤◌, List, ◌∷◌, length, max, get_or, set, Bool, true, false, cond, map, Option, below_more, arith}
+use Rattle.std.specs.Prelude.{ℤ, pos, neg_ℤ, ◌+ℤ◌, ◌-ℤ◌, ◌*ℤ◌, FitsSigned, IfSome}
 use Rattle.std.specs.Int.{from_bool, w64}
 use Rattle.std.specs.List.{range_with_len}
 use Rattle.std.proofs.lemmas.List.{get_or-set_other, get_or-set_same}
 use Rattle.std.proofs.Math.Nat.{pow-suc}
-use Rattle.definitions.specs.Arithmetic.{Is, judged, minus, plus}
+use Rattle.definitions.specs.Arithmetic.{Meaning, Is, minus, plus, times}
 use Rattle.definitions.specs.Scanning.{word_of}
-use Rattle.definitions.specs.Truth.{is_true, known}
-use Rattle.definitions.specs.Value.{Number}
-use Rattle.expr.proofs.Shorts.{judged_short, minus_short, plus_short}
+use Rattle.definitions.specs.Truth.{compared, is_true, known}
+use Rattle.definitions.specs.Value.{Value, Number}
+use Rattle.definitions.specs.Statement.{ComparisonOperator}
+use Rattle.definitions.specs.Queries.Combinations.{is_surely_true}
+use Rattle.definitions.specs.Queries.Evaluation.{on_two}
+use Rattle.expr.proofs.Shorts.{in_bounds, judged_short, neg_by, one_of, same_size, size_fits}
 
 -- what holds of each place before one holds of each up to it, once the element there is one of which it holds
 pub one_more_place : {X : Type 0} (P : ℕ → X → Type 0) (xs : List X) (i : ℕ) (x d : X) → i < length xs → ((k : ℕ) → k < i → P k (get_or xs k d)) → P i x → (k : ℕ) → k < i + 1 → P k (get_or (set xs i x) k d)
@@ -50,11 +53,30 @@ before_fits place count word flag less fits =
 
 -- ---- what operators make of units
 
-pub plus_units : (a b s : ℤ) (m n scale : ℕ) → FitsSigned w64 a → FitsSigned w64 b → FitsSigned w64 s → s ≡ a +ℤ b → (n ≡ m) × (scale ≡ m) → plus (Number a m) (Number b n) ≡ Is (Number s scale)
-plus_units a b s m n scale fa fb fs e (same, at) = rw (same, at) (plus_short a b m fa fb ∙ ap (λ z. judged z m) (sym e) ∙ judged_short s m fs)
+module _ (a b x y s : ℤ) (m n scale : ℕ) (left : x ≡ a *ℤ pos (10 ^ (n - m))) (right : y ≡ b *ℤ pos (10 ^ (m - n))) (at : scale ≡ max m n) (fx : FitsSigned w64 x) (fy : FitsSigned w64 y) (fs : FitsSigned w64 s) where
+  up : x ≡ a *ℤ pos (10 ^ (max m n - m))
+  up = let e : n - m ≡ max m n - m = omega arith in left ∙ ap (λ k. a *ℤ pos (10 ^ k)) e
 
-pub minus_units : (a b s : ℤ) (m n scale : ℕ) → FitsSigned w64 a → FitsSigned w64 b → FitsSigned w64 s → s ≡ a -ℤ b → (n ≡ m) × (scale ≡ m) → minus (Number a m) (Number b n) ≡ Is (Number s scale)
-minus_units a b s m n scale fa fb fs e (same, at) = rw (same, at) (minus_short a b m fa fb ∙ ap (λ z. judged z m) (sym e) ∙ judged_short s m fs)
+  down : y ≡ b *ℤ pos (10 ^ (max m n - n))
+  down = let e : m - n ≡ max m n - n = omega arith in right ∙ ap (λ k. b *ℤ pos (10 ^ k)) e
+
+  pub plus_units : s ≡ x +ℤ y → plus (Number a m) (Number b n) ≡ Is (Number s scale)
+  plus_units e = rw (← up, ← down, in_bounds x (size_fits x fx), in_bounds y (size_fits y fy), ← e, ← at) (judged_short s scale fs)
+
+  pub minus_units : s ≡ x -ℤ y → minus (Number a m) (Number b n) ≡ Is (Number s scale)
+  minus_units e = rw (neg_by b (10 ^ (max m n - n)), ← up, ← down, in_bounds x (size_fits x fx), in_bounds (neg_ℤ y) (rw (same_size y) (size_fits y fy)), ← e, ← at) (judged_short s scale fs)
+
+-- a product of numbers that stand as they are
+pub times_units : (a b x y s : ℤ) (m n scale : ℕ) → x ≡ a *ℤ pos 1 → y ≡ b *ℤ pos 1 → scale ≡ m + n → FitsSigned w64 s → s ≡ x *ℤ y → times (Number a m) (Number b n) ≡ Is (Number s scale)
+times_units a b x y s m n scale left right at fs e =
+    let same : s ≡ a *ℤ b = e ∙ ap₂ (λ u v. u *ℤ v) (left ∙ one_of a) (right ∙ one_of b) in
+    rw (← same, ← at) (judged_short s scale fs)
+
+-- ---- comparisons
+
+-- a comparison of two values that are told
+pub compared_told : (op : ComparisonOperator) (k l : Meaning Value) (v w : Value) → k ≡ Is v → l ≡ Is w → is_surely_true (on_two (compared op) k l) ≡ is_true (compared op v w)
+compared_told op k l v w e f = rw (e, f) refl
 
 pub known_true : (b : Bool) → b ≡ is_true (known b)
 known_true true = refl

@@ -1,11 +1,12 @@
 -- The values of an expression on many rows.
-use Rattle.std.specs.Prelude.{ℕ, ℤ, ◌+◌, ◌<◌, ◌≡◌, Option, Some, None, get_or}
+use Rattle.std.specs.Prelude.{ℕ, ℤ, pos, ◌+◌, ◌-◌, ◌^◌, ◌<◌, ◌≡◌, max, Option, Some, None, get_or}
 use Rattle.definitions.specs.Arithmetic.{Is}
 use Rattle.definitions.specs.Value.{Value, Null, Number}
 use Rattle.definitions.specs.Queries.BoundBlock.{ValueExpr}
 use Rattle.definitions.specs.Queries.Evaluation.{Environment, value}
 use Rattle.query_tree.specs.declared.leaf.Operator.{Operator}
 use Rattle.query_tree.specs.declared.leaf.Operator.TheVariants.{Plus, Minus, Times, Over}
+use Rattle.expr.specs.declared.vectors.Scaling.{Scaling}
 use Rattle.expr.specs.declared.vectors.Vector.{Vector}
 
 -- the number of so many units at a scale; none is null
@@ -21,9 +22,14 @@ abbrev pub AreValues : (ℕ → Environment) → ValueExpr → (first count : �
 AreValues on expr first count vector =
     (place : ℕ) → place < count → value (on (first + place)) expr ≡ Is (value_at vector place)
 
--- at which scale units stand that an operator makes of units at scales
-abbrev pub IsScaleOf : Operator → (left right scale : ℕ) → Type 0
-IsScaleOf Plus left right scale = (right ≡ left) × (scale ≡ left)
-IsScaleOf Minus left right scale = (right ≡ left) × (scale ≡ left)
-IsScaleOf Times left right scale = scale ≡ left + right
-IsScaleOf Over left right scale = ⊥
+-- both come to the greater scale
+abbrev pub IsCommon : (left right : ℕ) → Scaling → Type 0
+IsCommon left right s =
+    (s.times_left ≡ pos (10 ^ (right - left))) × (s.times_right ≡ pos (10 ^ (left - right))) × (s.scale ≡ max left right)
+
+-- what operands' units are multiplied by for an operator, and at which scale its result stands
+abbrev pub IsScaling : Operator → (left right : ℕ) → Scaling → Type 0
+IsScaling Plus left right s = IsCommon left right s
+IsScaling Minus left right s = IsCommon left right s
+IsScaling Times left right s = (s.times_left ≡ pos 1) × (s.times_right ≡ pos 1) × (s.scale ≡ left + right)
+IsScaling Over left right s = ⊥

@@ -9,7 +9,7 @@ ghost use Rattle.definitions.specs.Queries.Combinations.{is_surely_true};
 ghost use Rattle.definitions.specs.Queries.Evaluation as meaning;
 ghost use Rattle.sqlvalue.specs.Meaning.{number_of, op_of, value_of};
 ghost use Rattle.query_tree.specs.Bound.{column_of, condition_of, operator_of, value_of as tree_of};
-ghost use Rattle.expr.specs.Vectors.{of_units, value_at, AreValues, IsScaleOf};
+ghost use Rattle.expr.specs.Vectors.{of_units, value_at, AreValues, IsScaling};
 
 use crate::many_rows::ManyRows;
 use query_tree::{BlockColumn, Condition, Operator, ValueExpr};
@@ -22,6 +22,14 @@ const MOST_LEVELS: u8 = 8;
 #[derive(Clone, Copy)]
 pub(crate) struct Vector {
     units: [Option<i64>; 64],
+    scale: u8,
+}
+
+/// By what the units of two operands are multiplied for an operator, and the scale of what comes of it.
+#[derive(Clone, Copy)]
+pub(crate) struct Scaling {
+    times_left: i64,
+    times_right: i64,
     scale: u8,
 }
 
@@ -59,7 +67,7 @@ fn scale_of(expr: &ValueExpr, levels: u8) -> Option<u8> {
             let mut scale = scale_of(first, below)?;
             for operand in others {
                 let right = scale_of(&operand.value, below)?;
-                scale = applied_scale(operand.operator, scale, right)?;
+                scale = scaling_of(operand.operator, scale, right)?.scale;
             }
             Some(scale)
         }
@@ -186,36 +194,55 @@ fn applied(operator: Operator, left: &Vector, right: &Vector, count: usize) -> O
         meaning.operation (operator_of operator) (value_at left.now place) (value_at right.now place)
         ≡ Is (value_at vector place)) }
 {
-    let scale = applied_scale(operator, left.scale, right.scale)?;
+    let scaling = scaling_of(operator, left.scale, right.scale)?;
     let mut units = [None; 64];
     for place in 0..count {
-        units[place] = applied_units(operator, left.units[place], right.units[place])?;
+        units[place] = applied_units(operator, scaling, left.units[place], right.units[place])?;
     }
-    Some(Vector { units, scale })
+    Some(Vector {
+        units,
+        scale: scaling.scale,
+    })
 }
 
-/// The scale of what an operator makes of units as they are.
-fn applied_scale(operator: Operator, left: u8, right: u8) -> Option<u8>
-    ensures { IfSome result (IsScaleOf operator left right) }
+/// To what operands' units are brought for an operator, and the scale of what it makes of them: that of a sum is the greater one, to which
+/// both come, that of a product the sum of the scales (ISO/IEC 9075:1992, 6.12).
+fn scaling_of(operator: Operator, left: u8, right: u8) -> Option<Scaling>
+    ensures { IfSome result (IsScaling operator left right) }
 {
     match operator {
-        Operator::Plus | Operator::Minus if left == right => Some(left),
-        Operator::Times => left.checked_add(right),
-        _ => None,
+        Operator::Plus | Operator::Minus => Some(Scaling {
+            times_left: power(right.saturating_sub(left))?,
+            times_right: power(left.saturating_sub(right))?,
+            scale: left.max(right),
+        }),
+        Operator::Times => Some(Scaling {
+            times_left: 1,
+            times_right: 1,
+            scale: left.checked_add(right)?,
+        }),
+        Operator::Over => None,
     }
 }
 
-fn applied_units(operator: Operator, left: Option<i64>, right: Option<i64>) -> Option<Option<i64>>
-    ensures { (m n scale : ℕ) → IsScaleOf operator m n scale → IfSome result (λ units.
-        meaning.operation (operator_of operator) (of_units m left) (of_units n right) ≡ Is (of_units scale units)) }
+fn applied_units(
+    operator: Operator,
+    scaling: Scaling,
+    left: Option<i64>,
+    right: Option<i64>,
+) -> Option<Option<i64>>
+    ensures { (m n : ℕ) → IsScaling operator m n scaling → IfSome result (λ units.
+        meaning.operation (operator_of operator) (of_units m left) (of_units n right) ≡ Is (of_units scaling.scale units)) }
 {
     let (Some(a), Some(b)) = (left, right) else {
         return Some(None);
     };
+    let x = a.checked_mul(scaling.times_left)?;
+    let y = b.checked_mul(scaling.times_right)?;
     match operator {
-        Operator::Plus => Some(Some(a.checked_add(b)?)),
-        Operator::Minus => Some(Some(a.checked_sub(b)?)),
-        Operator::Times => Some(Some(a.checked_mul(b)?)),
+        Operator::Plus => Some(Some(x.checked_add(y)?)),
+        Operator::Minus => Some(Some(x.checked_sub(y)?)),
+        Operator::Times => Some(Some(x.checked_mul(y)?)),
         Operator::Over => None,
     }
 }

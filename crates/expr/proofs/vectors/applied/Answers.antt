@@ -15,6 +15,6 @@ loop-place-preserved c =
     let within : c.loop-place.place < length c.loop-place.units = omega (arith, c.loop-place.invariant.long) in
     record {
       long = simp length-set c.loop-place.invariant.long;
-      told = one_more_place (λ (k : ℕ) (u : Option ℤ). meaning.operation (operator_of c.args.operator) (value_at left k) (value_at right k) ≡ Is (of_units c.in_ok-scale.scale u)) c.loop-place.units c.loop-place.place c.in_ok-units.field-0 None within c.loop-place.invariant.told
-          (c.in_ok-units.ensures left.scale right.scale c.in_ok-scale.scale c.in_ok-scale.ensures);
+      told = one_more_place (λ (k : ℕ) (u : Option ℤ). meaning.operation (operator_of c.args.operator) (value_at left k) (value_at right k) ≡ Is (of_units c.in_ok-scaling.scaling.scale u)) c.loop-place.units c.loop-place.place c.in_ok-units.field-0 None within c.loop-place.invariant.told
+          (c.in_ok-units.ensures left.scale right.scale c.in_ok-scaling.ensures);
     }

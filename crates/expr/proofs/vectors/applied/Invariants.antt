@@ -9,5 +9,5 @@ use Rattle.expr.proofs.vectors.applied.Given as goal
 abbrev pub invariant-loop-place : goal.invariant-loop-place
 invariant-loop-place l = record {
   long : length l.units ≡ 64;
-  told : (k : ℕ) → k < l.place → meaning.operation (operator_of l.operator) (value_at l.left k) (value_at l.right k) ≡ Is (of_units l.scale (get_or l.units k None));
+  told : (k : ℕ) → k < l.place → meaning.operation (operator_of l.operator) (value_at l.left k) (value_at l.right k) ≡ Is (of_units l.scaling.scale (get_or l.units k None));
 }

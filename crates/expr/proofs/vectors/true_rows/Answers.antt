@@ -1,4 +1,4 @@
-use Rattle.std.proofs.Common.{◌≡◌, ◌∙◌, ◌+◌, ◌<◌, ap, ap₂, sym, ℕ, Bool, arith, map}
+use Rattle.std.proofs.Common.{◌≡◌, ◌∙◌, ◌+◌, ◌<◌, ap, sym, ℕ, Bool, arith, map}
 use Rattle.std.specs.List.{range_with_len}
 use Rattle.definitions.specs.Scanning.{word_of}
 use Rattle.definitions.specs.Truth.{compared, is_true}
@@ -6,10 +6,10 @@ use Rattle.definitions.specs.Queries.BoundBlock as spec
 use Rattle.definitions.specs.Queries.Combinations.{is_surely_true}
 use Rattle.definitions.specs.Queries.Evaluation as meaning
 use Rattle.sqlvalue.specs.Meaning.{op_of}
-use Rattle.query_tree.specs.Bound.{condition_of}
+use Rattle.query_tree.specs.Bound.{condition_of, value_of as tree_of}
 use Rattle.query_tree.proofs.Views.{of_compare}
 use Rattle.expr.specs.Vectors.{value_at}
-use Rattle.expr.proofs.Places.{rows_alike, told_alike}
+use Rattle.expr.proofs.Places.{compared_told, rows_alike, told_alike}
 use Rattle.expr.proofs.vectors.true_rows.Goals as goal
 
 pub returns : goal.returns
@@ -24,6 +24,6 @@ returns g c =
     let same : (k : ℕ) → k < count → test (first + k) ≡ met (0 + k) = λ k less.
     let here : k ≡ 0 + k = omega arith in
     ap (λ (condition : spec.Condition). is_surely_true (meaning.truth (on (first + k)) condition)) tree
-    ∙ ap₂ (λ x y. is_surely_true (meaning.on_two (compared op) x y)) (c.in_ok-a.ensures k less) (c.in_ok-b.ensures k less)
+    ∙ compared_told op (meaning.value (on (first + k)) (tree_of c.in-Compare.left)) (meaning.value (on (first + k)) (tree_of c.in-Compare.right)) (value_at c.in_ok-a.a k) (value_at c.in_ok-b.b k) (c.in_ok-a.ensures k less) (c.in_ok-b.ensures k less)
     ∙ ap met here in
     told_alike c.met_rows.result (word_of (map met (range_with_len 0 count))) (word_of (map test (range_with_len first count))) (ap word_of (sym (rows_alike test met first 0 count same))) c.met_rows.ensures
