@@ -21,6 +21,12 @@ one_more_place P xs i x d within before here =
     (λ k less. let other : k ≢ i = omega (arith, less) in subst (P k) (sym (get_or-set_other xs i k x d other)) (before k less))
     (subst (P i) (sym (get_or-set_same xs i x d within)) here)
 
+-- the places from one on are as they were, and stay so behind it
+pub rest_unchanged : {X : Type 0} (xs ys : List X) (i : ℕ) (x d : X) → ((k : ℕ) → i ≤ k → get_or xs k d ≡ get_or ys k d) → (k : ℕ) → i + 1 ≤ k → get_or (set xs i x) k d ≡ get_or ys k d
+rest_unchanged xs ys i x d h k beyond =
+    let other : k ≢ i = omega (arith, beyond) in
+    get_or-set_other xs i k x d other ∙ h k (omega (arith, beyond))
+
 -- ---- words
 
 -- tests of the places from one on, and of the rows from another on, that tell the same

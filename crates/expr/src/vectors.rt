@@ -1,4 +1,5 @@
-//! Comparisons of arithmetic on many rows at a time: of each part of an expression the values on all rows, before the next part.
+//! Comparisons of arithmetic on many rows at a time: of each part of an expression the values on all rows, before the next part. They are
+//! numbers of one scale or null, kept as the units of each, or none, in an array that the caller lends.
 
 ghost use Rattle.std.specs.Prelude.{◌≡◌, ◌≤◌, ◌<◌, ◌+◌, ◌^◌, ◌-◌, ℕ, pos, true, map, IfSome};
 ghost use Rattle.std.specs.List.{range_with_len};
@@ -17,13 +18,6 @@ use sqlvalue::{ComparisonOperator, Num, SqlType, Value};
 
 /// How many levels an expression may have of which vectors are made: each takes some thousand bytes of the stack (own).
 const MOST_LEVELS: u8 = 8;
-
-/// The values of an expression on as many as 64 rows, which are numbers of one scale or null: the units of each, or none.
-#[derive(Clone, Copy)]
-pub(crate) struct Vector {
-    units: [Option<i64>; 64],
-    scale: u8,
-}
 
 /// By what the units of two operands are multiplied for an operator, and the scale of what comes of it.
 #[derive(Clone, Copy)]
@@ -51,9 +45,11 @@ pub fn true_rows<S: ManyRows>(
         return None;
     };
     let _scales = (scale_of(left, MOST_LEVELS)?, scale_of(right, MOST_LEVELS)?);
-    let a = vector_of(left, rows, first, count)?;
-    let b = vector_of(right, rows, first, count)?;
-    met_rows(*op, &a, &b, count)
+    let mut a = [None; 64];
+    let m = write_values(left, rows, first, count, &mut a)?;
+    let mut b = [None; 64];
+    let n = write_values(right, rows, first, count, &mut b)?;
+    met_rows(*op, m, &a, n, &b, count)
 }
 
 /// The scale that the values of an expression have, if it is one of those of which vectors are made, and has no more than so many levels.
@@ -83,53 +79,62 @@ fn column_scale(sql_type: SqlType) -> Option<u8> {
     }
 }
 
-/// The values of an expression on so many rows from `first` on.
-fn vector_of<S: ManyRows>(expr: &ValueExpr, rows: &S, first: usize, count: usize) -> Option<Vector>
+/// Writes the values of an expression on so many rows from `first` on, and gives their scale. None says nothing.
+fn write_values<S: ManyRows>(
+    expr: &ValueExpr,
+    rows: &S,
+    first: usize,
+    count: usize,
+    units: &mut [Option<i64>; 64],
+) -> Option<u8>
     requires few { count ≤ 64 }
     requires small { first + count ≤ 2 ^ 32 }
-    ensures { IfSome result (AreValues (S.environment rows.now) (tree_of expr.now) first count) }
+    ensures { IfSome result (AreValues (S.environment rows.now) (tree_of expr.now) first count units.new) }
 {
     match expr {
         ValueExpr::Column { column, sql_type } => {
-            column_vector(*column, column_scale(*sql_type)?, rows, first, count)
+            write_column(*column, *sql_type, rows, first, count, units)
         }
-        ValueExpr::Number(literal) => number_vector(literal.number()),
+        ValueExpr::Number(literal) => write_number(literal.number(), units),
         ValueExpr::Signed { minus, operand } => {
-            under_sign(*minus, vector_of(operand, rows, first, count)?, count)
+            let scale = write_values(operand, rows, first, count, units)?;
+            put_under_sign(*minus, scale, count, units)
         }
         ValueExpr::Chain {
             first: operand,
             others,
         } => {
-            let mut left = vector_of(operand, rows, first, count)?;
+            let mut scale = write_values(operand, rows, first, count, units)?;
             for operand in others {
-                let right = vector_of(&operand.value, rows, first, count)?;
-                left = applied(operand.operator, &left, &right, count)?;
+                let mut right = [None; 64];
+                let n = write_values(&operand.value, rows, first, count, &mut right)?;
+                scale = apply(operand.operator, scale, units, n, &right, count)?;
             }
-            Some(left)
+            Some(scale)
         }
         _ => None,
     }
 }
 
-/// The values in a column, if they are numbers of a scale or null.
-fn column_vector<S: ManyRows>(
+/// Writes the values in a column, if they are numbers of its type's scale or null.
+fn write_column<S: ManyRows>(
     column: BlockColumn,
-    scale: u8,
+    sql_type: SqlType,
     rows: &S,
     first: usize,
     count: usize,
-) -> Option<Vector>
+    units: &mut [Option<i64>; 64],
+) -> Option<u8>
     requires few { count ≤ 64 }
     requires small { first + count ≤ 2 ^ 32 }
-    ensures { IfSome result (λ vector. (place : ℕ) → place < count →
-        value_at vector place ≡ meaning.cell (S.environment rows.now (first + place)).combination (column_of column)) }
+    ensures { IfSome result (λ scale. (place : ℕ) → place < count → value_at scale units.new place
+        ≡ meaning.cell (S.environment rows.now (first + place)).combination (column_of column)) }
 {
-    let mut units = [None; 64];
+    let scale = column_scale(sql_type)?;
     for place in 0..count {
         units[place] = units_of(rows.cell(first + place, column), scale)?;
     }
-    Some(Vector { units, scale })
+    Some(scale)
 }
 
 /// The units of a value that is null or a number of a scale.
@@ -146,36 +151,32 @@ fn units_of(value: Value, scale: u8) -> Option<Option<i64>>
     }
 }
 
-/// A number on each row.
-fn number_vector(number: Num) -> Option<Vector>
-    ensures { IfSome result (λ vector. (place : ℕ) → place < 64 → value_at vector place ≡ number_of number) }
+/// Writes a number on each row.
+fn write_number(number: Num, units: &mut [Option<i64>; 64]) -> Option<u8>
+    ensures { IfSome result (λ scale. (place : ℕ) → place < 64 → value_at scale units.new place ≡ number_of number) }
 {
     match i64::try_from(number.units) {
-        Ok(units) => Some(Vector {
-            units: [Some(units); 64],
-            scale: number.scale,
-        }),
+        Ok(n) => {
+            *units = [Some(n); 64];
+            Some(number.scale)
+        }
         Err(_) => None,
     }
 }
 
-/// Values under a sign: minus, or else plus (ISO/IEC 9075:1992, 6.12).
-fn under_sign(minus: bool, operand: Vector, count: usize) -> Option<Vector>
+/// Puts values under a sign: minus, or else plus (ISO/IEC 9075:1992, 6.12).
+fn put_under_sign(minus: bool, scale: u8, count: usize, units: &mut [Option<i64>; 64]) -> Option<u8>
     requires { count ≤ 64 }
-    ensures { IfSome result (λ vector. (place : ℕ) → place < count →
-        value_at vector place ≡ meaning.signed minus (value_at operand place)) }
+    ensures { IfSome result (λ own. (place : ℕ) → place < count →
+        value_at own units.new place ≡ meaning.signed minus (value_at scale units.old place)) }
 {
     if !minus {
-        return Some(operand);
+        return Some(scale);
     }
-    let mut units = [None; 64];
     for place in 0..count {
-        units[place] = negative(operand.units[place])?;
+        units[place] = negative(units[place])?;
     }
-    Some(Vector {
-        units,
-        scale: operand.scale,
-    })
+    Some(scale)
 }
 
 fn negative(units: Option<i64>) -> Option<Option<i64>>
@@ -187,22 +188,25 @@ fn negative(units: Option<i64>) -> Option<Option<i64>>
     }
 }
 
-/// Two operands with an operator between them: null where one is null (ISO/IEC 9075:1992, 6.12).
-fn applied(operator: Operator, left: &Vector, right: &Vector, count: usize) -> Option<Vector>
+/// Puts an operator and its right operands behind values, and gives the scale of what comes of it: null where one is null (ISO/IEC
+/// 9075:1992, 6.12).
+fn apply(
+    operator: Operator,
+    m: u8,
+    left: &mut [Option<i64>; 64],
+    n: u8,
+    right: &[Option<i64>; 64],
+    count: usize,
+) -> Option<u8>
     requires { count ≤ 64 }
-    ensures { IfSome result (λ vector. (place : ℕ) → place < count →
-        meaning.operation (operator_of operator) (value_at left.now place) (value_at right.now place)
-        ≡ Is (value_at vector place)) }
+    ensures { IfSome result (λ scale. (place : ℕ) → place < count → meaning.operation (operator_of operator)
+        (value_at m left.old place) (value_at n right.now place) ≡ Is (value_at scale left.new place)) }
 {
-    let scaling = scaling_of(operator, left.scale, right.scale)?;
-    let mut units = [None; 64];
+    let scaling = scaling_of(operator, m, n)?;
     for place in 0..count {
-        units[place] = applied_units(operator, scaling, left.units[place], right.units[place])?;
+        left[place] = applied_units(operator, scaling, left[place], right[place])?;
     }
-    Some(Vector {
-        units,
-        scale: scaling.scale,
-    })
+    Some(scaling.scale)
 }
 
 /// To what operands' units are brought for an operator, and the scale of what it makes of them: that of a sum is the greater one, to which
@@ -248,18 +252,25 @@ fn applied_units(
 }
 
 /// The rows on which a comparison of two values is true, brought to one scale: bit i is that of the row i (ISO/IEC 9075:1992, 8.2).
-fn met_rows(op: ComparisonOperator, left: &Vector, right: &Vector, count: usize) -> Option<u64>
+fn met_rows(
+    op: ComparisonOperator,
+    m: u8,
+    left: &[Option<i64>; 64],
+    n: u8,
+    right: &[Option<i64>; 64],
+    count: usize,
+) -> Option<u64>
     requires { count ≤ 64 }
     ensures { IfSome result (λ word. word ≡ word_of (map (λ place. is_true (compared (op_of op)
-        (value_at left.now place) (value_at right.now place))) (range_with_len 0 count))) }
+        (value_at m left.now place) (value_at n right.now place))) (range_with_len 0 count))) }
 {
-    let m = power(right.scale.saturating_sub(left.scale))?;
-    let n = power(left.scale.saturating_sub(right.scale))?;
+    let times_left = power(n.saturating_sub(m))?;
+    let times_right = power(m.saturating_sub(n))?;
     let mut word = 0;
     let mut place = count;
     while 0 < place {
         place -= 1;
-        let is_met = is_met(op, left.units[place], m, right.units[place], n)?;
+        let is_met = is_met(op, left[place], times_left, right[place], times_right)?;
         word = 2 * word + u64::from(is_met);
     }
     Some(word)

@@ -11,7 +11,7 @@ abbrev pub invariant-loop-place : goal.invariant-loop-place
 invariant-loop-place l = record {
   within : l.place ≤ l.count;
   fits : l.word < 2 ^ (l.count - l.place);
-  exact : l.word ≡ word_of (map (λ place. is_true (compared (op_of l.op) (value_at l.left place) (value_at l.right place))) (range_with_len l.place (l.count - l.place)));
+  exact : l.word ≡ word_of (map (λ place. is_true (compared (op_of l.op) (value_at l.m l.left place) (value_at l.n l.right place))) (range_with_len l.place (l.count - l.place)));
 }
 
 abbrev pub decreases-loop-place : goal.decreases-loop-place
