@@ -1,7 +1,7 @@
 //! Comparisons of arithmetic on many rows at a time: of each part of an expression the values on all rows, before the next part. They are
 //! numbers of one scale or null, kept as the units of each, or none, in an array that the caller lends.
 
-ghost use Rattle.std.specs.Prelude.{◌≡◌, ◌≤◌, ◌<◌, ◌+◌, ◌^◌, ◌-◌, ℕ, pos, true, map, IfSome};
+ghost use Rattle.std.specs.Prelude.{◌≡◌, ◌≤◌, ◌<◌, ◌+◌, ◌^◌, ◌-◌, ◌*ℤ◌, ℕ, pos, true, map, IfSome};
 ghost use Rattle.std.specs.List.{range_with_len};
 ghost use Rattle.definitions.specs.Arithmetic.{Is};
 ghost use Rattle.definitions.specs.Scanning.{word_of};
@@ -241,8 +241,8 @@ fn applied_units(
     let (Some(a), Some(b)) = (left, right) else {
         return Some(None);
     };
-    let x = a.checked_mul(scaling.times_left)?;
-    let y = b.checked_mul(scaling.times_right)?;
+    let x = multiplied(a, scaling.times_left)?;
+    let y = multiplied(b, scaling.times_right)?;
     match operator {
         Operator::Plus => Some(Some(x.checked_add(y)?)),
         Operator::Minus => Some(Some(x.checked_sub(y)?)),
@@ -290,9 +290,19 @@ fn is_met(
     let (Some(a), Some(b)) = (left, right) else {
         return Some(false);
     };
-    let a = a.checked_mul(times_left)?;
-    let b = b.checked_mul(times_right)?;
+    let a = multiplied(a, times_left)?;
+    let b = multiplied(b, times_right)?;
     Some(op.agrees(a.cmp(&b)))
+}
+
+/// Units times what brings them to a scale, which is 1 for most.
+fn multiplied(units: i64, power: i64) -> Option<i64>
+    ensures { IfSome result (λ product. product ≡ units *ℤ power) }
+{
+    if power == 1 {
+        return Some(units);
+    }
+    units.checked_mul(power)
 }
 
 fn power(digits: u8) -> Option<i64>
