@@ -8,13 +8,13 @@ ghost use Rattle.definitions.specs.Scanning.{word_of};
 ghost use Rattle.definitions.specs.Truth.{compared, is_true};
 ghost use Rattle.definitions.specs.Queries.Combinations.{is_surely_true};
 ghost use Rattle.definitions.specs.Queries.Evaluation as meaning;
-ghost use Rattle.sqlvalue.specs.Meaning.{number_of, op_of, value_of};
+ghost use Rattle.sqlvalue.specs.Meaning.{op_of, value_of};
 ghost use Rattle.query_tree.specs.Bound.{column_of, condition_of, operator_of, value_of as tree_of};
 ghost use Rattle.expr.specs.Vectors.{of_units, value_at, AreValues, IsScaling};
 
 use crate::many_rows::ManyRows;
 use query_tree::{BlockColumn, Condition, Operator, ValueExpr};
-use sqlvalue::{ComparisonOperator, Num, SqlType, Value};
+use sqlvalue::{ComparisonOperator, SqlType, Value};
 
 /// How many levels an expression may have of which vectors are made: each takes some thousand bytes of the stack (own).
 const MOST_LEVELS: u8 = 8;
@@ -28,7 +28,7 @@ pub(crate) struct Scaling {
 }
 
 /// Of so many rows from `first` on, those on which a condition is true, where that is found for all of them together: it is a comparison of
-/// what is made of columns and numbers by signs, sums, differences and products, and all that is met fits 64 bits (ISO/IEC 9075:1992, 8.2 and
+/// what is made of columns, parameters and numbers by signs, sums, differences and products, and all that is met fits 64 bits (ISO/IEC 9075:1992, 8.2 and
 /// 6.12). Bit i of the word is that of the row `first + i`. None says nothing.
 pub fn true_rows<S: ManyRows>(
     condition: &Condition,
@@ -56,7 +56,9 @@ pub fn true_rows<S: ManyRows>(
 fn scale_of(expr: &ValueExpr, levels: u8) -> Option<u8> {
     let below = levels.checked_sub(1)?;
     match expr {
-        ValueExpr::Column { sql_type, .. } => column_scale(*sql_type),
+        ValueExpr::Column { sql_type, .. } | ValueExpr::Parameter { sql_type, .. } => {
+            column_scale(*sql_type)
+        }
         ValueExpr::Number(literal) => Some(literal.scale),
         ValueExpr::Signed { operand, .. } => scale_of(operand, below),
         ValueExpr::Chain { first, others } => {
@@ -95,7 +97,17 @@ fn write_values<S: ManyRows>(
         ValueExpr::Column { column, sql_type } => {
             write_column(*column, *sql_type, rows, first, count, units)
         }
-        ValueExpr::Number(literal) => write_number(literal.number(), units),
+        ValueExpr::Parameter {
+            between,
+            column,
+            sql_type,
+        } => {
+            let scale = column_scale(*sql_type)?;
+            write_same(rows.parameter(*between, *column), scale, units)
+        }
+        ValueExpr::Number(literal) => {
+            write_same(Value::Num(literal.number()), literal.scale, units)
+        }
         ValueExpr::Signed { minus, operand } => {
             let scale = write_values(operand, rows, first, count, units)?;
             put_under_sign(*minus, scale, count, units)
@@ -151,17 +163,13 @@ fn units_of(value: Value, scale: u8) -> Option<Option<i64>>
     }
 }
 
-/// Writes a number on each row.
-fn write_number(number: Num, units: &mut [Option<i64>; 64]) -> Option<u8>
-    ensures { IfSome result (λ scale. (place : ℕ) → place < 64 → value_at scale units.new place ≡ number_of number) }
+/// Writes a value that is the same on all rows, if it is null or a number of a scale.
+fn write_same(value: Value, scale: u8, units: &mut [Option<i64>; 64]) -> Option<u8>
+    ensures { IfSome result (λ own. (place : ℕ) → place < 64 → value_at own units.new place ≡ value_of value.entry) }
 {
-    match i64::try_from(number.units) {
-        Ok(n) => {
-            *units = [Some(n); 64];
-            Some(number.scale)
-        }
-        Err(_) => None,
-    }
+    let same = units_of(value, scale)?;
+    *units = [same; 64];
+    Some(scale)
 }
 
 /// Puts values under a sign: minus, or else plus (ISO/IEC 9075:1992, 6.12).
