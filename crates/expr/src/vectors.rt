@@ -6,6 +6,7 @@ ghost use Rattle.std.specs.List.{range_with_len};
 ghost use Rattle.definitions.specs.Arithmetic.{Is};
 ghost use Rattle.definitions.specs.Scanning.{word_of};
 ghost use Rattle.definitions.specs.Truth.{compared, is_true};
+ghost use Rattle.definitions.specs.Queries.BoundBlock as spec;
 ghost use Rattle.definitions.specs.Queries.Combinations.{is_surely_true};
 ghost use Rattle.definitions.specs.Queries.Evaluation as meaning;
 ghost use Rattle.sqlvalue.specs.Meaning.{op_of, value_of};
@@ -27,9 +28,9 @@ pub(crate) struct Scaling {
     scale: u8,
 }
 
-/// Of so many rows from `first` on, those on which a condition is true, where that is found for all of them together: it is a comparison of
-/// what is made of columns, parameters and numbers by signs, sums, differences and products, and all that is met fits 64 bits (ISO/IEC 9075:1992, 8.2 and
-/// 6.12). Bit i of the word is that of the row `first + i`. None says nothing.
+/// Of so many rows from `first` on, those on which a condition is true, where that is found for all of them together: it compares what is
+/// made of columns, parameters and numbers by signs, sums, differences and products, and all that is met fits 64 bits (ISO/IEC 9075:1992,
+/// 8.2, 8.3 and 6.12). Bit i of the word is that of the row `first + i`. None says nothing.
 pub fn true_rows<S: ManyRows>(
     condition: &Condition,
     rows: &S,
@@ -41,15 +42,77 @@ pub fn true_rows<S: ManyRows>(
     ensures { IfSome result (λ word. word ≡ word_of (map (λ row. is_surely_true
         (meaning.truth (S.environment rows.now row) (condition_of condition.now))) (range_with_len first count))) }
 {
-    let Condition::Compare { op, left, right } = condition else {
-        return None;
-    };
+    match condition {
+        Condition::Compare { op, left, right } => {
+            compared_rows(*op, left, right, rows, first, count)
+        }
+        Condition::Between {
+            negated,
+            value,
+            low,
+            high,
+        } => between_rows(*negated, value, low, high, rows, first, count),
+        _ => None,
+    }
+}
+
+/// Those on which a comparison is true (ISO/IEC 9075:1992, 8.2).
+fn compared_rows<S: ManyRows>(
+    op: ComparisonOperator,
+    left: &ValueExpr,
+    right: &ValueExpr,
+    rows: &S,
+    first: usize,
+    count: usize,
+) -> Option<u64>
+    requires few { count ≤ 64 }
+    requires small { first + count ≤ 2 ^ 32 }
+    ensures { IfSome result (λ word. word ≡ word_of (map (λ row. is_surely_true (meaning.truth
+        (S.environment rows.now row) (spec.Compare (op_of op) (tree_of left.now) (tree_of right.now))))
+        (range_with_len first count))) }
+{
     let _scales = (scale_of(left, MOST_LEVELS)?, scale_of(right, MOST_LEVELS)?);
     let mut a = [None; 64];
     let m = write_values(left, rows, first, count, &mut a)?;
     let mut b = [None; 64];
     let n = write_values(right, rows, first, count, &mut b)?;
-    met_rows(*op, m, &a, n, &b, count)
+    met_rows(op, m, &a, n, &b, count)
+}
+
+/// Those on which a value lies from one to another, both included, or else doesn't (ISO/IEC 9075:1992, 8.3).
+fn between_rows<S: ManyRows>(
+    negated: bool,
+    value: &ValueExpr,
+    low: &ValueExpr,
+    high: &ValueExpr,
+    rows: &S,
+    first: usize,
+    count: usize,
+) -> Option<u64>
+    requires few { count ≤ 64 }
+    requires small { first + count ≤ 2 ^ 32 }
+    ensures { IfSome result (λ word. word ≡ word_of (map (λ row. is_surely_true (meaning.truth (S.environment rows.now row)
+        (spec.Between negated (tree_of value.now) (tree_of low.now) (tree_of high.now)))) (range_with_len first count))) }
+{
+    let _scales = (
+        scale_of(value, MOST_LEVELS)?,
+        scale_of(low, MOST_LEVELS)?,
+        scale_of(high, MOST_LEVELS)?,
+    );
+    let mut a = [None; 64];
+    let k = write_values(value, rows, first, count, &mut a)?;
+    let mut b = [None; 64];
+    let m = write_values(low, rows, first, count, &mut b)?;
+    let mut c = [None; 64];
+    let n = write_values(high, rows, first, count, &mut c)?;
+    if negated {
+        let below = met_rows(ComparisonOperator::LessThan, k, &a, m, &b, count)?;
+        let above = met_rows(ComparisonOperator::GreaterThan, k, &a, n, &c, count)?;
+        return Some(below | above);
+    }
+    let from = met_rows(ComparisonOperator::GreaterOrEquals, k, &a, m, &b, count)?;
+    let to = met_rows(ComparisonOperator::LessOrEquals, k, &a, n, &c, count)?;
+    Some(from & to)
 }
 
 /// The scale that the values of an expression have, if it is one of those of which vectors are made, and has no more than so many levels.
