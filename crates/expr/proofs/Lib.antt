@@ -6,3 +6,4 @@ mod Members
 mod Parts
 mod Sizes
 mod Shorts
+mod Places

@@ -7,6 +7,7 @@ use Rattle.std.proofs.lemmas.Int.{ints}
 use Rattle.std.proofs.lemmas.Nat.{pow-add}
 use Rattle.std.proofs.lemmas.Bool.{cases_lt}
 use Rattle.std.proofs.lemmas.Bool.Decides.{nat_tests}
+use Rattle.std.proofs.Math.IntN.{neg_ℤ-neg_ℤ}
 use Rattle.std.proofs.Math.Nat.{mul_assoc}
 use Rattle.definitions.specs.Value.{Value, Number, number_cmp}
 use Rattle.definitions.specs.Arithmetic.{Meaning, Is, is_in_bounds, judged, plus, minus}
@@ -15,10 +16,10 @@ use Rattle.expr.specs.Shorts.{short_of}
 use Rattle.expr.specs.declared.short.Short.{Short}
 
 -- they are of far less than 38 digits
-size_fits : (z : ℤ) → FitsSigned w64 z → nat_abs z ≤ 2 ^ 63
+pub size_fits : (z : ℤ) → FitsSigned w64 z → nat_abs z ≤ 2 ^ 63
 size_fits z h = omega (arith, ints, h)
 
-in_bounds : (z : ℤ) → nat_abs z ≤ 2 ^ 63 → is_in_bounds z ≡ true
+pub in_bounds : (z : ℤ) → nat_abs z ≤ 2 ^ 63 → is_in_bounds z ≡ true
 in_bounds z h =
     let l : 2 ^ 63 < 10 ^ 38 = lit< tt in
     grind (arith, nat_tests, h, l)
@@ -28,14 +29,23 @@ judged_short z scale h = rw (in_bounds z (size_fits z h)) refl
 
 -- ---- sums
 
-one_of : (z : ℤ) → z *ℤ pos 1 ≡ z
+pub one_of : (z : ℤ) → z *ℤ pos 1 ≡ z
 one_of (pos n) = ap pos (omega arith)
 one_of (negsuc n) = let e : suc n * 1 ≡ suc n = omega arith in ap (λ k. neg_ℤ (pos k)) e
 
-same_size : (z : ℤ) → nat_abs (neg_ℤ z) ≡ nat_abs z
+pub same_size : (z : ℤ) → nat_abs (neg_ℤ z) ≡ nat_abs z
 same_size (pos zero) = refl
 same_size (pos (suc n)) = refl
 same_size (negsuc n) = refl
+
+neg_of_product : (n k : ℕ) → neg_ℤ (pos n) *ℤ pos k ≡ neg_ℤ (pos (n * k))
+neg_of_product zero k = let e : 0 * k ≡ 0 = omega arith in rw e refl
+neg_of_product (suc n) k = refl
+
+-- the sign of a product is that of its first factor
+pub neg_by : (z : ℤ) (k : ℕ) → neg_ℤ z *ℤ pos k ≡ neg_ℤ (z *ℤ pos k)
+neg_by (pos n) k = neg_of_product n k
+neg_by (negsuc n) k = sym (neg_ℤ-neg_ℤ (pos (suc n * k)))
 
 -- of one scale nothing has to be brought to another
 sum_at : (a b : ℤ) (m : ℕ) → nat_abs a ≤ 2 ^ 63 → nat_abs b ≤ 2 ^ 63 → plus (Number a m) (Number b m) ≡ judged (a +ℤ b) m
@@ -52,13 +62,9 @@ minus_short a b m f g = sum_at a (neg_ℤ b) m (size_fits a f) (rw (same_size b)
 
 -- ---- order
 
-neg_times : (n k : ℕ) → neg_ℤ (pos n) *ℤ pos k ≡ neg_ℤ (pos (n * k))
-neg_times zero k = let e : 0 * k ≡ 0 = omega arith in rw e refl
-neg_times (suc n) k = refl
-
 times_times : (a : ℤ) (j k : ℕ) → a *ℤ pos (j * k) ≡ (a *ℤ pos j) *ℤ pos k
 times_times (pos m) j k = ap pos (sym (mul_assoc m j k))
-times_times (negsuc m) j k = ap (λ x. neg_ℤ (pos x)) (sym (mul_assoc (suc m) j k)) ∙ sym (neg_times (suc m * j) k)
+times_times (negsuc m) j k = ap (λ x. neg_ℤ (pos x)) (sym (mul_assoc (suc m) j k)) ∙ sym (neg_of_product (suc m * j) k)
 
 -- a greater power in two steps
 two_steps : (a : ℤ) (m n k : ℕ) → n ≡ m + k → a *ℤ pos (10 ^ n) ≡ (a *ℤ pos (10 ^ m)) *ℤ pos (10 ^ k)

@@ -3,3 +3,4 @@ pub use Rattle.definitions.specs.Queries.CanRaise
 pub mod Answers
 pub mod Sizes
 pub mod Shorts
+pub mod Vectors

@@ -4,12 +4,16 @@
 mod condition;
 mod environments;
 mod evaluation;
+mod many_rows;
 mod operation;
 mod predicate;
 mod raising;
 mod short;
+mod vectors;
 
 pub use condition::truth;
 pub use environments::Environment;
 pub use evaluation::value;
+pub use many_rows::ManyRows;
 pub use raising::can_raise;
+pub use vectors::true_rows;

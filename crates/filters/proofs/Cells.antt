@@ -1,6 +1,9 @@
 -- The values in rows of a block's tables.
-use Rattle.std.proofs.Common.{◌≡◌, ◌∙◌, refl, ap, ℕ, zero, suc, ◌≤◌, List, [], ◌∷◌, length, get_or, Some, arith}
+use Rattle.std.proofs.Common.{◌≡◌, ◌∙◌, refl, ap, ℕ, zero, suc, ◌≤◌, List, [], ◌∷◌, length, get_or, Some, arith, ◌≢◌, sym, subst, ◌<◌, set, inl, inr}
+use Rattle.std.specs.Prelude.{◌⊎◌}
 use Rattle.std.specs.List.{AllByRecursion}
+use Rattle.std.proofs.lemmas.List.{get_or-set_other, get_or-set_same}
+use Rattle.std.proofs.Math.ListN.{length-set}
 use Rattle.definitions.specs.Value.{Value, Null}
 use Rattle.definitions.specs.Table.{Row, Table, Database}
 use Rattle.definitions.specs.Plans.Order.{BlockColumn}
@@ -44,3 +47,20 @@ module _ (db : Database) (block : Block) (table column row : ℕ) where
 pub cell_there : (db : Database) (block : Block) (composite : Composite) (column : BlockColumn)
     → cell (combination_of db block composite) column ≡ value_there db block column.table column.number (row_number composite column.table)
 cell_there db block composite column = ap (λ (r : Row). get_or r column.number Null) (row_of db block composite column.table)
+
+-- where a row comes to a composite: of the row that comes, or of the one that is there
+module _ (db : Database) (block : Block) (composite : Composite) (table row : ℕ) (column : BlockColumn) where
+  abbrev put : Composite
+  put = set composite table row
+
+  pub coming_cell : column.table ≡ table → column.table < length composite → value_there db block column.table column.number row ≡ cell (combination_of db block put) column
+  coming_cell same within =
+      let here : row_number put column.table ≡ row = ap (λ t. get_or put t 0) same ∙ get_or-set_same composite table row 0 (subst (λ t. t < length composite) same within) in
+      ap (value_there db block column.table column.number) (sym here) ∙ sym (cell_there db block put column)
+
+  pub other_cell : (column.table ≢ table) ⊎ (length composite ≤ column.table) → value_there db block column.table column.number (row_number composite column.table) ≡ cell (combination_of db block put) column
+  other_cell (inl other) = ap (value_there db block column.table column.number) (sym (get_or-set_other composite table column.table row 0 other)) ∙ sym (cell_there db block put column)
+  other_cell (inr beyond) =
+      let none : get_or composite column.table 0 ≡ 0 = past composite column.table 0 beyond in
+      let none_put : get_or put column.table 0 ≡ 0 = past put column.table 0 (rw length-set beyond) in
+      ap (value_there db block column.table column.number) (none ∙ sym none_put) ∙ sym (cell_there db block put column)

@@ -1,10 +1,11 @@
 -- Composites to which rows of a table come, and the words that tell of these rows.
-use Rattle.std.specs.Prelude.{ℕ, Bool, List, Option, length}
+use Rattle.std.specs.Prelude.{ℕ, Bool, List, Option, length, set}
 use Rattle.definitions.specs.Queries.BoundBlock.{Condition}
+use Rattle.definitions.specs.Queries.Evaluation.{Environment}
 use Rattle.definitions_execution.specs.Stored.{Composite}
 use Rattle.filters.specs.Composites.{numbers_in}
 use Rattle.filters.specs.JoinFilters.{all_true_with, met_with, passes_member, true_with, CanCome}
-use Rattle.filters.specs.Sources.{block_in}
+use Rattle.filters.specs.Sources.{block_in, environment_at}
 use Rattle.filters.specs.Words.{word_by}
 use Rattle.filters.specs.declared.candidate_rows.CandidateRows.{CandidateRows}
 use Rattle.filters.specs.declared.comparison.Comparison.{Comparison}
@@ -16,6 +17,11 @@ rows_by c test = word_by test c.first c.count
 
 abbrev pub numbers_of : {A : Type 0} {g : Ghosts A} → CandidateRows A g → Composite
 numbers_of c = numbers_in (length (block_in c.source.now).tables) c.from
+
+-- what conditions are evaluated in on the composite with a row
+abbrev pub environment_of : {A : Type 0} {g : Ghosts A} → CandidateRows A g → (row : ℕ) → Environment
+environment_of {g = g} c row =
+    environment_at c.source.now (g.combinations c.around.now) (set (numbers_of c) c.table row)
 
 -- the table is one of a block that is evaluated
 abbrev pub CanTest : {A : Type 0} {g : Ghosts A} → CandidateRows A g → Type 0

@@ -53,7 +53,7 @@ impl<'s, 'a, A: OuterRows> Environment for RowContext<'s, 'a, A> {
 }
 
 /// The number of a table's row in a composite.
-fn row_number(rows: &[u32], table: usize) -> usize
+pub(crate) fn row_number(rows: &[u32], table: usize) -> usize
     ensures { result ≡ number_in rows.now table }
 {
     match rows.get(table) {
