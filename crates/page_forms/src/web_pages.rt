@@ -1,10 +1,10 @@
 //! Pages as HTML.
 
 use crate::escapes::Escaped;
-use crate::graphs::Graph;
-use crate::pages::{Page, Part, Section};
 use crate::pictures::put_picture;
 use crate::web_tables::put_table;
+use crate::written::Written;
+use plan_pages::{Graph, Page, Part, Section};
 use std::alloc::{AllocError, Global};
 use std::fmt::Write;
 
@@ -43,60 +43,60 @@ footer { margin-top: 32px; border-top: 1px solid #999; font-size: 15px; }
 
 /// A page as one HTML file, without script and without parts outside it.
 pub fn page_html(alloc: Global, page: &Page) -> Result<String, AllocError> {
-    let mut out = String::from_str(alloc, HEAD)?;
+    let mut out = Written::new(alloc);
     let title = Escaped(&page.title);
-    writeln!(out, "<title>{title}</title>")?;
-    out.push_str(STYLE)?;
-    writeln!(out, "</head>\n<body>\n<h1>{title}</h1>")?;
+    out.put(HEAD);
+    let _ = writeln!(out, "<title>{title}</title>");
+    out.put(STYLE);
+    let _ = writeln!(out, "</head>\n<body>\n<h1>{title}</h1>");
     for section in &page.sections {
-        put_section(alloc, &mut out, section)?;
+        put_section(alloc, &mut out, section);
     }
-    put_foot(&mut out, &page.foot)?;
-    out.push_str("</body>\n</html>\n")?;
-    Ok(out)
+    put_foot(&mut out, &page.foot);
+    out.put("</body>\n</html>\n");
+    out.finish()
 }
 
-fn put_section(alloc: Global, out: &mut String, section: &Section) -> Result<(), AllocError> {
-    out.push_str("<section>\n")?;
+fn put_section(alloc: Global, out: &mut Written, section: &Section) {
+    out.put("<section>\n");
     if !section.title.is_empty() {
         let title = Escaped(&section.title);
-        writeln!(out, "<h2>{title}</h2>")?;
+        let _ = writeln!(out, "<h2>{title}</h2>");
     }
     for part in &section.parts {
-        put_part(alloc, out, part)?;
+        put_part(alloc, out, part);
     }
-    out.push_str("</section>\n")
+    out.put("</section>\n");
 }
 
-fn put_part(alloc: Global, out: &mut String, part: &Part) -> Result<(), AllocError> {
+fn put_part(alloc: Global, out: &mut Written, part: &Part) {
     match part {
         Part::Line { text, .. } => put_sentence(out, text),
         Part::Figure { title, value, .. } => {
             let title = Escaped(title);
-            writeln!(out, "<p>{title}: {value}</p>")
+            let _ = writeln!(out, "<p>{title}: {value}</p>");
         }
         Part::Table(table) => put_table(out, table),
         Part::Graph(graph) => put_graph(alloc, out, graph),
     }
 }
 
-fn put_sentence(out: &mut String, text: &str) -> Result<(), AllocError> {
+fn put_sentence(out: &mut Written, text: &str) {
     let text = Escaped(text);
-    writeln!(out, "<p>{text}</p>")
+    let _ = writeln!(out, "<p>{text}</p>");
 }
 
 /// Puts a graph, unless it is empty.
-fn put_graph(alloc: Global, out: &mut String, graph: &Graph) -> Result<(), AllocError> {
-    if graph.nodes.is_empty() {
-        return Ok(());
+fn put_graph(alloc: Global, out: &mut Written, graph: &Graph) {
+    if !graph.nodes.is_empty() && put_picture(alloc, out, graph).is_err() {
+        out.fail();
     }
-    put_picture(alloc, out, graph)
 }
 
-fn put_foot(out: &mut String, foot: &[String]) -> Result<(), AllocError> {
-    out.push_str("<footer>\n")?;
+fn put_foot(out: &mut Written, foot: &[String]) {
+    out.put("<footer>\n");
     for line in foot {
-        put_sentence(out, line)?;
+        put_sentence(out, line);
     }
-    out.push_str("</footer>\n")
+    out.put("</footer>\n");
 }

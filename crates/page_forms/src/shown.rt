@@ -1,6 +1,6 @@
 //! Which nodes of a graph are drawn.
 
-use crate::graphs::{Edge, Graph, NodeKind};
+use plan_pages::{Edge, Graph, NodeKind};
 use std::alloc::{AllocError, Global};
 
 /// How many nodes a graph has at most that is drawn as a whole.

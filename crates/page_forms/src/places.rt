@@ -1,7 +1,7 @@
 //! Where the columns of a table stand in its lines.
 
-use crate::tables::{Align, Table};
 use crate::text_rows::TextRow;
+use plan_pages::{Align, Table};
 use std::alloc::{AllocError, Global};
 
 /// How many blanks stand between two columns.

@@ -1,7 +1,7 @@
 //! Where the boxes of a graph's nodes stand.
 
 use crate::column_widths::columns_of;
-use crate::graphs::Graph;
+use plan_pages::Graph;
 use std::alloc::{AllocError, Global};
 
 /// How wide a picture is at most, in pixels.

@@ -2,9 +2,10 @@
 
 use crate::column_widths::split_fitting;
 use crate::escapes::Escaped;
-use crate::graphs::{Edge, Graph, Node, NodeKind};
 use crate::shown::{shown_count, shown_nodes};
 use crate::spots::{BOX_HEIGHT, CHARACTER, Layout, ROOM, Spot};
+use crate::written::Written;
+use plan_pages::{Edge, Graph, Node, NodeKind};
 use std::alloc::{AllocError, Global};
 use std::fmt::Write;
 
@@ -17,61 +18,68 @@ const ARCH: usize = 80;
 /// Adds a graph as SVG: layers from below upward, the plan's way marked.
 pub(crate) fn put_picture(
     alloc: Global,
-    out: &mut String,
+    out: &mut Written,
     graph: &Graph,
 ) -> Result<(), AllocError> {
     let shown = shown_nodes(alloc, graph)?;
     let layout = Layout::new(alloc, graph, &shown)?;
-    put_head(out, graph, &layout)?;
+    put_head(out, graph, &layout);
+    put_drawing(out, graph, &layout);
+    put_caption(out, graph, shown_count(&shown));
+    Ok(())
+}
+
+/// Adds edges, boxes above them, and labels above these.
+fn put_drawing(out: &mut Written, graph: &Graph, layout: &Layout) {
     for edge in &graph.edges {
-        put_edge(out, &layout, edge)?;
+        put_edge(out, layout, edge);
     }
     for (number, node) in graph.nodes.iter().enumerate() {
-        put_node(out, &layout, number, node)?;
+        put_node(out, layout, number, node);
     }
     for edge in &graph.edges {
         if edge.marked || graph.edges.len() <= MANY_EDGES {
-            put_label(out, &layout, edge)?;
+            put_label(out, layout, edge);
         }
     }
-    out.push_str("</svg>\n")?;
-    put_caption(out, graph, shown_count(&shown))
+    out.put("</svg>\n");
 }
 
-fn put_head(out: &mut String, graph: &Graph, layout: &Layout) -> Result<(), AllocError> {
+fn put_head(out: &mut Written, graph: &Graph, layout: &Layout) {
     let (width, height) = (layout.width, layout.height);
     let title = Escaped(&graph.title);
-    writeln!(
+    let _ = writeln!(
         out,
         "<figure>\n<svg xmlns=\"http://www.w3.org/2000/svg\" viewBox=\"0 0 {width} {height}\" width=\"{width}\" height=\"{height}\" role=\"img\">\n<title>{title}</title>"
-    )
+    );
 }
 
 /// Adds an edge whose ends are drawn, which tells its label where it is pointed at.
-fn put_edge(out: &mut String, layout: &Layout, edge: &Edge) -> Result<(), AllocError> {
+fn put_edge(out: &mut Written, layout: &Layout, edge: &Edge) {
     let (Some(from), Some(to)) = (layout.spot(edge.from), layout.spot(edge.to)) else {
-        return Ok(());
+        return;
     };
-    out.push_str(if edge.marked {
+    out.put(if edge.marked {
         "<path class=\"marked\" d=\""
     } else {
         "<path d=\""
-    })?;
-    put_way(out, from, to)?;
+    });
+    put_way(out, from, to);
     let label = Escaped(&edge.label);
-    writeln!(out, "\"><title>{label}</title></path>")
+    let _ = writeln!(out, "\"><title>{label}</title></path>");
 }
 
 /// Adds the way from one box to another: straight between two rows, and above the boxes within one.
-fn put_way(out: &mut String, from: Spot, to: Spot) -> Result<(), AllocError> {
+fn put_way(out: &mut Written, from: Spot, to: Spot) {
     let Spot { x, y } = from;
     let (end, top) = (to.x, to.y);
     if y == top {
         let (middle, above) = (middle(x, end), y.saturating_sub(ARCH));
-        return write!(out, "M{x} {y}Q{middle} {above} {end} {top}");
+        let _ = write!(out, "M{x} {y}Q{middle} {above} {end} {top}");
+        return;
     }
     let (y, top) = facing_sides(y, top);
-    write!(out, "M{x} {y}L{end} {top}")
+    let _ = write!(out, "M{x} {y}L{end} {top}");
 }
 
 /// The sides that two boxes of different rows turn to each other, by their upper ones.
@@ -88,16 +96,16 @@ fn middle(first: usize, second: usize) -> usize {
 }
 
 /// Adds what an edge says.
-fn put_label(out: &mut String, layout: &Layout, edge: &Edge) -> Result<(), AllocError> {
+fn put_label(out: &mut Written, layout: &Layout, edge: &Edge) {
     let (Some(from), Some(to)) = (layout.spot(edge.from), layout.spot(edge.to)) else {
-        return Ok(());
+        return;
     };
     let Spot { x, y } = label_spot(from, to);
     let label = Escaped(&edge.label);
-    writeln!(
+    let _ = writeln!(
         out,
         "<text class=\"label\" x=\"{x}\" y=\"{y}\">{label}</text>"
-    )
+    );
 }
 
 /// Where the label of an edge stands: on it in the free room next to the box that it begins at, and so over no box between, and apart from
@@ -126,33 +134,23 @@ fn label_spot(from: Spot, to: Spot) -> Spot {
 }
 
 /// Adds the box of a node, if it is drawn.
-fn put_node(
-    out: &mut String,
-    layout: &Layout,
-    number: usize,
-    node: &Node,
-) -> Result<(), AllocError> {
+fn put_node(out: &mut Written, layout: &Layout, number: usize, node: &Node) {
     let Some(Spot { x, y }) = layout.spot(number) else {
-        return Ok(());
+        return;
     };
     let (class, title) = (node.kind.name(), Escaped(&node.title));
     let left = x.saturating_sub(layout.box_width / 2);
     let width = layout.box_width;
-    write!(out, "<g class=\"{class}\"><title>{title}</title>")?;
-    write!(
+    let _ = write!(out, "<g class=\"{class}\"><title>{title}</title>");
+    let _ = write!(
         out,
         "<rect x=\"{left}\" y=\"{y}\" width=\"{width}\" height=\"{BOX_HEIGHT}\" rx=\"4\"></rect>"
-    )?;
-    put_node_texts(out, layout, node, Spot { x, y })
+    );
+    put_node_texts(out, layout, node, Spot { x, y });
 }
 
 /// Adds the title of a node, as much as has room, and its cost.
-fn put_node_texts(
-    out: &mut String,
-    layout: &Layout,
-    node: &Node,
-    spot: Spot,
-) -> Result<(), AllocError> {
+fn put_node_texts(out: &mut Written, layout: &Layout, node: &Node, spot: Spot) {
     let Spot { x, y } = spot;
     let (above, below) = (y.saturating_add(18), y.saturating_add(36));
     let room = layout.box_width / CHARACTER;
@@ -163,26 +161,26 @@ fn put_node_texts(
         NodeKind::Bounded => "at least ",
     };
     let cost = node.cost;
-    write!(out, "<text x=\"{x}\" y=\"{above}\">{title}{dots}</text>")?;
-    writeln!(
+    let _ = write!(out, "<text x=\"{x}\" y=\"{above}\">{title}{dots}</text>");
+    let _ = writeln!(
         out,
         "<text x=\"{x}\" y=\"{below}\">{words}{cost}</text></g>"
-    )
+    );
 }
 
 /// Adds what stands below a picture: its title, what the signs say, and how much of the graph it shows.
-fn put_caption(out: &mut String, graph: &Graph, shown: usize) -> Result<(), AllocError> {
+fn put_caption(out: &mut Written, graph: &Graph, shown: usize) {
     let title = Escaped(&graph.title);
-    writeln!(
+    let _ = writeln!(
         out,
         "<figcaption>{title}. Bold and green: the plan's way. Dashed: not listed, so that its bound is the target."
-    )?;
+    );
     let all = graph.nodes.len();
     if shown < all {
-        writeln!(
+        let _ = writeln!(
             out,
             "Of {all} states {shown} are drawn: those on the plan's way, and some of their neighbours."
-        )?;
+        );
     }
-    out.push_str("</figcaption>\n</figure>\n")
+    out.put("</figcaption>\n</figure>\n");
 }

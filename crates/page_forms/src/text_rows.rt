@@ -2,7 +2,7 @@
 
 use crate::column_widths::columns_of;
 use crate::drawing::Drawing;
-use crate::tables::{Cell, Row, Table};
+use plan_pages::{Cell, Row, Table};
 use std::alloc::{AllocError, Global};
 
 /// How many columns a row of a tree stands behind the one that it belongs to.
@@ -59,28 +59,51 @@ impl TextRow {
         } else {
             None
         };
-        let mut texts = Vec::new(alloc);
+        let mut row = TextRow::new(alloc, Lead::NOTHING);
         for column in &table.columns {
             let title = own.take().unwrap_or(column.title);
-            let text = String::from_str(alloc, title)?;
-            texts.push(text)?;
+            row.add(String::from_str(alloc, title))?;
         }
-        Ok(TextRow {
-            lead: Lead::NOTHING,
-            texts,
-        })
+        Ok(row)
     }
 
     pub fn of_cells(alloc: Global, row: &Row, drawing: Drawing) -> Result<TextRow, AllocError> {
-        let mut texts = Vec::new(alloc);
+        let mut texts = TextRow::new(alloc, Lead::of_depth(row.depth, drawing));
         for cell in &row.cells {
-            let text = cell_text(alloc, cell)?;
-            texts.push(text)?;
+            texts.add(cell_text(alloc, cell))?;
         }
-        Ok(TextRow {
-            lead: Lead::of_depth(row.depth, drawing),
-            texts,
-        })
+        Ok(texts)
+    }
+
+    fn new(alloc: Global, lead: Lead) -> TextRow {
+        TextRow {
+            lead,
+            texts: Vec::new(alloc),
+        }
+    }
+
+    /// Adds a text, if there was memory to make it.
+    fn add(&mut self, text: Result<String, AllocError>) -> Result<(), AllocError> {
+        self.texts.push(text?)?;
+        Ok(())
+    }
+
+    /// What is to be put of each text.
+    pub fn rests(&self, alloc: Global) -> Result<Vec<&str>, AllocError> {
+        let mut rests = Vec::new(alloc);
+        for text in &self.texts {
+            rests.push(text.as_str())?;
+        }
+        Ok(rests)
+    }
+
+    /// How many bytes the longest text has.
+    pub fn longest(&self) -> usize {
+        let mut longest = 0;
+        for text in &self.texts {
+            longest = text.len().max(longest);
+        }
+        longest
     }
 
     /// How many columns the text of a number takes, with what stands before it.
