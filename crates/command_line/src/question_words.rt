@@ -1,12 +1,11 @@
-//! From the words of the command line to what they ask for.
+//! From the words of the command line of `sqlr-plan` to what they ask for.
 
-use crate::asked::{Asked, AskedView, Options, Question};
+use crate::questions::{Asked, AskedView, Options, Question};
+use crate::requests::{LineFault, Source};
+use crate::words::VERSION;
 use clap::builder::ValueParser;
-use clap::{Arg, ArgAction, ArgMatches, Command, Error};
-use command_line::requests::Source;
+use clap::{Arg, ArgAction, ArgMatches, Command};
 use std::alloc::{AllocError, Global};
-
-const VERSION: &str = "0.2.0";
 
 /// What stands at the end of help.
 const AFTER_HELP: &str =
@@ -16,15 +15,15 @@ const AFTER_HELP: &str =
 ///
 /// # Errors
 /// The words have a fault, or ask for help or the version.
-pub(crate) fn asked(alloc: Global, words: &[&str]) -> Result<Asked, Error> {
+pub fn asked_question(alloc: Global, words: &[&str]) -> Result<Asked, LineFault> {
     let mut command = match command(alloc) {
         Ok(command) => command,
-        Err(_) => return Err(Error::from(AllocError)),
+        Err(_) => return Err(LineFault::from(AllocError)),
     };
     let matches = command.try_get_matches_from_mut(words)?;
     match asked_in(alloc, &matches) {
         Ok(Some(asked)) => Ok(asked),
-        Ok(None) | Err(_) => Err(Error::from(AllocError)),
+        Ok(None) | Err(_) => Err(LineFault::from(AllocError)),
     }
 }
 
@@ -129,58 +128,94 @@ fn source_named(alloc: Global, word: &str) -> Result<Source, AllocError> {
     Ok(Source::File(String::from_str(alloc, word)?))
 }
 
+/// A subcommand.
+#[derive(Clone, Copy)]
+enum Subcommand {
+    Tree,
+    Why,
+    Sweep,
+    Indexes,
+    Difference,
+    Search,
+    Statistics,
+    Page,
+}
+
+/// The subcommands, in the order in which help lists them.
+const SUBCOMMANDS: [Subcommand; 8] = [
+    Subcommand::Tree,
+    Subcommand::Why,
+    Subcommand::Sweep,
+    Subcommand::Indexes,
+    Subcommand::Difference,
+    Subcommand::Search,
+    Subcommand::Statistics,
+    Subcommand::Page,
+];
+
 fn command<'a>(alloc: Global) -> Result<Command<'a>, AllocError> {
     let mut command = Command::new(alloc, "sqlr-plan")
         .about("Shows the plans of a query, and what is proved of them")
         .after_help(AFTER_HELP)
         .version(VERSION)
         .subcommand_required(true);
-    for view in view_commands(alloc)? {
-        command = command.subcommand(view)?;
+    for subcommand in SUBCOMMANDS {
+        command = with_subcommand(alloc, command, subcommand)?;
     }
     Ok(command)
 }
 
-/// The subcommands, in the order in which help lists them.
-fn view_commands<'a>(alloc: Global) -> Result<Vec<Command<'a>>, AllocError> {
-    let mut commands = Vec::new(alloc);
-    commands.push(tree_command(alloc)?)?;
-    commands.push(why_command(alloc)?)?;
-    commands.push(sweep_command(alloc)?)?;
-    commands.push(indexes_command(alloc)?)?;
-    commands.push(difference_command(alloc)?)?;
-    commands.push(search_command(alloc)?)?;
-    commands.push(statistics_command(alloc)?)?;
-    commands.push(page_command(alloc)?)?;
-    Ok(commands)
+fn with_subcommand<'a>(
+    alloc: Global,
+    command: Command<'a>,
+    subcommand: Subcommand,
+) -> Result<Command<'a>, AllocError> {
+    let added = match subcommand {
+        Subcommand::Tree => tree_command(alloc),
+        Subcommand::Why => why_command(alloc),
+        Subcommand::Sweep => sweep_command(alloc),
+        Subcommand::Indexes => indexes_command(alloc),
+        Subcommand::Difference => difference_command(alloc),
+        Subcommand::Search => search_command(alloc),
+        Subcommand::Statistics => statistics_command(alloc),
+        Subcommand::Page => page_command(alloc),
+    };
+    command.subcommand(added?)
 }
+
+// In what follows a word is made when it is added: what is large and owned is dropped at each exit behind it.
 
 fn tree_command<'a>(alloc: Global) -> Result<Command<'a>, AllocError> {
     let about = "Shows the least plan of each block as a tree, or the one of certificates";
-    let certificates = Arg::new(alloc, "CERTIFICATES").action(ArgAction::Set).help(
-        "A file of certificates, whose plans are shown and checked, or -",
-    );
-    on_script(alloc, "tree", about)?.arg(certificates)
+    let command = on_script(alloc, "tree", about)?;
+    command.arg(
+        Arg::new(alloc, "CERTIFICATES").action(ArgAction::Set).help(
+            "A file of certificates, whose plans are shown and checked, or -",
+        ),
+    )
 }
 
 fn why_command<'a>(alloc: Global) -> Result<Command<'a>, AllocError> {
-    let about = "Shows what another plan loses, and where";
-    let plan = word(alloc, "PLAN").help(
+    let command = on_script(alloc, "why", "Shows what another plan loses, and where")?;
+    command.arg(word(alloc, "PLAN").help(
         "A plan as EXPLAIN writes it, or by names: 'sort (A loop B) by X'",
-    );
-    on_script(alloc, "why", about)?.arg(plan)
+    ))
 }
 
 fn sweep_command<'a>(alloc: Global) -> Result<Command<'a>, AllocError> {
     let about = "Shows which plan is least as a statistic is varied";
-    let figure = word(alloc, "FIGURE").help(
+    let command = on_script(alloc, "sweep", about)?;
+    let command = command.arg(word(alloc, "FIGURE").help(
         "A statistic, as 'A ROWS', 'A (X) KEYS' or 'A (X) HIGH'",
-    );
-    let values = word(alloc, "VALUES")
+    ))?;
+    command.arg(values_word(alloc))
+}
+
+fn values_word<'a>(alloc: Global) -> Arg<'a> {
+    word(alloc, "VALUES")
         .num_args(1..)
         .allow_negative_numbers(true)
-        .help("What it is set to, one after another");
-    on_script(alloc, "sweep", about)?.arg(figure)?.arg(values)
+        .help("What it is set to, one after another")
 }
 
 fn indexes_command<'a>(alloc: Global) -> Result<Command<'a>, AllocError> {
@@ -193,22 +228,21 @@ fn indexes_command<'a>(alloc: Global) -> Result<Command<'a>, AllocError> {
 
 fn difference_command<'a>(alloc: Global) -> Result<Command<'a>, AllocError> {
     let about = "Shows what differs in the least plans of two scripts";
-    let other = word(alloc, "OTHER")
-        .value_name("SCRIPT")
-        .help("Another file of SQL statements, or -");
-    on_script(alloc, "diff", about)?.arg(other)
+    let command = on_script(alloc, "diff", about)?;
+    command.arg(
+        word(alloc, "OTHER")
+            .value_name("SCRIPT")
+            .help("Another file of SQL statements, or -"),
+    )
 }
 
 fn search_command<'a>(alloc: Global) -> Result<Command<'a>, AllocError> {
     let about = "Shows the states of the search, and the steps that led there";
-    let all = flag(alloc, "all").help("Shows all comparisons");
-    let within = Arg::new(alloc, "within")
-        .long("within")
-        .value_name("PERCENT")
-        .action(ArgAction::Set)
-        .value_parser(ValueParser::Unsigned(0, u64::MAX))
-        .help("Shows the comparisons that come that near to their bounds");
-    on_script(alloc, "search", about)?.arg(all)?.arg(within)
+    let command = on_script(alloc, "search", about)?;
+    let command = command.arg(flag(alloc, "all").help("Shows all comparisons"))?;
+    command.arg(number(alloc, "within", "PERCENT", 0).help(
+        "Shows the comparisons that come that near to their bounds",
+    ))
 }
 
 fn statistics_command<'a>(alloc: Global) -> Result<Command<'a>, AllocError> {
@@ -229,19 +263,32 @@ fn page_command<'a>(alloc: Global) -> Result<Command<'a>, AllocError> {
 
 /// The subcommand of a name, whose first word is a script, with the options of all.
 fn on_script<'a>(alloc: Global, name: &'a str, about: &'a str) -> Result<Command<'a>, AllocError> {
-    let query = Arg::new(alloc, "query")
-        .long("query")
-        .value_name("N")
-        .action(ArgAction::Set)
-        .value_parser(ValueParser::Unsigned(1, u64::MAX))
-        .help("Takes the Nth SELECT or EXPLAIN of the script, not the last");
+    let command = with_script(alloc, name, about)?;
+    let command = command.arg(number(alloc, "query", "N", 1).help(
+        "Takes the Nth SELECT or EXPLAIN of the script, not the last",
+    ))?;
+    let command = command.arg(flag(alloc, "json").help("Writes JSON"))?;
+    command.arg(flag(alloc, "unicode").help("Draws trees in box drawing characters"))
+}
+
+fn with_script<'a>(
+    alloc: Global,
+    name: &'a str,
+    about: &'a str,
+) -> Result<Command<'a>, AllocError> {
     Command::new(alloc, name)
         .about(about)
         .after_help(AFTER_HELP)
-        .arg(word(alloc, "SCRIPT").help("A file of SQL statements, or - for standard input"))?
-        .arg(query)?
-        .arg(flag(alloc, "json").help("Writes JSON"))?
-        .arg(flag(alloc, "unicode").help("Draws trees in box drawing characters"))
+        .arg(word(alloc, "SCRIPT").help("A file of SQL statements, or - for standard input"))
+}
+
+/// An option with a number from a least one on.
+fn number<'a>(alloc: Global, name: &'a str, value: &'a str, least: u64) -> Arg<'a> {
+    Arg::new(alloc, name)
+        .long(name)
+        .value_name(value)
+        .action(ArgAction::Set)
+        .value_parser(ValueParser::Unsigned(least, u64::MAX))
 }
 
 /// A word that has to be given.

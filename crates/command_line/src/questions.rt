@@ -1,24 +1,24 @@
-//! What the command line asks for.
+//! What the command line of `sqlr-plan` asks for.
 
-use command_line::requests::Source;
+use crate::requests::Source;
 
 /// What is asked, and how it is answered.
 #[derive(Drop)]
-pub(crate) struct Asked {
+pub struct Asked {
     pub question: Question,
     pub options: Options,
 }
 
 /// What is asked of one script, or of two.
 #[derive(Drop)]
-pub(crate) enum Question {
+pub enum Question {
     One { script: Source, view: AskedView },
     Difference { first: Source, second: Source },
 }
 
 /// What is asked of the query of a script.
 #[derive(Drop)]
-pub(crate) enum AskedView {
+pub enum AskedView {
     Tree { certificates: Option<Source> },
     Why { plan: String },
     Sweep { figure: String, values: Vec<String> },
@@ -30,7 +30,7 @@ pub(crate) enum AskedView {
 
 /// What all questions may say.
 #[derive(Clone, Copy)]
-pub(crate) struct Options {
+pub struct Options {
     /// Which SELECT or EXPLAIN of a script is meant, from 1; the last where none is given.
     pub query: Option<u64>,
     pub is_json: bool,
