@@ -1,4 +1,4 @@
-use Rattle.tests_session.proofs.runs.run.Given as goal
+use Rattle.tests_engine.proofs.runs.run.Given as goal
 
 -- the count is named by the blank that it is made of
 abbrev pub ghosts-on_tape : goal.ghosts-on_tape

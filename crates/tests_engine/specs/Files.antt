@@ -1,6 +1,6 @@
 -- What a fixed list of files answers.
 use Rattle.std.specs.Prelude.{ℕ, List, [], ◌∷◌, Option, Some, None, if◌then◌else◌, bytes_eq}
-use Rattle.tests_session.specs.declared.shelf.File.{File}
+use Rattle.tests_engine.specs.declared.shelf.File.{File}
 
 -- the bytes of the first file of a name
 abbrev pub bytes_of_file : List File → List ℕ → Option (List ℕ)

@@ -19,7 +19,7 @@ pub struct Shelf<'a> {
 
 impl Library for Shelf<'_> {
     ghost use Rattle.std.specs.Prelude.{◌≡◌};
-    ghost use Rattle.tests_session.specs.Files.{bytes_of_file};
+    ghost use Rattle.tests_engine.specs.Files.{bytes_of_file};
 
     ghost answers = { λ old name answer new. (new ≡ old) × (answer ≡ bytes_of_file old.files.now name) };
 

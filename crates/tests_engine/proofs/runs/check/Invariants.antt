@@ -1,4 +1,4 @@
-use Rattle.tests_session.proofs.runs.check.Given as goal
+use Rattle.tests_engine.proofs.runs.check.Given as goal
 
 -- the count is named by the blank that it is made of
 abbrev pub ghosts-check_on_tape : goal.ghosts-check_on_tape

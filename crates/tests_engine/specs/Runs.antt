@@ -3,7 +3,7 @@ use Rattle.std.specs.Prelude.{ℕ, List, Some, MatchResult}
 use Rattle.definitions_execution.specs.Step.{Answering, Failing, State}
 use Rattle.sqlr.specs.Sessions.{Runs, BreaksOff}
 use Rattle.sqlr.specs.Checking.{Checks, BreaksChecking}
-use Rattle.tests_session.specs.declared.runs.Ran.{Ran}
+use Rattle.tests_engine.specs.declared.runs.Ran.{Ran}
 
 -- the printed bytes are those before, and what the run prints behind them, or a beginning of it
 abbrev pub IsRun : {L : Type 0} → Answering L → Failing L → State L → List ℕ → State L → List ℕ → Ran → Type 0

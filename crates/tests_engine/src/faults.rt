@@ -20,7 +20,7 @@ struct Faulty<'a, L: Ledger> {
 
 impl<L: Ledger> Library for Faulty<'_, L> {
     ghost use Rattle.std.specs.Prelude.{◌≡◌};
-    ghost use Rattle.tests_session.specs.Files.{bytes_of_file};
+    ghost use Rattle.tests_engine.specs.Files.{bytes_of_file};
 
     ghost answers = { λ old name answer new. (new ≡ old) × (answer ≡ bytes_of_file old.shelf.files.now name) };
 

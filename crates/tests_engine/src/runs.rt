@@ -1,7 +1,7 @@
 //! Runs whose printed text is kept.
 
 ghost use Rattle.std.specs.Prelude.{◌≡◌, ◌<◌};
-ghost use Rattle.tests_session.specs.Runs.{IsCheck, IsRun};
+ghost use Rattle.tests_engine.specs.Runs.{IsCheck, IsRun};
 
 use crate::tape::Tape;
 use sqlr::{Ended, Failures, Library, RunFault, Session};

@@ -1,6 +1,6 @@
 use Rattle.std.proofs.Common.{◌≡◌, drop}
-use Rattle.tests_session.specs.Files.{bytes_of_file}
-use Rattle.tests_session.proofs.shelf.ShelfLibrary.fetch.Given as goal
+use Rattle.tests_engine.specs.Files.{bytes_of_file}
+use Rattle.tests_engine.proofs.shelf.ShelfLibrary.fetch.Given as goal
 
 -- the files that are left answer as all do
 abbrev pub invariant-files : goal.invariant-files
