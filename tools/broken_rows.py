@@ -1,11 +1,11 @@
 #!/usr/bin/env python3
 """Breaks files of rows, and looks whether those who ask rows tell it.
 
-usage: broken_rows.py PROGRAM CASES_PLANS
+usage: broken_rows.py PROGRAM TESTS_ENGINE
 
-tools/rows.py asks PROGRAM the rows of cases/rows, tools/plan_rows.py those of cases/plans, and CASES_PLANS, which is
-crates/cases_plans/out/cases_plans, those of its data. Each is given a file with a row left out, one that says something else or is none, and no
-file. The status of the tools has to be 1 then. The gate compares what CASES_PLANS prints with crates/cases_plans/stdout, so that has to differ.
+tools/rows.py asks PROGRAM the rows of cases/rows, tools/plan_rows.py those of cases/plans, and TESTS_ENGINE, which is
+crates/tests_engine/out/tests_engine, those of its data. Each is given a file with a row left out, one that says something else or is none, and no
+file. The status of the tools has to be 1 then. The gate compares what TESTS_ENGINE prints with crates/tests_engine/stdout, so that has to differ.
 """
 import functools
 import pathlib
@@ -18,7 +18,7 @@ import tempfile
 ROOT = pathlib.Path(__file__).resolve().parent.parent
 # Each tool that asks rows, and its folder of them.
 TOOLS = {"tools/rows.py": ROOT / "cases/rows", "tools/plan_rows.py": ROOT / "cases/plans"}
-PLANS = ROOT / "crates/cases_plans"
+ENGINE = ROOT / "crates/tests_engine"
 
 
 # ---- breaks of a file, as its lines
@@ -65,9 +65,10 @@ def tool_is_content(tool, program, folder):
     return ran.returncode == 0
 
 
-def plans_are_content(program, folder):
-    printed = subprocess.run([program], cwd=folder, capture_output=True, text=True).stdout
-    return printed == (PLANS / "stdout").read_text()
+def engine_is_content(program, folder):
+    words = (ENGINE / "args").read_text().splitlines()
+    printed = subprocess.run([program, *words], cwd=folder, capture_output=True, text=True).stdout
+    return printed == (ENGINE / "stdout").read_text()
 
 
 def count_untold(is_content, file):
@@ -92,11 +93,11 @@ def count_untold(is_content, file):
 
 
 def main():
-    program, plans = (pathlib.Path(it).resolve() for it in sys.argv[1:])
+    program, engine = (pathlib.Path(it).resolve() for it in sys.argv[1:])
     untold = 0
     for tool, folder in TOOLS.items():
         untold += count_untold(functools.partial(tool_is_content, tool, program), min(folder.glob("*.rows")))
-    untold += count_untold(functools.partial(plans_are_content, plans), min((PLANS / "data").glob("*.rows")))
+    untold += count_untold(functools.partial(engine_is_content, engine), min((ENGINE / "data").glob("*.rows")))
     sys.exit(1 if untold else 0)
 
 

@@ -3,7 +3,7 @@
 
 usage: fail_alloc.py [FIRST [LAST [STEP]]]
 
-A test of crates/tests_session runs a small script whose sink wants no memory, and judges the run: one whose
+A test of crates/tests_engine runs a small script whose sink wants no memory, and judges the run: one whose
 allocation is refused breaks off behind whole statements, and leaves what they made. This calls it with
 allocation FIRST (1) refused, then FIRST + STEP (1), and on to LAST, or until one lies behind the run.
 The status is 1 where a run is not as it should be. `rt try` compiles anew for each, so an allocation
@@ -14,7 +14,7 @@ import pathlib
 import subprocess
 import sys
 
-CRATE = pathlib.Path(__file__).resolve().parent.parent / "crates/tests_session"
+CRATE = pathlib.Path(__file__).resolve().parent.parent / "crates/tests_engine"
 TEST = "test memory::refused_allocation_leaves_whole_statements ... "
 NOTHING = "nothing is refused"
 BEHIND = ("refused behind the run", NOTHING)

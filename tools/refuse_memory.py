@@ -10,7 +10,7 @@ status; or it ends with status 2 and `out of memory`, and what it printed is wha
 may be fewer where memory was wanting for them: --words prints the lines that no run with ample memory has, to be read. A line tells of each
 script and command; the status is 1 where a run is not so. A C compiler is needed.
 
-With --sessions PROGRAM is crates/tests_session, which runs the statements of a script one by one in one session, and a second time where memory was
+With --sessions PROGRAM is crates/tests_engine, which runs the statements of a script one by one in one session, and a second time where memory was
 wanting for one. Behind what it reads first, each refused allocation has to leave all that is printed as it is.
 
 With --views PROGRAM is sqlr-plan, and its views of examples/join.sql are asked so: each prints what it prints, or nothing.

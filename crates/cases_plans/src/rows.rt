@@ -24,7 +24,7 @@ struct Group<'t> {
 }
 
 /// Asks the rows of a file, and tells which are wrong and how many there are.
-pub(crate) fn ask(alloc: Global, name: &str, text: &str) -> Result<String, AllocError> {
+pub fn ask(alloc: Global, name: &str, text: &str) -> Result<String, AllocError> {
     let mut told = String::new(alloc);
     let mut group = Group::new(alloc);
     let mut rows: usize = 0;

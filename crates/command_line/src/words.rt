@@ -14,7 +14,7 @@ use clap::error::ErrorKind;
 use clap::{Arg, ArgAction, ArgMatches, Command};
 use std::alloc::{AllocError, Global};
 
-const VERSION: &str = "0.2.0";
+pub(crate) const VERSION: &str = "0.2.0";
 
 /// What stands at the end of help.
 const AFTER_HELP: &str =

@@ -84,7 +84,7 @@ fn write_plan<'n, W: fmt::Write>(
     plan: &'n Plan,
 ) -> fmt::Result {
     match plan {
-        Plan::Access(path) => write!(f, "{}", names.path(path)),
+        Plan::Access(path) => names.path(path).fmt(f),
         Plan::Loop { outer, path } => {
             write_plan(f, names, orders, outer)?;
             write!(f, " loop {}", names.path(path))

@@ -93,14 +93,14 @@ fn write_leaf<'n, W: fmt::Write>(
     value: &'n ValueExpr,
 ) -> fmt::Result {
     match value {
-        ValueExpr::Column { column, .. } => write!(f, "{}", names.column(*column)),
+        ValueExpr::Column { column, .. } => names.column(*column).fmt(f),
         ValueExpr::Parameter {
             between,
             column,
             ..
-        } => write!(f, "{}", names.outer_column(*between, *column)),
+        } => names.outer_column(*between, *column).fmt(f),
         ValueExpr::Number(number) => write_number(f, *number),
-        ValueExpr::Text(text) => write!(f, "{}", Quoted(text.as_str())),
+        ValueExpr::Text(text) => Quoted(text.as_str()).fmt(f),
         ValueExpr::AggregateValue { number, .. } => write_aggregate(f, names, *number),
         ValueExpr::Subquery { block, .. } => write!(f, "(block {})", block.saturating_add(1)),
         ValueExpr::Signed { .. } | ValueExpr::Chain { .. } => Ok(()),
@@ -130,7 +130,7 @@ impl Display for Quoted<'_> {
             if character == '\'' {
                 f.write_str("'")?;
             }
-            write!(f, "{character}")?;
+            f.write_char(character)?;
         }
         f.write_str("'")
     }

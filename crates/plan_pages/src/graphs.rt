@@ -11,7 +11,7 @@ pub struct Graph {
 
 impl Graph {
     /// Whether the node of a number is on the plan's way.
-    pub(crate) fn is_chosen(&self, number: usize) -> bool {
+    pub fn is_chosen(&self, number: usize) -> bool {
         match self.nodes.get(number) {
             Some(node) => node.kind == NodeKind::Chosen,
             None => false,
@@ -42,7 +42,7 @@ pub enum NodeKind {
 
 impl NodeKind {
     /// Its name in JSON and in HTML.
-    pub(crate) fn name(self) -> &'static str {
+    pub fn name(self) -> &'static str {
         match self {
             NodeKind::Chosen => "chosen",
             NodeKind::Listed => "listed",

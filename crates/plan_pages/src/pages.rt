@@ -43,7 +43,7 @@ pub enum Part {
 
 impl Part {
     /// The key and the text of a sentence.
-    pub(crate) fn line(&self) -> Option<(&'static str, &str)> {
+    pub fn line(&self) -> Option<(&'static str, &str)> {
         match self {
             Part::Line { key, text } => Some((*key, text.as_str())),
             Part::Figure { .. } | Part::Table(_) | Part::Graph(_) => None,

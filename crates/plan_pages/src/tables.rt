@@ -11,12 +11,26 @@ pub struct Table {
 
 impl Table {
     /// Whether a row belongs to one above it.
-    pub(crate) fn is_tree(&self) -> bool {
-        self.rows.iter().any(|row| row.depth > 0)
+    pub fn is_tree(&self) -> bool {
+        for row in &self.rows {
+            if row.depth > 0 {
+                return true;
+            }
+        }
+        false
+    }
+
+    pub fn has_marks(&self) -> bool {
+        for row in &self.rows {
+            if row.marked {
+                return true;
+            }
+        }
+        false
     }
 
     /// Whether the row of a number is on the plan's way.
-    pub(crate) fn is_marked(&self, number: usize) -> bool {
+    pub fn is_marked(&self, number: usize) -> bool {
         match self.rows.get(number) {
             Some(row) => row.marked,
             None => false,

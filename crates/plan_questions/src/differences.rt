@@ -2,11 +2,8 @@
 
 use crate::answers::QueryPlanner;
 use crate::sweeps::outlines_of;
-use plan_pages::{Part, Section, Table};
-use plan_views::{
-    BlockOutline, PlanningScript, StepOutline, ViewFault, add_row, number, number_cell, table,
-    word_cell, words,
-};
+use plan_pages::{MadeParts, MadeTable, Section, Table, number, words};
+use plan_views::{BlockOutline, PlanningScript, StepOutline, ViewFault};
 use std::alloc::{AllocError, Global};
 
 /// A section for each pair of blocks of one number.
@@ -39,23 +36,15 @@ fn difference_section(
     after: &BlockOutline,
 ) -> Result<Section, AllocError> {
     let shown = number.saturating_add(1);
-    let mut parts = Vec::new(alloc);
-    parts.push(Part::Figure {
-        key: "first",
-        title: "the first least plan costs",
-        value: before.target,
-    })?;
-    parts.push(Part::Figure {
-        key: "second",
-        title: "the second",
-        value: after.target,
-    })?;
-    parts.push(Part::Table(step_table(alloc, before, after)?))?;
+    let mut parts = MadeParts::new(alloc);
+    parts.put_figure("first", "the first least plan costs", before.target);
+    parts.put_figure("second", "the second", after.target);
+    parts.put_table(step_table(alloc, before, after));
     Ok(Section {
         key: "block",
         number: Some(shown as u64),
         title: format!(in alloc; "block {shown}")?,
-        parts,
+        parts: parts.finish()?,
     })
 }
 
@@ -65,7 +54,7 @@ fn step_table(
     before: &BlockOutline,
     after: &BlockOutline,
 ) -> Result<Table, AllocError> {
-    let mut rows = table(
+    let mut rows = MadeTable::new(
         alloc,
         "difference",
         "steps, the first one first",
@@ -75,41 +64,43 @@ fn step_table(
             number("first", "first"),
             number("second", "second"),
         ],
-    )?;
+    );
     let common = common_steps(&before.steps, &after.steps);
     let shared = before.steps.iter().rev().zip(after.steps.iter().rev());
     for (one, other) in shared.take(common) {
-        add_step(alloc, &mut rows, "=", one, Some(one.own), Some(other.own))?;
+        add_step(&mut rows, "=", one, Some(one.own), Some(other.own));
     }
     for step in before.steps.iter().rev().skip(common) {
-        add_step(alloc, &mut rows, "-", step, Some(step.own), None)?;
+        add_step(&mut rows, "-", step, Some(step.own), None);
     }
     for step in after.steps.iter().rev().skip(common) {
-        add_step(alloc, &mut rows, "+", step, None, Some(step.own))?;
+        add_step(&mut rows, "+", step, None, Some(step.own));
     }
-    Ok(rows)
+    rows.finish()
 }
 
 /// How many steps two plans begin with that are the same in words.
 fn common_steps(before: &[StepOutline], after: &[StepOutline]) -> usize {
-    before
-        .iter()
-        .rev()
-        .zip(after.iter().rev())
-        .take_while(|(one, other)| one.words.as_str() == other.words.as_str())
-        .count()
+    let mut count: usize = 0;
+    for (one, other) in before.iter().rev().zip(after.iter().rev()) {
+        if one.words.as_str() != other.words.as_str() {
+            break;
+        }
+        count = count.saturating_add(1);
+    }
+    count
 }
 
 fn add_step(
-    alloc: Global,
-    rows: &mut Table,
+    rows: &mut MadeTable,
     sign: &str,
     step: &StepOutline,
     first: Option<u64>,
     second: Option<u64>,
-) -> Result<(), AllocError> {
-    let sign = word_cell(alloc, sign)?;
-    let words = word_cell(alloc, step.words.as_str())?;
-    let cells = [sign, words, number_cell(first), number_cell(second)];
-    add_row(alloc, rows, 0, false, cells)
+) {
+    rows.begin_row(0, false);
+    rows.put_word(sign);
+    rows.put_word(&step.words);
+    rows.put_found(first);
+    rows.put_found(second);
 }

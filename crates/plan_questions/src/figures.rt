@@ -230,8 +230,10 @@ fn figure_of_index(
 }
 
 fn place_of(script: &PlanningScript, name: &str) -> Option<usize> {
-    script
-        .tables
-        .iter()
-        .position(|table| table.name.as_str() == name)
+    for (place, table) in script.tables.iter().enumerate() {
+        if table.name.as_str() == name {
+            return Some(place);
+        }
+    }
+    None
 }

@@ -2,11 +2,8 @@
 
 use crate::answers::QueryPlanner;
 use crate::sweeps::outlines_of;
-use plan_pages::{Cell, Part, Section, Table};
-use plan_views::{
-    BlockOutline, PlannedIndex, PlanningScript, Priced, ViewFault, add_row, number, table,
-    word_cell, words,
-};
+use plan_pages::{MadeParts, MadeTable, Section, number, words};
+use plan_views::{BlockOutline, PlannedIndex, PlanningScript, Priced, ViewFault};
 use std::alloc::{AllocError, Global};
 
 /// An index that is there and is left out, or one that is proposed and is put in.
@@ -182,47 +179,49 @@ fn index_section(
     block: usize,
 ) -> Result<Section, AllocError> {
     let shown = block.saturating_add(1);
-    let mut parts = Vec::new(alloc);
-    parts.push(Part::Figure {
-        key: "target",
-        title: "the least plan costs",
-        value: today.target,
-    })?;
+    let mut parts = MadeParts::new(alloc);
+    parts.put_figure("target", "the least plan costs", today.target);
     for is_proposed in [false, true] {
-        let rows = change_table(alloc, changes, today, block, is_proposed)?;
-        let is_empty = rows.rows.is_empty();
+        let rows = change_table(alloc, changes, today, block, is_proposed);
+        let is_empty = rows.row_count() == 0;
         if !is_empty {
-            parts.push(Part::Table(rows))?;
+            parts.put_table(rows.finish());
         }
         if is_proposed {
-            push_why_none(alloc, script, is_empty, &mut parts)?;
+            put_why_none(script, is_empty, &mut parts);
         }
     }
     Ok(Section {
         key: "block",
         number: Some(shown as u64),
         title: format!(in alloc; "block {shown}")?,
-        parts,
+        parts: parts.finish()?,
     })
 }
 
 /// Says why indexes aren't proposed, where they aren't: of none, or of tables without rows.
-fn push_why_none(
-    alloc: Global,
-    script: &PlanningScript,
-    is_none: bool,
-    parts: &mut Vec<Part>,
-) -> Result<(), AllocError> {
-    let words = if script.tables.iter().any(|table| table.loaded == 0) {
-        "Of tables without rows no index is proposed: its statistics are counted over rows, not guessed."
+fn put_why_none(script: &PlanningScript, is_none: bool, parts: &mut MadeParts) {
+    if has_unloaded(script) {
+        parts.put_words(
+            "none",
+            "Of tables without rows no index is proposed: its statistics are counted over rows, not guessed.",
+        );
     } else if is_none {
-        "No other index of one or two columns that a conjunct, an order or a group goes by is left to propose."
-    } else {
-        return Ok(());
-    };
-    let text = String::from_str(alloc, words)?;
-    parts.push(Part::Line { key: "none", text })?;
-    Ok(())
+        parts.put_words(
+            "none",
+            "No other index of one or two columns that a conjunct, an order or a group goes by is left to propose.",
+        );
+    }
+}
+
+/// Whether a table has no rows.
+fn has_unloaded(script: &PlanningScript) -> bool {
+    for table in &script.tables {
+        if table.loaded == 0 {
+            return true;
+        }
+    }
+    false
 }
 
 fn change_table(
@@ -231,13 +230,13 @@ fn change_table(
     today: &BlockOutline,
     block: usize,
     is_proposed: bool,
-) -> Result<Table, AllocError> {
+) -> MadeTable {
     let (key, title, first) = if is_proposed {
         ("with", "one index more", "with")
     } else {
         ("without", "one index less", "without")
     };
-    let mut rows = table(
+    let mut rows = MadeTable::new(
         alloc,
         key,
         title,
@@ -248,7 +247,7 @@ fn change_table(
             words("by_estimate", "by the estimate"),
             words("plan", "plan"),
         ],
-    )?;
+    );
     for (number, change) in changes.iter().enumerate() {
         if change.is_proposed == is_proposed
             && let Some(then) = change.outlines.get(block)
@@ -257,22 +256,22 @@ fn change_table(
                 .saturating_mul(change.outlines.len())
                 .saturating_add(block);
             let here = today.prices.get(place).copied().flatten();
-            add_change(alloc, &mut rows, change, then, today, here, block)?;
+            add_change(alloc, &mut rows, change, then, today, here, block);
         }
     }
-    Ok(rows)
+    rows
 }
 
 /// A row: the difference that is the index's own is that of two plans under the same statistics.
 fn add_change(
     alloc: Global,
-    rows: &mut Table,
+    rows: &mut MadeTable,
     change: &Change,
     then: &BlockOutline,
     today: &BlockOutline,
     here: Option<u64>,
     block: usize,
-) -> Result<(), AllocError> {
+) {
     // under the statistics with the index: what the better and the poorer plan cost
     let (poorer, better) = if change.is_proposed {
         let there = then.prices.get(block).copied().flatten();
@@ -286,16 +285,16 @@ fn add_change(
     } else {
         Difference::between(today.target, then.target)
     };
-    let plan = if then.plan.as_str() == today.plan.as_str() {
-        word_cell(alloc, "the same")?
+    rows.begin_row(0, false);
+    rows.put_word(&change.name);
+    rows.put_number(then.target);
+    rows.put_text(own.words(alloc));
+    rows.put_text(all.less(own).words(alloc));
+    rows.put_word(if then.plan.as_str() == today.plan.as_str() {
+        "the same"
     } else {
-        word_cell(alloc, then.plan.as_str())?
-    };
-    let name = word_cell(alloc, change.name.as_str())?;
-    let by_index = Cell::Text(own.words(alloc)?);
-    let by_estimate = Cell::Text(all.less(own).words(alloc)?);
-    let cells = [name, Cell::Number(then.target), by_index, by_estimate, plan];
-    add_row(alloc, rows, 0, false, cells)
+        &then.plan
+    });
 }
 
 /// How much more a second cost is than a first.

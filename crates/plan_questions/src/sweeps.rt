@@ -2,10 +2,8 @@
 
 use crate::answers::{Answer, QueryPlanner, Question};
 use crate::figures::{Figure, read_figure, read_value};
-use plan_pages::{Cell, Part, Section, Table};
-use plan_views::{
-    BlockOutline, PlanningScript, Priced, ViewFault, add_row, number, table, word_cell, words,
-};
+use plan_pages::{MadeParts, MadeTable, Section, Table, number, words};
+use plan_views::{BlockOutline, PlanningScript, Priced, ViewFault};
 use std::alloc::{AllocError, Global};
 
 /// What the blocks of a query answer with one value of a statistic, as it was given.
@@ -84,13 +82,13 @@ fn sweep_section(
     block: usize,
 ) -> Result<Section, AllocError> {
     let shown = block.saturating_add(1);
-    let mut parts = Vec::new(alloc);
-    parts.push(Part::Table(sweep_table(alloc, named, turns, block)?))?;
+    let mut parts = MadeParts::new(alloc);
+    parts.put_table(sweep_table(alloc, named, turns, block));
     Ok(Section {
         key: "block",
         number: Some(shown as u64),
         title: format!(in alloc; "block {shown}")?,
-        parts,
+        parts: parts.finish()?,
     })
 }
 
@@ -100,7 +98,7 @@ fn sweep_table(
     turns: &[Turn<'_>],
     block: usize,
 ) -> Result<Table, AllocError> {
-    let mut rows = table(
+    let mut rows = MadeTable::new(
         alloc,
         "sweep",
         named,
@@ -111,51 +109,48 @@ fn sweep_table(
             words("plan", ""),
             words("passes", "certificate"),
         ],
-    )?;
+    );
     let mut plans: Vec<&str> = Vec::new(alloc);
     for turn in turns {
         if let Some(outline) = turn.outlines.get(block) {
             let plan = outline.plan.as_str();
-            let place = match plans.iter().position(|known| *known == plan) {
-                Some(place) => place,
-                None => {
-                    plans.extend_from_slice(&[plan])?;
-                    plans.len().saturating_sub(1)
-                }
-            };
-            add_turn(alloc, &mut rows, turn.value, outline, place)?;
+            let place = place_of(&plans, plan);
+            if place == plans.len() {
+                plans.push(plan)?;
+            }
+            add_turn(alloc, &mut rows, turn.value, outline, place);
         }
     }
-    Ok(rows)
+    rows.finish()
+}
+
+/// The place of a plan among those that came before, or behind them.
+fn place_of(plans: &[&str], plan: &str) -> usize {
+    for (place, known) in plans.iter().enumerate() {
+        if *known == plan {
+            return place;
+        }
+    }
+    plans.len()
 }
 
 fn add_turn(
     alloc: Global,
-    rows: &mut Table,
+    rows: &mut MadeTable,
     value: &str,
     outline: &BlockOutline,
     place: usize,
-) -> Result<(), AllocError> {
-    let value = value_cell(alloc, value)?;
-    let letter = letter_of(alloc, place)?;
-    let plan = String::from_str(alloc, outline.plan.as_str())?;
-    let passes = String::from_str(alloc, if outline.passes { "passes" } else { "fails" })?;
-    let cells = [
-        value,
-        Cell::Number(outline.target),
-        Cell::Text(letter),
-        Cell::Text(plan),
-        Cell::Text(passes),
-    ];
-    add_row(alloc, rows, 0, false, cells)
-}
-
-/// A value as it was given: as a number, where it is a whole one.
-fn value_cell(alloc: Global, value: &str) -> Result<Cell, AllocError> {
+) {
+    rows.begin_row(0, false);
+    // as a number, where it is a whole one
     match value.parse::<u64>() {
-        Ok(number) => Ok(Cell::Number(number)),
-        Err(_) => word_cell(alloc, value),
+        Ok(number) => rows.put_number(number),
+        Err(_) => rows.put_word(value),
     }
+    rows.put_number(outline.target);
+    rows.put_text(letter_of(alloc, place));
+    rows.put_word(&outline.plan);
+    rows.put_word(if outline.passes { "passes" } else { "fails" });
 }
 
 /// The letters a to z, and behind them a1 to z1 and so on.

@@ -10,7 +10,7 @@ use query_tree::BlockColumn;
 use std::fmt::{self, Display, Formatter};
 
 /// The rule of the plan space that a step breaks (Selinger et al. 1979, section 5).
-#[derive(Clone, Copy, Debug, PartialEq, Eq)]
+#[derive(Clone, Copy)]
 pub enum BrokenRule {
     /// The block has no such table.
     NoTable,
@@ -219,10 +219,6 @@ impl<'n> OutsideText<'n, '_> {
     /// The plan up to the step that can't stand where it does, and that step last.
     pub fn part(&self) -> &'n Plan {
         self.part
-    }
-
-    pub fn rule(&self) -> BrokenRule {
-        self.rule
     }
 }
 

@@ -8,10 +8,10 @@ use std::fmt::{self, Display, Formatter};
 /// Why a text is no plan of a block.
 #[derive(Clone, Copy)]
 pub enum PlanTextFault {
-    /// A plan by names doesn't go on with what begins at this byte of the text.
-    Names { at: usize, problem: NameProblem },
-    /// In EXPLAIN's spelling. A place that it tells is of the text of a whole certificate, and `at` of this text.
-    Spelling { at: usize, fault: TextFault },
+    /// Of a plan by names.
+    Names(NameProblem),
+    /// In EXPLAIN's spelling. A place that it tells is of the text of a whole certificate.
+    Spelling(TextFault),
     /// In EXPLAIN's spelling an index is matched by more conjuncts than an index has columns.
     LongMatch,
     /// Out of memory.
@@ -19,7 +19,7 @@ pub enum PlanTextFault {
 }
 
 /// What is wrong with a plan by names.
-#[derive(Clone, Copy, Debug, PartialEq, Eq)]
+#[derive(Clone, Copy)]
 pub enum NameProblem {
     /// This was looked for.
     Expected(Expectation),
@@ -44,7 +44,7 @@ pub enum NameProblem {
 }
 
 /// What a plan by names was to go on with.
-#[derive(Clone, Copy, Debug, PartialEq, Eq)]
+#[derive(Clone, Copy)]
 pub enum Expectation {
     Access,
     Table,
@@ -59,16 +59,6 @@ pub enum Expectation {
     JoinOrEnd,
     /// A join, or the parenthesis that closes a sort.
     JoinOrClose,
-}
-
-impl PlanTextFault {
-    /// The byte of the text that the fault is about, if it is about one.
-    pub fn at(&self) -> Option<usize> {
-        match self {
-            PlanTextFault::Names { at, .. } | PlanTextFault::Spelling { at, .. } => Some(*at),
-            PlanTextFault::LongMatch | PlanTextFault::Memory => None,
-        }
-    }
 }
 
 impl From<AllocError> for PlanTextFault {
@@ -87,8 +77,8 @@ impl Display for PlanTextFault {
     /// The fault as one line without its end.
     fn fmt<W: fmt::Write>(&self, f: &mut Formatter<W>) -> fmt::Result {
         match self {
-            PlanTextFault::Names { problem, .. } => write_problem(f, *problem),
-            PlanTextFault::Spelling { fault, .. } => write_spelling_fault(f, *fault),
+            PlanTextFault::Names(problem) => write_problem(f, *problem),
+            PlanTextFault::Spelling(fault) => write_spelling_fault(f, *fault),
             PlanTextFault::LongMatch => f.write_str(MANY_CONJUNCTS),
             PlanTextFault::Memory => f.write_str("out of memory"),
         }

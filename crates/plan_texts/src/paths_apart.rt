@@ -5,7 +5,7 @@ use certificate::Space;
 use plan_tree::{MAX_FROM_TABLES, Path, TableSet};
 
 /// Why a path is none of a table's, where the rows of a set of tables are known.
-#[derive(Clone, Copy, Debug, PartialEq, Eq)]
+#[derive(Clone, Copy)]
 pub enum PathFault {
     /// It compares columns with values of tables whose rows aren't known.
     LaterRows {

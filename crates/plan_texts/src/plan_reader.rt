@@ -8,7 +8,7 @@ use certificate::BlockSpace;
 use plan_names::BlockNames;
 use plan_tree::{Inner, MAX_FROM_TABLES, Path, Plan, SortKey, TableSet};
 use query_tree::BlockColumn;
-use std::alloc::{AllocError, Global};
+use std::alloc::Global;
 
 /// Reads a plan of a block by names. Its sorts open before its first access, so that the plan grows step by step as it is read.
 #[derive(Drop)]
@@ -48,14 +48,15 @@ impl<'n, 'a, 't> PlanReader<'n, 'a, 't> {
     pub fn plan(&mut self) -> Result<Plan, PlanTextFault> {
         self.begin_sorts();
         let path = self.first_path()?;
-        let mut plan = Plan::Access(path);
+        // boxed: what is owned is dropped at each exit behind it
+        let mut plan = Box::new(self.alloc, Plan::Access(path))?;
         for _ in 0..self.cursor.text_length() {
             match self.step(&plan)? {
-                Some(step) => plan = with_step(self.alloc, plan, step)?,
-                None => return Ok(plan),
+                Some(step) => plan = Box::new(self.alloc, with_step(plan, step))?,
+                None => break,
             }
         }
-        Ok(plan)
+        Ok(Box::into_inner(plan))
     }
 
     /// Passes each `sort (` that stands here.
@@ -75,14 +76,13 @@ impl<'n, 'a, 't> PlanReader<'n, 'a, 't> {
 
     fn first_path(&mut self) -> Result<Path, PlanTextFault> {
         if let Token::Mark(_) | Token::End = self.cursor.token() {
-            return Err(self.expected(Expectation::Access));
+            return Err(expected(Expectation::Access));
         }
-        let at = self.cursor.at();
         let wanted = self.access()?;
         if let Some(path) = wanted.only_path()? {
             return Ok(path);
         }
-        found_path(cheapest_access(&self.own.space, &wanted), at)
+        found_path(cheapest_access(&self.own.space, &wanted))
     }
 
     /// The next step on top of a plan; none at the end.
@@ -97,7 +97,7 @@ impl<'n, 'a, 't> PlanReader<'n, 'a, 't> {
             return self.end();
         };
         if !self.take_mark(b')') {
-            return Err(self.expected(Expectation::JoinOrClose));
+            return Err(expected(Expectation::JoinOrClose));
         }
         self.open_sorts = other_sorts;
         Ok(Some(self.sort_step()?))
@@ -106,22 +106,20 @@ impl<'n, 'a, 't> PlanReader<'n, 'a, 't> {
     fn end(&self) -> Result<Option<Step>, PlanTextFault> {
         match self.cursor.token() {
             Token::End => Ok(None),
-            _ => Err(self.expected(Expectation::JoinOrEnd)),
+            _ => Err(expected(Expectation::JoinOrEnd)),
         }
     }
 
     fn loop_step(&mut self, plan: &Plan) -> Result<Step, PlanTextFault> {
-        let at = self.cursor.at();
         let wanted = self.access()?;
         if let Some(path) = wanted.only_path()? {
             return Ok(Step::Loop(path));
         }
         let found = cheapest_loop(&self.own.space, tables_of(plan), &wanted);
-        Ok(Step::Loop(found_path(found, at)?))
+        Ok(Step::Loop(found_path(found)?))
     }
 
     fn merge_step(&mut self, plan: &Plan) -> Result<Step, PlanTextFault> {
-        let at = self.cursor.at();
         let conjunct = self.merge_conjunct()?;
         let sorted = self.take_word("sorted");
         let access = self.access()?;
@@ -134,7 +132,7 @@ impl<'n, 'a, 't> PlanReader<'n, 'a, 't> {
             sorted,
             access,
         };
-        self.cheapest_merge(plan, &wanted, at)
+        self.cheapest_merge(plan, &wanted)
     }
 
     fn merge_conjunct(&mut self) -> Result<Option<usize>, PlanTextFault> {
@@ -146,12 +144,7 @@ impl<'n, 'a, 't> PlanReader<'n, 'a, 't> {
     }
 
     /// The cheapest merge on top of a plan: where there is one that its order allows, of those.
-    fn cheapest_merge(
-        &self,
-        plan: &Plan,
-        wanted: &WantedMerge,
-        at: usize,
-    ) -> Result<Step, PlanTextFault> {
+    fn cheapest_merge(&self, plan: &Plan, wanted: &WantedMerge) -> Result<Step, PlanTextFault> {
         let space = &self.own.space;
         let tables = tables_of(plan);
         let allowed = match space.summary(plan) {
@@ -166,25 +159,18 @@ impl<'n, 'a, 't> PlanReader<'n, 'a, 't> {
                     sorted: merge.sorted,
                 },
             }),
-            None => Err(PlanTextFault::Names {
-                at,
-                problem: NameProblem::NoMerge,
-            }),
+            None => Err(fault(NameProblem::NoMerge)),
         }
     }
 
     fn sort_step(&mut self) -> Result<Step, PlanTextFault> {
         if !self.take_word("by") {
-            return Err(self.expected(Expectation::By));
+            return Err(expected(Expectation::By));
         }
-        let at = self.cursor.at();
         let keys = self.keys()?;
         match order_number(self.own.space.orders(), &keys) {
             Some(order) => Ok(Step::Sort { order }),
-            None => Err(PlanTextFault::Names {
-                at,
-                problem: NameProblem::NoOrder,
-            }),
+            None => Err(fault(NameProblem::NoOrder)),
         }
     }
 
@@ -211,12 +197,12 @@ impl<'n, 'a, 't> PlanReader<'n, 'a, 't> {
     /// A column, with the name of its table or without.
     fn column(&mut self) -> Result<BlockColumn, PlanTextFault> {
         let Token::Word(name) = self.cursor.token() else {
-            return Err(self.expected(Expectation::Column));
+            return Err(expected(Expectation::Column));
         };
         let behind = self.cursor.behind();
         if behind.token() == Token::Mark(b'.') {
             let Some(table) = self.names.table_called(name) else {
-                return Err(self.fault(NameProblem::NoTable));
+                return Err(fault(NameProblem::NoTable));
             };
             self.cursor = behind.behind();
             let number = self.column_of(table)?;
@@ -227,17 +213,17 @@ impl<'n, 'a, 't> PlanReader<'n, 'a, 't> {
                 self.cursor = behind;
                 Ok(column)
             }
-            Err(problem) => Err(self.fault(problem)),
+            Err(problem) => Err(fault(problem)),
         }
     }
 
     /// The number of a column of a table, without the table's name.
     fn column_of(&mut self, table: usize) -> Result<usize, PlanTextFault> {
         let Token::Word(name) = self.cursor.token() else {
-            return Err(self.expected(Expectation::ColumnOfTable));
+            return Err(expected(Expectation::ColumnOfTable));
         };
         let Some(number) = self.names.column_of_table(table, name) else {
-            return Err(self.fault(NameProblem::NoColumn));
+            return Err(fault(NameProblem::NoColumn));
         };
         self.cursor = self.cursor.behind();
         Ok(number)
@@ -247,7 +233,7 @@ impl<'n, 'a, 't> PlanReader<'n, 'a, 't> {
     fn access(&mut self) -> Result<WantedAccess, PlanTextFault> {
         let is_all = self.take_word("all");
         if is_all && !self.take_word("of") {
-            return Err(self.expected(Expectation::Of));
+            return Err(expected(Expectation::Of));
         }
         let table = self.table()?;
         let way = if self.take_word("by") {
@@ -287,10 +273,10 @@ impl<'n, 'a, 't> PlanReader<'n, 'a, 't> {
 
     fn table(&mut self) -> Result<usize, PlanTextFault> {
         let Token::Word(name) = self.cursor.token() else {
-            return Err(self.expected(Expectation::Table));
+            return Err(expected(Expectation::Table));
         };
         let Some(table) = self.names.table_called(name) else {
-            return Err(self.fault(NameProblem::NoTable));
+            return Err(fault(NameProblem::NoTable));
         };
         self.cursor = self.cursor.behind();
         Ok(table)
@@ -298,17 +284,13 @@ impl<'n, 'a, 't> PlanReader<'n, 'a, 't> {
 
     /// An index of a table, by its columns.
     fn index(&mut self, table: usize) -> Result<usize, PlanTextFault> {
-        let at = self.cursor.at();
         if !self.take_mark(b'(') {
-            return Err(self.expected(Expectation::List));
+            return Err(expected(Expectation::List));
         }
         let columns = self.index_columns(table)?;
         match index_on(self.own, table, &columns) {
             Some(index) => Ok(index),
-            None => Err(PlanTextFault::Names {
-                at,
-                problem: NameProblem::NoIndex,
-            }),
+            None => Err(fault(NameProblem::NoIndex)),
         }
     }
 
@@ -324,7 +306,7 @@ impl<'n, 'a, 't> PlanReader<'n, 'a, 't> {
         if self.take_mark(b')') {
             Ok(columns)
         } else {
-            Err(self.expected(Expectation::ListEnd))
+            Err(expected(Expectation::ListEnd))
         }
     }
 
@@ -332,10 +314,9 @@ impl<'n, 'a, 't> PlanReader<'n, 'a, 't> {
     fn conjuncts(&mut self) -> Result<MatchedConjuncts, PlanTextFault> {
         let mut conjuncts = MatchedConjuncts::new();
         for _ in 0..self.cursor.text_length() {
-            let fault = self.fault(NameProblem::ManyConjuncts);
             let conjunct = self.conjunct()?;
             if conjuncts.try_push(conjunct).is_err() {
-                return Err(fault);
+                return Err(fault(NameProblem::ManyConjuncts));
             }
             if !self.take_mark(b',') {
                 return Ok(conjuncts);
@@ -347,10 +328,10 @@ impl<'n, 'a, 't> PlanReader<'n, 'a, 't> {
     /// A conjunct by its number, which texts count from 1.
     fn conjunct(&mut self) -> Result<usize, PlanTextFault> {
         let Token::Word(digits) = self.cursor.token() else {
-            return Err(self.expected(Expectation::ConjunctNumber));
+            return Err(expected(Expectation::ConjunctNumber));
         };
         let Some(number) = number_in(digits) else {
-            return Err(self.expected(Expectation::ConjunctNumber));
+            return Err(expected(Expectation::ConjunctNumber));
         };
         let count = self.own.conjunct_count;
         match number.checked_sub(1) {
@@ -358,7 +339,7 @@ impl<'n, 'a, 't> PlanReader<'n, 'a, 't> {
                 self.cursor = self.cursor.behind();
                 Ok(conjunct)
             }
-            _ => Err(self.fault(NameProblem::NoConjunct { count })),
+            _ => Err(fault(NameProblem::NoConjunct { count })),
         }
     }
 
@@ -389,45 +370,35 @@ impl<'n, 'a, 't> PlanReader<'n, 'a, 't> {
         }
         is_there
     }
-
-    fn fault(&self, problem: NameProblem) -> PlanTextFault {
-        PlanTextFault::Names {
-            at: self.cursor.at(),
-            problem,
-        }
-    }
-
-    fn expected(&self, expectation: Expectation) -> PlanTextFault {
-        self.fault(NameProblem::Expected(expectation))
-    }
 }
 
-/// A path that was found for what stands at a byte, as the plan's own.
-fn found_path(found: Option<&Path>, at: usize) -> Result<Path, PlanTextFault> {
+fn fault(problem: NameProblem) -> PlanTextFault {
+    PlanTextFault::Names(problem)
+}
+
+fn expected(expectation: Expectation) -> PlanTextFault {
+    PlanTextFault::Names(NameProblem::Expected(expectation))
+}
+
+/// A path that was found, as the plan's own.
+fn found_path(found: Option<&Path>) -> Result<Path, PlanTextFault> {
     match found {
         Some(path) => Ok(path.clone()?),
-        None => Err(PlanTextFault::Names {
-            at,
-            problem: NameProblem::NoPath,
-        }),
+        None => Err(fault(NameProblem::NoPath)),
     }
 }
 
 /// A plan with one more step on top.
-fn with_step(alloc: Global, plan: Plan, step: Step) -> Result<Plan, AllocError> {
-    let below = Box::new(alloc, plan)?;
-    Ok(match step {
-        Step::Loop(path) => Plan::Loop { outer: below, path },
+fn with_step(plan: Box<Plan>, step: Step) -> Plan {
+    match step {
+        Step::Loop(path) => Plan::Loop { outer: plan, path },
         Step::Merge { conjunct, inner } => Plan::Merge {
-            outer: below,
+            outer: plan,
             conjunct,
             inner,
         },
-        Step::Sort { order } => Plan::Sort {
-            input: below,
-            order,
-        },
-    })
+        Step::Sort { order } => Plan::Sort { input: plan, order },
+    }
 }
 
 /// The tables of a plan.

@@ -44,27 +44,14 @@ fn read_spelled(alloc: Global, own: &BlockSpace, text: &str) -> Result<Plan, Pla
     }
     let number = own.number.saturating_add(1);
     let version = version_number(own.version);
-    let head = format!(in alloc; "CERTIFICATE {version}\nBLOCK {number}\nPLAN ")?;
-    let certificate = format!(in alloc; "{head}{}\nTARGET 0\nEND\n", text.trim())?;
+    let plan = text.trim();
+    let certificate = format!(in alloc;
+        "CERTIFICATE {version}\nBLOCK {number}\nPLAN {plan}\nTARGET 0\nEND\n"
+    )?;
     match read_text(alloc, &block, certificate.as_bytes()) {
         Ok(spelled) => spelled.plan.ok_or(PlanTextFault::LongMatch),
         Err(TextFault::Memory) => Err(PlanTextFault::Memory),
-        Err(fault) => Err(PlanTextFault::Spelling {
-            at: place_in(text, fault, head.len()),
-            fault,
-        }),
-    }
-}
-
-/// Where in a text a fault is, that was found behind a head of so many bytes.
-fn place_in(text: &str, fault: TextFault, head: usize) -> usize {
-    let blanks = text.len().saturating_sub(text.trim_start().len());
-    match fault {
-        TextFault::Form { at, .. } => {
-            let place = at.saturating_sub(head).saturating_add(blanks);
-            place.min(text.trim_end().len())
-        }
-        _ => blanks,
+        Err(fault) => Err(PlanTextFault::Spelling(fault)),
     }
 }
 

@@ -23,11 +23,6 @@ impl<'t> Cursor<'t> {
         Cursor { text, at: 0 }.behind_blanks()
     }
 
-    /// The byte of the text that the token begins with.
-    pub fn at(self) -> usize {
-        self.at
-    }
-
     /// How many bytes the text has.
     pub fn text_length(self) -> usize {
         self.text.len()

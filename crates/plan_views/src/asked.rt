@@ -1,11 +1,13 @@
 //! How often a block is asked by the block around it.
 
-use plan_pages::Part;
 use planned_queries::BlockView;
 use std::alloc::{AllocError, Global};
 
 /// How often a block is asked by estimate, and what that would come to; none of the outermost.
-pub(crate) fn asked_line(alloc: Global, block: &BlockView<'_>) -> Result<Option<Part>, AllocError> {
+pub(crate) fn asked_words(
+    alloc: Global,
+    block: &BlockView<'_>,
+) -> Result<Option<String>, AllocError> {
     let Some(asker) = block.asker else {
         return Ok(None);
     };
@@ -21,5 +23,5 @@ pub(crate) fn asked_line(alloc: Global, block: &BlockView<'_>) -> Result<Option<
             "Block {own} names no column of block {around}: it is asked once, and its result is kept."
         )?
     };
-    Ok(Some(Part::Line { key: "asked", text }))
+    Ok(Some(text))
 }

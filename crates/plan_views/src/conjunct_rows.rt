@@ -1,16 +1,15 @@
 //! The conjuncts of a block, and what they are taken to leave.
 
-use crate::tables::{add_row, number, table, word_cell, words};
 use catalog::Table as StoredTable;
 use estimate::PlanConjunct;
-use plan_pages::{Cell, Table};
+use plan_pages::{MadeTable, Table, number, words};
 use planned_queries::BlockView;
 use query_tree::{BlockColumn, Condition, ValueExpr};
 use std::alloc::{AllocError, Global};
 
 /// A table of the conjuncts: number, words, share of rows in millionths, where the share comes from, and whether plans apply it.
 pub(crate) fn conjunct_table(alloc: Global, block: &BlockView<'_>) -> Result<Table, AllocError> {
-    let mut rows = table(
+    let mut rows = MadeTable::new(
         alloc,
         "conjuncts",
         "conjuncts",
@@ -21,23 +20,19 @@ pub(crate) fn conjunct_table(alloc: Global, block: &BlockView<'_>) -> Result<Tab
             words("source", "keeps"),
             words("applied", "applied"),
         ],
-    )?;
+    );
     let mut place: u64 = 0;
     for conjunct in block.estimate.conjuncts() {
         place = place.saturating_add(1);
-        let condition = format!(in alloc; "{}", block.names.condition(conjunct.condition))?;
-        let source = source_words(alloc, block, conjunct)?;
-        let applied = word_cell(alloc, applied_word(conjunct))?;
-        let cells = [
-            Cell::Number(place),
-            Cell::Text(condition),
-            Cell::Number(u64::from(conjunct.selectivity)),
-            Cell::Text(source),
-            applied,
-        ];
-        add_row(alloc, &mut rows, 0, false, cells)?;
+        let condition = block.names.condition(conjunct.condition);
+        rows.begin_row(0, false);
+        rows.put_number(place);
+        rows.put_text(format!(in alloc; "{condition}"));
+        rows.put_number(u64::from(conjunct.selectivity));
+        rows.put_text(source_words(alloc, block, conjunct));
+        rows.put_word(applied_word(conjunct));
     }
-    Ok(rows)
+    rows.finish()
 }
 
 fn applied_word(conjunct: &PlanConjunct<'_>) -> &'static str {

@@ -10,7 +10,6 @@ mod pictures;
 mod searches;
 mod sections;
 mod statistics;
-mod tables;
 mod ties;
 mod trees;
 mod used;
@@ -23,5 +22,4 @@ pub use planned_queries::{
     Asker, BlockView, Interest, PlannedIndex, PlannedTable, PlanningScript, Query, View, ViewFault,
 };
 pub use sections::section;
-pub use tables::{add_row, number, number_cell, table, word_cell, words};
 pub use used::{UsedColumn, used_columns};

@@ -1,6 +1,6 @@
 //! The search as a graph: states in layers by their number of tables, and the steps that reached them.
 
-use crate::searches::size_of;
+use crate::searches::{size_of, state_words};
 use indexmap::IndexSet;
 use plan_pages::{Edge, Graph, Node, NodeKind};
 use planned_queries::{
@@ -150,8 +150,7 @@ fn add_node(
     cost: u64,
     kind: NodeKind,
 ) -> Result<(), AllocError> {
-    let orders = block.space().orders();
-    let title = format!(in alloc; "{}", block.names.state(orders, key.tables, key.order))?;
+    let title = state_words(alloc, block, key)?;
     graph.nodes.push(Node {
         layer: size_of(key.tables.place()).saturating_sub(1),
         title,

@@ -1,63 +1,54 @@
 //! The search: its states and the steps that its certificate compares.
 
-use crate::tables::{add_row, number, table, words};
 use crate::trees::order_words;
-use plan_pages::{Cell, Part, Table};
-use planned_queries::{
-    BlockView, KeptComparison, Ledger, MANY_STATES, StateKey, Way, key_of, state_of,
-};
+use plan_pages::{MadeParts, MadeTable, Table, number, words};
+use planned_queries::{BlockView, KeptComparison, MANY_STATES, StateKey, Way, key_of, state_of};
 use std::alloc::{AllocError, Global};
 
-/// The parts of a search: how much there is, the states with the steps that led there, and the comparisons.
-pub(crate) fn search_parts(
+/// Puts the parts of a search: how much there is, the states with the steps that led there, and the comparisons.
+pub(crate) fn put_search(
     alloc: Global,
     block: &BlockView<'_>,
     all: bool,
-) -> Result<Vec<Part>, AllocError> {
+    parts: &mut MadeParts,
+) -> Result<(), AllocError> {
     let ledger = &block.ledger;
     let way = Way::of(alloc, block.space(), block.plan())?;
-    let mut parts = Vec::new(alloc);
-    parts.push(figure("states", "listed states", block.certificate().states.len()))?;
-    let shown = ledger.kept.len();
-    parts.push(figure("shown", "comparisons below", shown))?;
-    parts.push(Part::Figure {
-        key: "comparisons",
-        title: "of all comparisons",
-        value: ledger.heard,
-    })?;
-    parts.push(Part::Table(layer_table(alloc, block)?))?;
-    parts.push(Part::Table(state_table(alloc, block, ledger, &way, all)?))?;
-    parts.push(Part::Table(comparison_table(alloc, block, ledger)?))?;
-    Ok(parts)
-}
-
-fn figure(key: &'static str, title: &'static str, count: usize) -> Part {
-    Part::Figure {
-        key,
-        title,
-        value: count as u64,
-    }
+    let (states, shown) = (block.certificate().states.len(), ledger.kept.len());
+    parts.put_figure("states", "listed states", states as u64);
+    parts.put_figure("shown", "comparisons below", shown as u64);
+    parts.put_figure("comparisons", "of all comparisons", ledger.heard);
+    parts.put_table(layer_table(alloc, block));
+    parts.put_table(state_table(alloc, block, &way, all));
+    parts.put_table(comparison_table(alloc, block));
+    Ok(())
 }
 
 /// How many states are listed of each number of tables.
 fn layer_table(alloc: Global, block: &BlockView<'_>) -> Result<Table, AllocError> {
-    let mut rows = table(
+    let mut rows = MadeTable::new(
         alloc,
         "layers",
         "states by number of tables",
         &[number("tables", "tables"), number("states", "states")],
-    )?;
-    for count in 1..block.space().table_count().saturating_add(1) {
-        let states = block
-            .certificate()
-            .states
-            .iter()
-            .filter(|state| size_of(state.tables.place()) == count)
-            .count();
-        let cells = [Cell::Number(count as u64), Cell::Number(states as u64)];
-        add_row(alloc, &mut rows, 0, false, cells)?;
+    );
+    for size in 1..block.space().table_count().saturating_add(1) {
+        rows.begin_row(0, false);
+        rows.put_number(size as u64);
+        rows.put_number(states_of_size(block, size));
     }
-    Ok(rows)
+    rows.finish()
+}
+
+/// How many states are listed of sets of so many tables.
+fn states_of_size(block: &BlockView<'_>, size: usize) -> u64 {
+    let mut count: u64 = 0;
+    for state in &block.certificate().states {
+        if size_of(state.tables.place()) == size {
+            count = count.saturating_add(1);
+        }
+    }
+    count
 }
 
 /// How many tables a set has, by its place among all sets.
@@ -66,14 +57,13 @@ pub(crate) fn size_of(place: usize) -> usize {
 }
 
 /// The listed states with the steps that led there; of many those on the plan's way alone.
-pub(crate) fn state_table(
+fn state_table(
     alloc: Global,
     block: &BlockView<'_>,
-    ledger: &Ledger,
     way: &Way,
     all: bool,
 ) -> Result<Table, AllocError> {
-    let mut rows = table(
+    let mut rows = MadeTable::new(
         alloc,
         "state",
         "states",
@@ -83,52 +73,40 @@ pub(crate) fn state_table(
             number("cost", "least cost"),
             words("step", "reached by"),
         ],
-    )?;
+    );
     let is_whole = all || block.certificate().states.len() <= MANY_STATES;
     for state in &block.certificate().states {
         let key = key_of(state);
-        if is_whole || way.has(key) {
-            add_state(
-                alloc,
-                &mut rows,
-                block,
-                ledger,
-                state.cost,
-                key,
-                way.has(key),
-            )?;
+        let is_marked = way.has(key);
+        if is_whole || is_marked {
+            add_state(alloc, &mut rows, block, state.cost, key, is_marked);
         }
     }
     if let Some(found) = block.space().summary(block.plan()) {
         let last = state_of(block.space(), found);
         let target = block.certificate().target;
-        add_state(alloc, &mut rows, block, ledger, target, last, true)?;
+        add_state(alloc, &mut rows, block, target, last, true);
     }
-    Ok(rows)
+    rows.finish()
 }
 
 fn add_state(
     alloc: Global,
-    rows: &mut Table,
+    rows: &mut MadeTable,
     block: &BlockView<'_>,
-    ledger: &Ledger,
     cost: u64,
     key: StateKey,
     marked: bool,
-) -> Result<(), AllocError> {
-    let tables = format!(in alloc; "{}", block.names.tables(key.tables))?;
-    let order = order_words(alloc, block, key.order)?;
-    let step = match ledger.reaching(key) {
-        Some(kept) => Cell::Text(kept_words(alloc, block, kept)?),
-        None => Cell::Nothing,
-    };
-    let cells = [
-        Cell::Text(tables),
-        Cell::Text(order),
-        Cell::Number(cost),
-        step,
-    ];
-    add_row(alloc, rows, 0, marked, cells)
+) {
+    let tables = block.names.tables(key.tables);
+    rows.begin_row(0, marked);
+    rows.put_text(format!(in alloc; "{tables}"));
+    rows.put_text(order_words(alloc, block, key.order));
+    rows.put_number(cost);
+    match block.ledger.reaching(key) {
+        Some(kept) => rows.put_text(kept_words(alloc, block, kept)),
+        None => rows.put_nothing(),
+    }
 }
 
 /// A step in words, and the state that it begins from.
@@ -148,13 +126,20 @@ pub(crate) fn kept_words(
     }
 }
 
-/// The comparisons that are kept, each with what lies above the bound.
-pub(crate) fn comparison_table(
+/// A state in words.
+pub(crate) fn state_words(
     alloc: Global,
     block: &BlockView<'_>,
-    ledger: &Ledger,
-) -> Result<Table, AllocError> {
-    let mut rows = table(
+    key: StateKey,
+) -> Result<String, AllocError> {
+    let orders = block.space().orders();
+    let state = block.names.state(orders, key.tables, key.order);
+    format!(in alloc; "{state}")
+}
+
+/// The comparisons that are kept, each with what lies above the bound.
+fn comparison_table(alloc: Global, block: &BlockView<'_>) -> Result<Table, AllocError> {
+    let mut rows = MadeTable::new(
         alloc,
         "comparison",
         "comparisons with bounds",
@@ -165,22 +150,14 @@ pub(crate) fn comparison_table(
             number("bound", "bound"),
             number("above", "above"),
         ],
-    )?;
-    for kept in &ledger.kept {
-        let step = kept_words(alloc, block, kept)?;
-        let orders = block.space().orders();
-        let to = format!(in alloc;
-            "{}",
-            block.names.state(orders, kept.to.tables, kept.to.order)
-        )?;
-        let cells = [
-            Cell::Text(step),
-            Cell::Text(to),
-            Cell::Number(kept.cost.number),
-            Cell::Number(kept.bound),
-            Cell::Number(kept.above()),
-        ];
-        add_row(alloc, &mut rows, 0, false, cells)?;
+    );
+    for kept in &block.ledger.kept {
+        rows.begin_row(0, false);
+        rows.put_text(kept_words(alloc, block, kept));
+        rows.put_text(state_words(alloc, block, kept.to));
+        rows.put_number(kept.cost.number);
+        rows.put_number(kept.bound);
+        rows.put_number(kept.above());
     }
-    Ok(rows)
+    rows.finish()
 }

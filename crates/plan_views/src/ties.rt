@@ -1,8 +1,7 @@
 //! Steps that cost the same as the plan's own.
 
-use crate::searches::kept_words;
-use crate::tables::{add_row, number, table, words};
-use plan_pages::{Cell, Part, Table};
+use crate::searches::{kept_words, state_words};
+use plan_pages::{MadeParts, MadeTable, number, words};
 use planned_queries::{
     BlockView, KeptComparison, PlanStep, PlanSteps, are_one_state, is_same_path, key_of, state_of,
 };
@@ -11,37 +10,37 @@ use std::alloc::{AllocError, Global};
 /// So many of them are shown.
 const SHOWN: usize = 16;
 
-/// Adds the steps that lead to a state of the least plan's way at its cost there, without being the plan's, if there are any: the first of
+/// Puts the steps that lead to a state of the least plan's way at its cost there, without being the plan's, if there are any: the first of
 /// them, and how many more there are.
-pub(crate) fn push_ties(
+pub(crate) fn put_ties(
     alloc: Global,
     block: &BlockView<'_>,
-    parts: &mut Vec<Part>,
+    parts: &mut MadeParts,
 ) -> Result<(), AllocError> {
     let steps = PlanSteps::of(alloc, block.space(), block.plan())?;
-    let mut rows = tie_table(alloc)?;
+    let mut rows = tie_table(alloc);
     let mut left_out: usize = 0;
     for kept in &block.ledger.kept {
         if kept.above() == 0 && is_tie(block, &steps, kept) {
-            if rows.rows.len() < SHOWN {
-                add_tie(alloc, &mut rows, block, kept)?;
+            if rows.row_count() < SHOWN {
+                add_tie(alloc, &mut rows, block, kept);
             } else {
                 left_out = left_out.saturating_add(1);
             }
         }
     }
-    if !rows.rows.is_empty() {
-        parts.push(Part::Table(rows))?;
+    if rows.row_count() > 0 {
+        parts.put_table(rows.finish());
     }
     if left_out > 0 {
-        let text = format!(in alloc; "{left_out} more steps cost the same as the plan's own.")?;
-        parts.push(Part::Line { key: "more", text })?;
+        let text = format!(in alloc; "{left_out} more steps cost the same as the plan's own.");
+        parts.put_line("more", text);
     }
     Ok(())
 }
 
-fn tie_table(alloc: Global) -> Result<Table, AllocError> {
-    table(
+fn tie_table(alloc: Global) -> MadeTable {
+    MadeTable::new(
         alloc,
         "ties",
         "steps that cost the same as the plan's own",
@@ -53,22 +52,11 @@ fn tie_table(alloc: Global) -> Result<Table, AllocError> {
     )
 }
 
-fn add_tie(
-    alloc: Global,
-    rows: &mut Table,
-    block: &BlockView<'_>,
-    kept: &KeptComparison,
-) -> Result<(), AllocError> {
-    let step = kept_words(alloc, block, kept)?;
-    let orders = block.space().orders();
-    let to = block.names.state(orders, kept.to.tables, kept.to.order);
-    let to = format!(in alloc; "{to}")?;
-    let cells = [
-        Cell::Text(step),
-        Cell::Text(to),
-        Cell::Number(kept.cost.number),
-    ];
-    add_row(alloc, rows, 0, false, cells)
+fn add_tie(alloc: Global, rows: &mut MadeTable, block: &BlockView<'_>, kept: &KeptComparison) {
+    rows.begin_row(0, false);
+    rows.put_text(kept_words(alloc, block, kept));
+    rows.put_text(state_words(alloc, block, kept.to));
+    rows.put_number(kept.cost.number);
 }
 
 /// Whether a step leads to a state of the plan's way, and isn't the plan's own.

@@ -1,11 +1,11 @@
 //! A plan as a tree.
 
-use crate::tables::{add_row, number, number_cell, table, words};
 use certificate::write_text;
-use plan_pages::{Cell, Part, Table};
+use plan_pages::{MadeTable, Table, number, words};
 use plan_tree::Plan;
 use planned_queries::{BlockView, PlanSteps, Shown, step_words};
 use std::alloc::{AllocError, Global};
+use std::fmt::Write;
 
 /// A plan's steps, the last one above what it stands on, each with its order, rows, pages and cost.
 pub(crate) fn plan_table(
@@ -14,7 +14,8 @@ pub(crate) fn plan_table(
     plan: &Plan,
     title: &str,
 ) -> Result<Table, AllocError> {
-    let mut rows = table(
+    let steps = PlanSteps::of(alloc, block.space(), plan)?;
+    let mut rows = MadeTable::new(
         alloc,
         "plan",
         title,
@@ -27,40 +28,41 @@ pub(crate) fn plan_table(
             number("cost", "so far"),
             number("share", "of all, %"),
         ],
-    )?;
-    let steps = PlanSteps::of(alloc, block.space(), plan)?;
-    let whole = match steps.shown(0) {
-        Some(last) => last.summary.cost.number,
-        None => 0,
-    };
+    );
+    let whole = cost_of_last(&steps);
     for place in 0..steps.len() {
         if let Some(shown) = steps.shown(place) {
-            add_step(alloc, &mut rows, block, &shown, place, whole)?;
+            add_step(alloc, &mut rows, block, &shown, place, whole);
         }
     }
-    Ok(rows)
+    rows.finish()
+}
+
+/// What a plan costs.
+fn cost_of_last(steps: &PlanSteps<'_>) -> u64 {
+    match steps.shown(0) {
+        Some(last) => last.summary.cost.number,
+        None => 0,
+    }
 }
 
 fn add_step(
     alloc: Global,
-    rows: &mut Table,
+    rows: &mut MadeTable,
     block: &BlockView<'_>,
     shown: &Shown<'_>,
     depth: usize,
     whole: u64,
-) -> Result<(), AllocError> {
-    let step = step_words(alloc, block, shown)?;
-    let order = order_words(alloc, block, shown.summary.order)?;
-    let cells = [
-        Cell::Text(step),
-        Cell::Text(order),
-        Cell::Number(block.estimate.cardinality(shown.summary.tables)),
-        Cell::Number(block.estimate.pages(shown.summary.tables)),
-        Cell::Number(shown.own),
-        Cell::Number(shown.summary.cost.number),
-        number_cell(percentage(shown.own, whole)),
-    ];
-    add_row(alloc, rows, depth, false, cells)
+) {
+    let tables = shown.summary.tables;
+    rows.begin_row(depth, false);
+    rows.put_text(step_words(alloc, block, shown));
+    rows.put_text(order_words(alloc, block, shown.summary.order));
+    rows.put_number(block.estimate.cardinality(tables));
+    rows.put_number(block.estimate.pages(tables));
+    rows.put_number(shown.own);
+    rows.put_number(shown.summary.cost.number);
+    rows.put_found(percentage(shown.own, whole));
 }
 
 /// An order by the names of its columns.
@@ -84,11 +86,11 @@ fn percentage(part: u64, whole: u64) -> Option<u64> {
 }
 
 /// `60 + 1000 + 660 + 6000 = 7720`, from the first step on; none of a single step.
-pub(crate) fn sum_line(
+pub(crate) fn sum_words(
     alloc: Global,
     block: &BlockView<'_>,
     plan: &Plan,
-) -> Result<Option<Part>, AllocError> {
+) -> Result<Option<String>, AllocError> {
     let steps = PlanSteps::of(alloc, block.space(), plan)?;
     if steps.len() < 2 {
         return Ok(None);
@@ -97,20 +99,18 @@ pub(crate) fn sum_line(
     let mut separator = "";
     for place in (0..steps.len()).rev() {
         if let Some(shown) = steps.shown(place) {
-            text.push_str(&format!(in alloc; "{separator}{}", shown.own)?)?;
+            let own = shown.own;
+            write!(text, "{separator}{own}")?;
             separator = " + ";
         }
     }
-    let whole = match steps.shown(0) {
-        Some(last) => last.summary.cost.number,
-        None => 0,
-    };
-    text.push_str(&format!(in alloc; " = {whole}")?)?;
-    Ok(Some(Part::Line { key: "sum", text }))
+    let whole = cost_of_last(&steps);
+    write!(text, " = {whole}")?;
+    Ok(Some(text))
 }
 
 /// EXPLAIN's line of the least plan.
-pub(crate) fn plan_line(alloc: Global, block: &BlockView<'_>) -> Result<Part, AllocError> {
+pub(crate) fn plan_line(alloc: Global, block: &BlockView<'_>) -> Result<String, AllocError> {
     let own = &block.planned.own;
     let bytes = write_text(
         alloc,
@@ -119,10 +119,10 @@ pub(crate) fn plan_line(alloc: Global, block: &BlockView<'_>) -> Result<Part, Al
         &block.planned.certificate,
     )?;
     let whole = str::from_utf8(&bytes).unwrap_or("");
-    let line = whole.lines().find(|line| line.starts_with("PLAN "));
-    let text = String::from_str(alloc, line.unwrap_or(""))?;
-    Ok(Part::Line {
-        key: "spelling",
-        text,
-    })
+    for line in whole.lines() {
+        if line.starts_with("PLAN ") {
+            return String::from_str(alloc, line);
+        }
+    }
+    Ok(String::new(alloc))
 }

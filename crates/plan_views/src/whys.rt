@@ -1,9 +1,8 @@
 //! What a plan loses against the least one, and where.
 
-use crate::searches::kept_words;
-use crate::tables::{add_row, number, table, words};
+use crate::searches::{kept_words, state_words};
 use crate::trees::{order_words, plan_table};
-use plan_pages::{Cell, Part, Table};
+use plan_pages::{MadeParts, MadeTable, Part, Table, number, words};
 use plan_tree::Plan;
 use planned_queries::{
     BlockView, PlanSteps, PlanTextFault, Shown, ViewFault, outside, read_plan, state_of, step_words,
@@ -17,54 +16,49 @@ pub(crate) fn why_parts(
     text: &str,
 ) -> Result<Vec<Part>, ViewFault> {
     let own = &block.planned.own;
-    let plan = match read_plan(alloc, &block.names, own, text) {
-        Ok(plan) => plan,
-        Err(PlanTextFault::Memory) => return Err(ViewFault::Memory),
+    match read_plan(alloc, &block.names, own, text) {
+        Ok(plan) => Ok(parts_of(alloc, block, &plan)?),
+        Err(PlanTextFault::Memory) => Err(ViewFault::Memory),
         Err(fault) => {
             let words = format!(in alloc; "{text}: {fault}")?;
-            return Err(ViewFault::Refused(words));
+            Err(ViewFault::Refused(words))
         }
-    };
-    Ok(parts_of(alloc, block, &plan)?)
+    }
 }
 
 fn parts_of(alloc: Global, block: &BlockView<'_>, plan: &Plan) -> Result<Vec<Part>, AllocError> {
-    let mut parts = Vec::new(alloc);
-    let orders = block.space().orders();
-    parts.push(line(
-        "plan",
-        format!(in alloc; "{}", block.names.plan(orders, plan))?,
-    ))?;
-    let losses = Losses::of(alloc, block, plan)?;
-    let missing = missing_words(alloc, block, plan)?;
-    parts.push(Part::Table(loss_table(alloc, block, &losses)?))?;
-    match missing {
-        // of a plan that doesn't answer the block nothing is lost: it is none
-        Some(words) => parts.push(line("outside", words))?,
-        None => push_lost(alloc, block, &losses, &mut parts)?,
-    }
-    let title = format!(in alloc; "the least plan, {}", block.certificate().target)?;
-    parts.push(Part::Table(plan_table(alloc, block, block.plan(), &title)?))?;
-    Ok(parts)
+    let mut parts = MadeParts::new(alloc);
+    let target = block.certificate().target;
+    let title = format!(in alloc; "the least plan, {target}")?;
+    parts.put_line("plan", plan_words(alloc, block, plan));
+    put_losses(alloc, block, plan, &mut parts)?;
+    parts.put_table(plan_table(alloc, block, block.plan(), &title));
+    parts.finish()
 }
 
-/// Adds what a plan loses, and what the least cost is where it loses most.
-fn push_lost(
+fn plan_words(alloc: Global, block: &BlockView<'_>, plan: &Plan) -> Result<String, AllocError> {
+    let plan = block.names.plan(block.space().orders(), plan);
+    format!(in alloc; "{plan}")
+}
+
+/// Puts the steps of a plan with what each loses, and below them what that comes to.
+fn put_losses(
     alloc: Global,
     block: &BlockView<'_>,
-    losses: &Losses<'_>,
-    parts: &mut Vec<Part>,
+    plan: &Plan,
+    parts: &mut MadeParts,
 ) -> Result<(), AllocError> {
-    let lost = lost_words(alloc, block, losses)?;
-    parts.push(line("lost", lost))?;
-    if let Some(words) = instead_words(alloc, block, losses)? {
-        parts.push(line("instead", words))?;
+    let losses = Losses::of(alloc, block, plan)?;
+    parts.put_table(loss_table(alloc, block, &losses));
+    match missing_words(alloc, block, plan)? {
+        // of a plan that doesn't answer the block nothing is lost: it is none
+        Some(words) => parts.put_line("outside", Ok(words)),
+        None => {
+            parts.put_line("lost", lost_words(alloc, block, &losses));
+            parts.put_any_line("instead", instead_words(alloc, block, &losses));
+        }
     }
     Ok(())
-}
-
-fn line(key: &'static str, text: String) -> Part {
-    Part::Line { key, text }
 }
 
 /// Why a plan doesn't answer the block, if it doesn't: a rule of the plan space that it breaks, tables that it leaves out, or its order.
@@ -129,10 +123,17 @@ impl<'p> Losses<'p> {
             .saturating_sub(self.lost_so_far(place.saturating_add(1)))
     }
 
-    /// The step that loses most, if any loses.
+    /// The step that loses most, if any loses; the last one of several.
     fn worst(&self) -> Option<usize> {
-        let worst = (0..self.lost.len()).max_by_key(|place| self.lost_at(*place))?;
-        (self.lost_at(worst) > 0).then_some(worst)
+        let mut worst = None;
+        let mut most = 1;
+        for place in 0..self.lost.len() {
+            if self.lost_at(place) >= most {
+                most = self.lost_at(place);
+                worst = Some(place);
+            }
+        }
+        worst
     }
 }
 
@@ -145,7 +146,7 @@ fn loss_table(
     block: &BlockView<'_>,
     losses: &Losses<'_>,
 ) -> Result<Table, AllocError> {
-    let mut rows = table(
+    let mut rows = MadeTable::new(
         alloc,
         "yours",
         "yours",
@@ -156,22 +157,19 @@ fn loss_table(
             number("bound", "bound"),
             number("lost", "lost so far"),
         ],
-    )?;
+    );
     let worst = losses.worst();
     for place in 0..losses.steps.len() {
         if let Some(shown) = losses.steps.shown(place) {
-            let step = step_words(alloc, block, &shown)?;
-            let cells = [
-                Cell::Text(step),
-                Cell::Number(shown.own),
-                Cell::Number(shown.summary.cost.number),
-                Cell::Number(bound_of(block, &shown)),
-                Cell::Number(losses.lost_so_far(place)),
-            ];
-            add_row(alloc, &mut rows, place, worst == Some(place), cells)?;
+            rows.begin_row(place, worst == Some(place));
+            rows.put_text(step_words(alloc, block, &shown));
+            rows.put_number(shown.own);
+            rows.put_number(shown.summary.cost.number);
+            rows.put_number(bound_of(block, &shown));
+            rows.put_number(losses.lost_so_far(place));
         }
     }
-    Ok(rows)
+    rows.finish()
 }
 
 /// What is lost in all, at which step most of it, and at what cost of that step the plan would tie.
@@ -217,17 +215,15 @@ fn instead_words(
         return Ok(None);
     };
     let key = state_of(block.space(), shown.summary);
-    let state = block
-        .names
-        .state(block.space().orders(), key.tables, key.order);
-    match block.ledger.reaching(key) {
+    let state = state_words(alloc, block, key)?;
+    let words = match block.ledger.reaching(key) {
         Some(kept) => {
-            let step = kept_words(alloc, block, kept)?;
-            let bound = kept.bound;
-            Ok(Some(format!(in alloc; "The least that {state} costs is {bound}, by {step}.")?))
+            let (step, bound) = (kept_words(alloc, block, kept)?, kept.bound);
+            format!(in alloc; "The least that {state} costs is {bound}, by {step}.")?
         }
-        None => Ok(Some(format!(in alloc;
+        None => format!(in alloc;
             "No step leads to {state} for less than the target, which is its bound."
-        )?)),
-    }
+        )?,
+    };
+    Ok(Some(words))
 }

@@ -22,6 +22,10 @@ pub(crate) fn written_plan(
 /// What stands in the file's first line PLAN from the block's text on.
 fn plan_text<'v>(block: &'v BlockView<'_>) -> Option<&'v str> {
     let text = str::from_utf8(block.written?).ok()?;
-    let line = text.lines().find(|line| line.starts_with("PLAN "))?;
-    line.get(5..)
+    for line in text.lines() {
+        if let Some(plan) = line.strip_prefix("PLAN ") {
+            return Some(plan);
+        }
+    }
+    None
 }

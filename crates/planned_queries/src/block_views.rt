@@ -101,12 +101,12 @@ impl<'a> BlockView<'a> {
     pub fn bound(&self, tables: TableSet, order: usize) -> u64 {
         let folded = self.planned.own.space.fold(tables, order);
         let certificate = &self.planned.certificate;
-        let listed = certificate.states.iter().find(|state| state.tables.place() == tables.place()
-            && state.order == folded);
-        match listed {
-            Some(state) => state.cost,
-            None => certificate.target,
+        for state in &certificate.states {
+            if state.tables.place() == tables.place() && state.order == folded {
+                return state.cost;
+            }
         }
+        certificate.target
     }
 
     /// How many rows the block is taken to give, before its late conjuncts.

@@ -86,9 +86,12 @@ impl Ledger {
 
     /// The first step that leads to a state at its bound.
     pub fn reaching(&self, to: StateKey) -> Option<&KeptComparison> {
-        self.kept
-            .iter()
-            .find(|kept| are_one_state(kept.to, to) && kept.above() == 0)
+        for kept in &self.kept {
+            if are_one_state(kept.to, to) && kept.above() == 0 {
+                return Some(kept);
+            }
+        }
+        None
     }
 }
 

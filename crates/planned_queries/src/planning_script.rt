@@ -68,7 +68,12 @@ impl PlanningScript {
 
     /// A table, by its name in upper case.
     pub fn table(&self, name: &str) -> Option<&PlannedTable> {
-        self.tables.iter().find(|table| table.name.as_str() == name)
+        for table in &self.tables {
+            if table.name.as_str() == name {
+                return Some(table);
+            }
+        }
+        None
     }
 
     /// Leaves out the indexes that another script over the same tables doesn't have.
@@ -88,7 +93,12 @@ impl PlanningScript {
 
 /// Whether one of some blocks reads a table, by its number in the database.
 fn is_read(blocks: &[Block], number: usize) -> bool {
-    blocks.iter().any(|block| block.tables.contains(&number))
+    for block in blocks {
+        if block.tables.contains(&number) {
+            return true;
+        }
+    }
+    false
 }
 
 impl PlannedTable {
@@ -127,16 +137,22 @@ impl PlannedTable {
 
     /// The number of the index on a list of columns, if there is one.
     pub fn index_on(&self, columns: &[usize]) -> Option<usize> {
-        self.indexes
-            .iter()
-            .position(|index| index.columns.as_slice() == columns)
+        for (number, index) in self.indexes.iter().enumerate() {
+            if index.columns.as_slice() == columns {
+                return Some(number);
+            }
+        }
+        None
     }
 
     /// The number of a column, by its name in upper case.
     pub fn column(&self, name: &str) -> Option<usize> {
-        self.columns
-            .iter()
-            .position(|column| column.name.as_str() == name)
+        for (number, column) in self.columns.iter().enumerate() {
+            if column.name.as_str() == name {
+                return Some(number);
+            }
+        }
+        None
     }
 }
 

@@ -124,7 +124,7 @@ impl Display for StepWords<'_, '_> {
         let names = &self.block.names;
         match self.shown.step {
             PlanStep::Access(path) => {
-                write!(f, "{}", names.path(path))?;
+                names.path(path).fmt(f)?;
                 self.write_matched(f, path)
             }
             PlanStep::Loop(path) => {
@@ -167,7 +167,7 @@ impl StepWords<'_, '_> {
     fn write_conjunct<W: fmt::Write>(&self, f: &mut Formatter<W>, number: usize) -> fmt::Result {
         let found: Option<&Condition> = self.block.names.conjunct(number);
         match found {
-            Some(condition) => write!(f, "{}", self.block.names.condition(condition)),
+            Some(condition) => self.block.names.condition(condition).fmt(f),
             None => write!(f, "conjunct {}", number.saturating_add(1)),
         }
     }

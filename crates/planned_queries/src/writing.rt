@@ -13,7 +13,7 @@ const MAX_SCALE: u8 = 18;
 impl Display for PlanningScript {
     fn fmt<W: fmt::Write>(&self, f: &mut Formatter<W>) -> fmt::Result {
         for table in &self.tables {
-            write!(f, "{table}")?;
+            table.fmt(f)?;
         }
         writeln!(f, "{};", self.query)
     }
@@ -29,10 +29,12 @@ impl Display for PlannedTable {
             separator = ", ";
         }
         f.write_str(");\n")?;
-        for index in self.indexes.iter().filter(|index| !index.is_left_out) {
-            let unique = if index.is_unique { "UNIQUE " } else { "" };
-            let list = self.columns_of(&index.columns);
-            writeln!(f, "CREATE {unique}INDEX ON {} {list};", self.name)?;
+        for index in &self.indexes {
+            if !index.is_left_out {
+                let unique = if index.is_unique { "UNIQUE " } else { "" };
+                let list = self.columns_of(&index.columns);
+                writeln!(f, "CREATE {unique}INDEX ON {} {list};", self.name)?;
+            }
         }
         self.write_statistics(f)
     }
@@ -46,10 +48,12 @@ impl PlannedTable {
             "SET STATISTICS {name} ROWS {} PAGES {};",
             own.rows, own.pages
         )?;
-        for index in self.indexes.iter().filter(|index| !index.is_left_out) {
-            let list = self.columns_of(&index.columns);
-            write!(f, "SET STATISTICS {name} {list} ")?;
-            self.write_index_statistics(f, index)?;
+        for index in &self.indexes {
+            if !index.is_left_out {
+                let list = self.columns_of(&index.columns);
+                write!(f, "SET STATISTICS {name} {list} ")?;
+                self.write_index_statistics(f, index)?;
+            }
         }
         Ok(())
     }

@@ -1,9 +1,9 @@
 //! Answers to questions.
 
-use crate::asked::{Asked, AskedView, Options, Question};
 use crate::asking::SessionPlanner;
 use crate::printing::{Form, drawing_of, out_of_memory, print};
 use crate::reading::{Certificates, REFUSED, Reading, read_query, with_proposals};
+use command_line::questions::{Asked, AskedView, Options, Question};
 use command_line::requests::Source;
 use plan_pages::{Page, Part, Section};
 use plan_questions::{PlanningScript, View, ViewFault, difference, page};

@@ -2,9 +2,7 @@
 #![tactic(auto)]
 
 mod answers;
-mod asked;
 mod asking;
-mod line;
 mod listener;
 mod printing;
 mod queries;
@@ -13,7 +11,8 @@ mod reading;
 ghost use Rattle.std.specs.Prelude.{◌≡◌, ◌<◌};
 
 use answers::answer;
-use asked::Asked;
+use command_line::asked_question;
+use command_line::questions::Asked;
 use program_devices::{BROKEN_OFF, Input, StandardError, is_enough, line_words, print_line_fault};
 use sqlr::Failures;
 use std::io::{self, IsTerminal};
@@ -82,7 +81,7 @@ fn read_line<R: Runtime + AllocGlobal>(input: &Input<R>) -> Result<Asked, u8> {
             return Err(printing::out_of_memory(input.standard_error));
         }
     }
-    match line::asked(input.rt.alloc(), &texts) {
+    match asked_question(input.rt.alloc(), &texts) {
         Ok(asked) => Ok(asked),
         Err(fault) => Err(print_line_fault(input.rt, input.standard_error, fault)),
     }

@@ -1,6 +1,7 @@
 //! Pages printed.
 
-use plan_pages::{Drawing, Page, page_html, page_json, page_text};
+use page_forms::{Drawing, page_html, page_json, page_text};
+use plan_pages::Page;
 use program_devices::{BROKEN_OFF, Input, StandardError, tell_output};
 use std::alloc::{AllocError, Global};
 use std::env;
