@@ -17,7 +17,7 @@ use crate::many_rows::ManyRows;
 use query_tree::{BlockColumn, Condition, Operator, ValueExpr};
 use sqlvalue::{ComparisonOperator, SqlType, Value};
 
-/// How many levels an expression may have of which vectors are made: each takes some thousand bytes of the stack (own).
+/// How many levels an expression may have that is calculated on many rows: each takes a thousand bytes of the stack and more (own).
 const MOST_LEVELS: u8 = 8;
 
 /// By what the units of two operands are multiplied for an operator, and the scale of what comes of it.
@@ -115,7 +115,7 @@ fn between_rows<S: ManyRows>(
     Some(from & to)
 }
 
-/// The scale that the values of an expression have, if it is one of those of which vectors are made, and has no more than so many levels.
+/// The scale of an expression's values, if it may be one that is calculated on many rows and has no more than so many levels (own).
 fn scale_of(expr: &ValueExpr, levels: u8) -> Option<u8> {
     let below = levels.checked_sub(1)?;
     match expr {

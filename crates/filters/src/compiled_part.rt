@@ -28,7 +28,7 @@ pub enum Scan<'s> {
     Nulls { negated: bool, column: usize },
     /// `column IN (members)` (8.4), where the members have values.
     Listed(MemberList<'s>),
-    /// Nothing: the part is evaluated row by row.
+    /// Nothing: the part is evaluated on rows, many together or one by one.
     Nothing,
 }
 
