@@ -182,10 +182,10 @@ fn index_section(
     let mut parts = MadeParts::new(alloc);
     parts.put_figure("target", "the least plan costs", today.target);
     for is_proposed in [false, true] {
-        let rows = change_table(alloc, changes, today, block, is_proposed);
-        let is_empty = rows.row_count() == 0;
+        let table = change_table(alloc, changes, today, block, is_proposed).finish()?;
+        let is_empty = table.rows.is_empty();
         if !is_empty {
-            parts.put_table(rows.finish());
+            parts.put_table(Ok(table));
         }
         if is_proposed {
             put_why_none(script, is_empty, &mut parts);

@@ -29,8 +29,10 @@ pub(crate) fn put_ties(
             }
         }
     }
-    if rows.row_count() > 0 {
-        parts.put_table(rows.finish());
+    // A row for which memory was wanting isn't counted, so the table is looked at, and not how many rows were begun.
+    let table = rows.finish()?;
+    if !table.rows.is_empty() {
+        parts.put_table(Ok(table));
     }
     if left_out > 0 {
         let text = format!(in alloc; "{left_out} more steps cost the same as the plan's own.");
