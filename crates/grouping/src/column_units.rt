@@ -3,17 +3,14 @@
 ghost use Rattle.std.specs.Prelude.{◌≡◌, ◌≤◌, ◌<◌, true, false, All, FitsSigned, IfOk, IfSome, OnOk, Some, None, length, map};
 ghost use Rattle.std.specs.Int.{w64};
 ghost use Rattle.definitions.specs.Limits.{greatest_scale};
-ghost use Rattle.definitions.specs.Value.{Number};
 ghost use Rattle.definitions.specs.Queries.Grouping.{taken};
 ghost use Rattle.query_tree.specs.Bound.{column_of};
-ghost use Rattle.sqlvalue.specs.Meaning.{value_of};
 ghost use Rattle.grouping.specs.Batches.{AreHeld, AreUnitsOf};
 ghost use Rattle.grouping.specs.Units.{numbers_at};
 
 use crate::accumulator::is_null;
 use query_tree::BlockColumn;
-use result_rows::RowBatch;
-use sqlvalue::Value;
+use result_rows::{RowBatch, unit_of};
 use std::alloc::{AllocError, Global};
 
 /// The greatest scale of numbers (own).
@@ -130,18 +127,4 @@ fn read_units<B: RowBatch>(
         }
     }
     Ok(true)
-}
-
-/// The units of a number of a scale, if they have no more than 64 bits.
-fn unit_of(value: &Value, scale: u8) -> Option<i64>
-    ensures exact { IfSome result (λ unit. value_of value.now ≡ Number unit scale) }
-    ensures ranged { IfSome result (FitsSigned w64) }
-{
-    match value {
-        Value::Num(number) if number.scale == scale => match i64::try_from(number.units) {
-            Ok(unit) => Some(unit),
-            Err(_) => None,
-        },
-        _ => None,
-    }
 }

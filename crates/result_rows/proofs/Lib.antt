@@ -8,3 +8,5 @@ mod Columns
 mod RowsOneByOne
 pub mod Faults
 mod Batches
+pub mod Repeats
+mod DistinctOnce

@@ -3,5 +3,6 @@ pub mod Rows
 pub mod Faults
 pub mod RowAt
 pub mod Batches
+pub mod SeenUnits
 pub mod ResultRows
 pub mod Stores

@@ -1,5 +1,5 @@
 -- What is kept of the rows of an answer, and what is printed of them at their end.
-use Rattle.std.specs.Prelude.{ℕ, ◌≡◌, ◌++◌, Bool, true, is_some, List, IsPermutation, IsSorted, IfSome, flat_map, length, map}
+use Rattle.std.specs.Prelude.{ℕ, ℤ, ◌≡◌, ◌++◌, Bool, true, is_some, List, IsPermutation, IsSorted, IfSome, flat_map, length, map}
 use Rattle.std.specs.List.{AllByRecursion}
 use Rattle.definitions.specs.Table.{Row}
 use Rattle.definitions.specs.Printing.{fields_line, row_line}
@@ -13,8 +13,9 @@ use Rattle.definitions_answers.specs.Told.{values_asked}
 use Rattle.definitions_answers.specs.Lines.{IsInBounds}
 use Rattle.definitions_answers.specs.Shapes.{Shape, HasShapes}
 use Rattle.sqlvalue.specs.Owned.{owned_value}
-use Rattle.result_rows.specs.Lines.{lines_of}
+use Rattle.result_rows.specs.Lines.{has_line, lines_of, number_line}
 use Rattle.result_rows.specs.Rows.{rows_of}
+use Rattle.result_rows.specs.SeenUnits.{has_unit}
 use Rattle.result_rows.specs.declared.any_row.AnyRow.{AnyRow}
 use Rattle.result_rows.specs.declared.lines.DistinctLines.{DistinctLines}
 use Rattle.result_rows.specs.declared.printed_rows.PrintedRows.{PrintedRows}
@@ -33,10 +34,11 @@ pub record AreLinesOf (rows : List Row) (lines : DistinctLines) : Type 0 where
       → lines_of lines ≡ map row_line (without_repeats same_values rows)
   pub bounded : AllByRecursion (AllByRecursion IsInBounds) rows
 
--- printed once each
+-- printed once each; what is remembered of numbers, at their scale, was printed
 pub record HasDistinct (names : List (List ℕ)) (rows : List Row) (d : DistinctRows) : Type 0 where
   pub header : d.header.items ≡ fields_line names
   pub lines : AreLinesOf rows d.lines
+  pub seen : (unit : ℤ) → has_unit d.seen unit ≡ true → has_line (lines_of d.lines) (number_line d.scale unit) ≡ true
 
 -- kept to be ordered, under DISTINCT each once
 pub record HasOrdered (names : List (List ℕ)) (rows : List Row) (o : OrderedRows) : Type 0 where

@@ -1,19 +1,22 @@
 //! Rows of a batch whose result columns are columns of tables.
 
-ghost use Rattle.std.specs.Prelude.{◌≡◌, ◌++◌, ◌<◌, Some, flat_map, length, slice_get, true, OnOk};
+ghost use Rattle.std.specs.Prelude.{◌≡◌, ◌++◌, [], ◌∷◌, ◌<◌, Some, flat_map, length, slice_get, true, FitsSigned, IfSome, OnOk};
+ghost use Rattle.std.specs.Int.{w64};
 ghost use Rattle.std.specs.List.{AllByRecursion};
 ghost use Rattle.definitions.specs.Printing.{row_line, value_text};
-ghost use Rattle.definitions.specs.Value.{Value as ValueOf};
+ghost use Rattle.definitions.specs.Value.{Number, Value as ValueOf};
 ghost use Rattle.definitions.specs.Queries.Evaluation as meaning;
 ghost use Rattle.definitions.specs.Arithmetic.{Is};
 ghost use Rattle.query_tree.specs.Bound.{value_of};
+ghost use Rattle.sqlvalue.specs.Meaning as sql;
 ghost use Rattle.definitions_answers.specs.Lines.{IsInBounds};
 ghost use Rattle.result_rows.specs.Batches.{rows_in, GivesColumnOf, IsColumnOf};
 ghost use Rattle.result_rows.specs.RowAt.{items_of, row_in};
 
 use crate::row_batch::RowBatch;
+use crate::seen_units::unit_of;
 use query_tree::{Item, ValueExpr};
-use sqlvalue::write_value;
+use sqlvalue::{Value, write_value};
 use std::alloc::AllocError;
 
 /// Whether each result column is a column of one of so many tables.
@@ -92,10 +95,40 @@ fn write_column<B: RowBatch>(
         (v : ValueOf) × (meaning.value env (value_of value.now) ≡ Is v) × IsInBounds v
         × (out.new.items ≡ out.old.items ++ value_text v)) }
 {
+    write_value(out, &value_at(value, batch, place))
+}
+
+/// The units of the number that is alone in the row at a place of a batch, where it has a scale, and they no more than 64 bits.
+pub(crate) fn only_unit<B: RowBatch>(
+    items: &[Item],
+    batch: &B,
+    place: usize,
+    scale: u8,
+) -> Option<i64>
+    requires columns { AllByRecursion (GivesColumnOf (B.width batch.now)) (items_of items.now) }
+    requires within { place < length (B.environments batch.now) }
+    ensures row { IfSome result (λ unit. (env : meaning.Environment) →
+        slice_get (B.environments batch.now) place ≡ Some env →
+        row_in env (items_of items.now) ≡ Number unit scale ∷ []) }
+    ensures ranged { IfSome result (FitsSigned w64) }
+{
+    match items {
+        [item] => unit_of(&value_at(&item.value, batch, place), scale),
+        _ => None,
+    }
+}
+
+/// What a column has in the row at a place of a batch.
+fn value_at<'a, B: RowBatch>(value: &ValueExpr, batch: &'a B, place: usize) -> Value<'a>
+    requires column { IsColumnOf (B.width batch.now) (value_of value.now) }
+    requires within { place < length (B.environments batch.now) }
+    ensures { (env : meaning.Environment) → slice_get (B.environments batch.now) place ≡ Some env →
+        meaning.value env (value_of value.now) ≡ Is (sql.value_of result) }
+{
     match value {
         ValueExpr::Column { column, .. } => {
             let row = batch.rows(column.table)[place];
-            write_value(out, &batch.cell(*column, row as usize))
+            batch.cell(*column, row as usize)
         }
         _ => unreachable!(),
     }

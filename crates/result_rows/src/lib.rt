@@ -1,9 +1,9 @@
 //! The rows of an answer, and what is kept of them until their end: lines that are printed as rows come, once each or in order, or
 //! the first value of each, or whether there is any.
 //!
-//! In reading order: `fault`; `row`, the values of a row, and `lines`, each once; `printed_rows`, `distinct_rows`, `ordered_rows`,
-//! `first_value_rows` and `any_row`, what is kept; `row_batch`, rows that come many at a time, and `column_rows`, where their columns are
-//! columns of tables; `row_store`, any of them; `result_rows`, rows until one raises.
+//! In reading order: `fault`; `row`, the values of a row, and `lines`, each once; `seen_units`, numbers that came before;
+//! `printed_rows`, `distinct_rows`, `ordered_rows`, `first_value_rows` and `any_row`, what is kept; `row_batch`, rows that come many at a
+//! time, and `column_rows`, where their columns are columns of tables; `row_store`, any of them; `result_rows`, rows until one raises.
 #![tactic(auto)]
 
 mod any_row;
@@ -19,6 +19,7 @@ mod result_rows;
 mod row;
 mod row_batch;
 mod row_store;
+mod seen_units;
 
 pub use any_row::AnyRow;
 pub use column_rows::are_columns_of;
@@ -31,3 +32,4 @@ pub use printed_rows::PrintedRows;
 pub use result_rows::ResultRows;
 pub use row_batch::RowBatch;
 pub use row_store::RowStore;
+pub use seen_units::{SeenUnits, unit_of};
