@@ -10,4 +10,5 @@ pub mod KeyRanks
 pub mod SortedPlaces
 pub mod BucketRows
 pub mod Matches
+pub mod CleanRows
 pub mod Chains
