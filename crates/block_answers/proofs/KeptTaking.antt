@@ -30,9 +30,9 @@ module _ (source : BlockSource) (outer : List Combination) (inner : ℕ → List
   raises_at = raises_of_late context (late_conjuncts b)
 
   -- once something has raised, it stays
-  pub stays_raised : (late : Option Raise) (rows : BlockRows) (c : Combination) → is_some late ≡ true → TellsByLate source outer inner late cs rows → TellsByLate source outer inner late (cs ++ c ∷ []) rows
-  stays_raised None rows c e h = absurd (true≢false (sym e))
-  stays_raised (Some raise) rows c e h = subst (λ rs. Contains rs (raise_of raise)) (sym (flat_map-append raises_at cs (c ∷ []))) (Contains-append_left (late_raises context b cs) (late_raises context b (c ∷ [])) (raise_of raise) h)
+  pub stays_raised : (late : Option Raise) (rows : BlockRows) (more : List Combination) → is_some late ≡ true → TellsByLate source outer inner late cs rows → TellsByLate source outer inner late (cs ++ more) rows
+  stays_raised None rows more e h = absurd (true≢false (sym e))
+  stays_raised (Some raise) rows more e h = subst (λ rs. Contains rs (raise_of raise)) (sym (flat_map-append raises_at cs more)) (Contains-append_left (late_raises context b cs) (late_raises context b more) (raise_of raise) h)
 
   pub now_raised : (rows : BlockRows) (raise : Raise) (c : Combination) → Contains (raises_at c) (raise_of raise) → TellsByLate source outer inner (Some raise) (cs ++ c ∷ []) rows
   now_raised rows raise c h =

@@ -17,4 +17,5 @@ pub mod Meaning
 pub mod GroupMeaning
 pub mod Ending
 pub mod KeptTaking
+pub mod NoLate
 mod PlainBatch

@@ -1,9 +1,10 @@
 //! What is told of an inner block, as far as its composites have come.
 
-ghost use Rattle.std.specs.Prelude.{ℕ, ◌≡◌, ◌++◌, ◌∷◌, [], List, IfOk, OnOk, map, true};
+ghost use Rattle.std.specs.Prelude.{ℕ, ◌≡◌, ◌++◌, ◌∷◌, [], List, IfOk, OnOk, length, map, true};
 ghost use Rattle.definitions.specs.Arithmetic.{Meaning};
 ghost use Rattle.definitions.specs.Table.{Row};
 ghost use Rattle.definitions.specs.Queries.Answer.{block_answer};
+ghost use Rattle.definitions.specs.Queries.Conjuncts.{late_conjuncts};
 ghost use Rattle.definitions.specs.Queries.Evaluation.{Combination};
 ghost use Rattle.definitions_execution.specs.OfBlock.{combination_of};
 ghost use Rattle.definitions_execution.specs.Stored as stored;
@@ -24,6 +25,7 @@ use crate::block_rows::BlockRows;
 use filters::{BlockSource, Composite, OuterRows};
 use query_tree::Block;
 use result_rows::AnswerFault;
+use scans::Batch;
 use sqlvalue::Raise;
 use std::alloc::{AllocError, Global};
 use subqueries::{FirstValues, Told};
@@ -86,6 +88,34 @@ impl<'s> KeptRows<'s> {
             Ok(true) => self.rows.add(alloc, source, block, composite, around),
             Ok(false) => Ok(()),
         }
+    }
+
+    /// Takes the composites of a batch, where there is no late conjunct.
+    pub fn take_batch<A: OuterRows>(
+        &mut self,
+        alloc: Global,
+        source: &BlockSource<'_>,
+        block: &'s Block,
+        batch: &Batch,
+        around: &A,
+    ) -> Result<(), AllocError>
+        requires block { block.now ≡ source.now.block }
+        requires can { CanAnswer source.now (A.combinations around.now) }
+        requires none { late_conjuncts (block_in source.now) ≡ [] }
+        requires well { IsWellFor source.now (A.combinations around.now) (rows_in self.old) }
+        requires wide { batch.now.width ≡ length (block_in source.now).tables }
+        ensures told { OnOk result ((inner : ℕ → List Combination → Meaning (List Row)) (cs : List Combination) →
+            AreTyped source.now (A.combinations around.now) cs →
+            TellsKept source.now (A.combinations around.now) inner cs self.old →
+            TellsKept source.now (A.combinations around.now) inner (cs ++ map (combination_of source.now.database
+            (block_in source.now)) batch.now.items) self.new) }
+        ensures well { OnOk result (IsWellFor source.now (A.combinations around.now) (rows_in self.new)) }
+        ensures kind { kind_of (store_in (rows_in self.new)) ≡ kind_of (store_in (rows_in self.old)) }
+    {
+        if self.late.is_some() {
+            return Ok(());
+        }
+        self.rows.add_batch(alloc, source, block, batch, around)
     }
 
     /// What is told of the block, once all composites have come.

@@ -3,6 +3,7 @@ use Rattle.std.proofs.Common.{◌≡◌, ◌∙◌, sym, ap, ap₂, subst, ℕ, 
 use Rattle.std.specs.Prelude.{slice_get, sum_by, Bool, IsPermutation, Result}
 use Rattle.std.proofs.lemmas.List.{map-append}
 use Rattle.std.proofs.lemmas.List.Sums.{sum_by-append, sum_by-cons}
+use Rattle.std.proofs.lemmas.List.Sorted.{IsPermutation-refl}
 use Rattle.definitions.specs.Arithmetic as a
 use Rattle.definitions.specs.Arithmetic.{Meaning}
 use Rattle.definitions.specs.Table.{Database, Row}
@@ -15,6 +16,7 @@ use Rattle.definitions.specs.Plans.PlanSpace.{InSpace}
 use Rattle.definitions.specs.Queries.BoundBlock.{Block, Blocks}
 use Rattle.definitions.specs.Queries.Answer.{block_answer, meanings}
 use Rattle.definitions.specs.Queries.Combinations.{passing}
+use Rattle.definitions.specs.Queries.Conjuncts.{late_conjuncts}
 use Rattle.definitions.specs.Queries.Evaluation.{Combination}
 use Rattle.definitions_execution.specs.OfBlock.{combination_of, stored_of}
 use Rattle.definitions_execution.specs.Running.{work}
@@ -43,6 +45,7 @@ use Rattle.block_answers.specs.declared.kept_rows.KeptRows.{KeptRows}
 use Rattle.executor.specs.declared.ready_block.ReadyBlock.{ReadyBlock}
 use Rattle.executor.proofs.InnerTelling.{block_at, get_mapped}
 use Rattle.block_answers.proofs.Taking.{all_typed}
+use Rattle.executor.proofs.Batched.{nothing_asked}
 
 -- a composite is taken into rows, whatever the inner blocks mean
 abbrev pub TakesOne : BlockSource → List Combination → code.Composite → Result Bool Raise → KeptRows → KeptRows → Type 0
@@ -123,3 +126,16 @@ module _ (query : List ReadyBlock) (every : AreReady query) (number : ℕ) (r : 
       let within : InSpace (space_of current_version db b) (plan_of r.plan) = subst (λ (d : Database). InSpace (space_of current_version d b) (plan_of r.plan)) ready.database ready.within in
       ap₂ (λ x y. saturated (x + y)) opened_is asked ∙ stops_after own (sum_by (totals_in query outer r) combinations) limit
       ∙ sym (total_by_one_step current_version db blocks (plans_in query) number b (plan_of r.plan) outer combinations (block_at query every number r here) (get_mapped (λ (x : ReadyBlock). plan_of x.plan) query number r here) behind within there)
+
+  -- where it has no late conjuncts they are the total alone
+  pub whole_alone : (opened : ℕ) → late_conjuncts b ≡ [] → opened ≡ saturated (work (space_of current_version r.source.database b) (stored_in r.source outer) (plan_of r.plan)) → opened ≡ total_at query outer number
+  whole_alone opened none is =
+      let all = passing (context_alone db outer) b in
+      let own = work (space_of current_version db b) (stored_of (context_alone db outer) b) (plan_of r.plan) in
+      let within : InSpace (space_of current_version db b) (plan_of r.plan) = subst (λ (d : Database). InSpace (space_of current_version d b) (plan_of r.plan)) ready.database ready.within in
+      is ∙ ap (λ (d : Database). saturated (work (space_of current_version d b) (stored_of (context_alone d outer) b) (plan_of r.plan))) ready.database
+      ∙ nothing_more own (sum_by (totals_in query outer r) all) limit (nothing_asked (λ c. total_at query (c ∷ outer)) b none all)
+      ∙ sym (total_by_one_step current_version db blocks (plans_in query) number b (plan_of r.plan) outer all (block_at query every number r here) (get_mapped (λ (x : ReadyBlock). plan_of x.plan) query number r here) behind within (IsPermutation-refl all))
+    where
+      nothing_more : (own sum most : ℕ) → sum ≡ 0 → min own most ≡ min (own + sum) most
+      nothing_more own sum most none = omega (arith, none)

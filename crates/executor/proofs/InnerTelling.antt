@@ -17,6 +17,8 @@ use Rattle.definitions.specs.Queries.Conjuncts.{conjuncts, is_late, late_conjunc
 use Rattle.definitions.specs.Queries.Evaluation.{Combination}
 use Rattle.definitions.specs.Queries.Laws.{MeansRows}
 use Rattle.definitions.specs.Queries.Answer.{meanings}
+use Rattle.definitions_execution.specs.OfBlock.{combination_of}
+use Rattle.definitions_execution.specs.Stored.{Composite}
 use Rattle.definitions_execution.specs.Total.{subqueries}
 use Rattle.definitions_execution.specs.TypedCombinations.{IsTypedCombination}
 use Rattle.definitions_execution.proofs.FormedNames.{OfValues, typed_conjuncts}
@@ -33,13 +35,10 @@ use Rattle.definitions_answers.proofs.Steps.{formed_ask_behind, meaning_by_one_s
 use Rattle.definitions_answers.proofs.Taken.{all_arranged, all_filtered, both_of}
 use Rattle.definitions_answers.proofs.Trying.{late_conjuncts_say}
 use Rattle.filters.specs.Evaluable.{CanEvaluate}
-use Rattle.filters.specs.Composites.{numbers_in}
 use Rattle.filters.specs.Sources.{block_in}
-use Rattle.filters.specs.declared.composite.Composite.{Composite}
 use Rattle.sqlvalue.specs.Raises.{raise_of}
 use Rattle.sqlvalue.specs.declared.raise.Raise.{Raise}
 use Rattle.subqueries.specs.Found.{said_in}
-use Rattle.subqueries.specs.Framed.{combination_in}
 use Rattle.subqueries.specs.Keeping.{told_by}
 use Rattle.subqueries.specs.declared.kept_results.KeptResults.{KeptResults}
 use Rattle.block_answers.specs.OneComposite.{are_true_in, raised_in}
@@ -119,7 +118,7 @@ module _ (query : List ReadyBlock) (all : AreReady query) where
     b = block_in r.source
 
     abbrev c : Combination
-    c = combination_in r.source composite
+    c = combination_of r.source.database b composite
 
     ready : IsReady query number r
     ready = all number r here
@@ -128,7 +127,7 @@ module _ (query : List ReadyBlock) (all : AreReady query) where
     valid = subst IsDatabase ready.database ready.valid
 
     own : IsTypedCombination db b c
-    own = subst (λ d. IsTypedCombination d b c) ready.database (composites_typed r.source.database b (numbers_in (length b.tables) composite) ready.valid)
+    own = subst (λ d. IsTypedCombination d b c) ready.database (composites_typed r.source.database b composite ready.valid)
 
     inside : AllByRecursion (StandsInside db blocks number (c ∷ outer)) (subqueries b)
     inside = subqueries_stand_inside db blocks number b outer c (block_at number r here) stands own

@@ -6,5 +6,7 @@ mod InnerRows
 mod InnerTelling
 mod Outermost
 mod Batched
+mod KeptPlaces
+mod ToldBatches
 mod WholeQuery
 mod GivenPlans

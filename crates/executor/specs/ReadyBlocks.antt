@@ -101,6 +101,10 @@ module _ (query : List ReadyBlock) where
   abbrev pub OfBlock : ℕ → (ReadyBlock → Type 0) → Type 0
   OfBlock number P = (r : ReadyBlock) → slice_get query number ≡ Some r → P r
 
+  -- it has no parameters, so that what is told of it is the same in all rows around
+  abbrev pub HasNoParameters : ℕ → Type 0
+  HasNoParameters number = OfBlock number (λ r. r.parameters.items ≡ [])
+
   -- the blocks that its late conjuncts ask for, as code goes through them
   abbrev pub subqueries_at : ℕ → List ℕ
   subqueries_at number = subqueries_of (slice_get query number)

@@ -1,11 +1,13 @@
 //! Runs a bound query by plans of its blocks that it is given: the text of its answer. It knows of no search.
 #![tactic(auto)]
 
+mod alone;
 mod answer;
 mod nested;
 mod ready_block;
 mod running;
 mod taking;
+mod told_batches;
 mod watch;
 
 pub use answer::{answer_text, run_select};

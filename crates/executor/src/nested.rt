@@ -22,6 +22,7 @@ ghost use Rattle.subqueries.specs.Telling.{told_in};
 ghost use Rattle.definitions_execution.specs.Total.{subqueries};
 ghost use Rattle.executor.specs.ReadyBlocks.{blocks_in, database_in, seen_at, subqueries_at, total_at, AreLeft, AreReady, AreRight, IsToldLast, OfBlock};
 
+use crate::alone::evaluate_alone;
 use crate::ready_block::ReadyBlock;
 use crate::running::run_plan;
 use block_answers::{KeptRows, row_at, try_all};
@@ -92,6 +93,9 @@ fn evaluate_block<'s, W: WorkWatch>(
     ensures frames { OnOk result (combinations_in frames.new ≡ combinations_in frames.old) }
 {
     let ready = &query[number];
+    if ready.late.is_empty() && ready.parameters.is_empty() {
+        return evaluate_alone(alloc, ready, existence, &*frames);
+    }
     let mut pipeline = run_plan(
         alloc,
         &ready.source,
@@ -144,13 +148,40 @@ pub(crate) fn try_late<'s, W: WorkWatch>(
     if ready.late.is_empty() {
         return Ok((Ok(true), 0));
     }
+    let work = ask_at(alloc, query, number, composite, frames, results)?;
+    let late = try_conjuncts(&ready.late, &ready.source, composite, &*frames, &*results);
+    Ok((late, work))
+}
+
+/// Asks each block that a block's late conjuncts ask for, at a composite of it, and gives the sum of their totals there.
+#[cycle(nested)]
+pub(crate) fn ask_at<'s, W: WorkWatch>(
+    alloc: Global,
+    query: &'s [ReadyBlock<'_>],
+    number: usize,
+    composite: &Composite,
+    frames: &mut Frames<'s, W>,
+    results: &mut [KeptResults],
+) -> Result<u64, AllocError>
+    requires query { AreReady query.now }
+    requires number { number < length query.now }
+    requires stands { Stands (database_in query.now) (blocks_in query.now) number (combinations_in frames.old) }
+    requires right { AreRight query.now results.old }
+    ensures told { OnOk result (OfBlock query.now number (λ r. AllByRecursion (IsToldLast query.now r.seen.items
+        (combination_in r.source composite.now ∷ combinations_in frames.old) results.new) r.subqueries.items)) }
+    ensures total { IfOk result (λ work. OfBlock query.now number (λ r. work ≡ saturated (sum_by (total_at query.now
+        (combination_in r.source composite.now ∷ combinations_in frames.old)) (subqueries (block_in r.source))))) }
+    ensures right { OnOk result (AreRight query.now results.new) }
+    ensures left { OnOk result (AreLeft query.now (number + 1) results.old results.new) }
+    ensures frames { OnOk result (combinations_in frames.new ≡ combinations_in frames.old) }
+{
+    let ready = &query[number];
     // A look at the first table tells what holds of the database.
     let _table = ready.source.table(0);
     frames.enter(&ready.source, *composite)?;
     let work = ask_subqueries(alloc, query, number, frames, results)?;
     frames.leave();
-    let late = try_conjuncts(&ready.late, &ready.source, composite, &*frames, &*results);
-    Ok((late, work))
+    Ok(work)
 }
 
 /// Asks each block that a block's late conjuncts ask for, at the combination of it that was entered last, and gives the
@@ -187,7 +218,7 @@ fn ask_subqueries<'s, W: WorkWatch>(
 }
 
 /// Tries late conjuncts on a composite, by what was told last of their subqueries.
-fn try_conjuncts<A: OuterRows>(
+pub(crate) fn try_conjuncts<A: OuterRows>(
     late: &[&Condition],
     source: &BlockSource<'_>,
     composite: &Composite,

@@ -6,6 +6,7 @@ use Rattle.std.specs.List.{list_any, AllByRecursion}
 use Rattle.std.proofs.lemmas.Bool.Decides.{nat_tests}
 use Rattle.std.proofs.lemmas.List.{length-map, take_all}
 use Rattle.std.proofs.lemmas.Option.{slice_get-get_or}
+use Rattle.std.proofs.lemmas.Result.{IfOk-weaker}
 use Rattle.definitions.specs.Arithmetic.{Raise}
 use Rattle.definitions.specs.Estimates.Version.{current_version, Version}
 use Rattle.definitions.specs.Plans.Plan.{Plan}
@@ -43,7 +44,7 @@ use Rattle.subqueries.specs.declared.kept_results.KeptResults.{KeptResults}
 use Rattle.sqlvalue.specs.Owned.{owned_value}
 use Rattle.subqueries.proofs.KeptPlaces.{latest_is_told, latest_is_total, left_out_told}
 use Rattle.filters.specs.Sources.{block_in, context_in, stored_in}
-use Rattle.executor.specs.ReadyBlocks.{blocks_in, database_in, meanings_in, plans_in, totals_in, seen_at, seen_of, subqueries_at, subqueries_of, total_at, IsReady, IsToldLast}
+use Rattle.executor.specs.ReadyBlocks.{blocks_in, database_in, meanings_in, plans_in, totals_in, seen_at, seen_of, subqueries_at, subqueries_of, total_at, IsReady, IsReadyIn, IsToldLast}
 use Rattle.executor.specs.declared.ready_block.ReadyBlock.{ReadyBlock}
 use Rattle.executor.proofs.InnerBlocks.{as_much_as_asked, at_index, index_is, kept_same, left_below, left_less, left_out_left, left_out_right, left_twice, one_later, right_same, right_with, rising_before, stays_all, sum_later, sum_stops, told_here}
 use Rattle.definitions.specs.Estimates.BlockSpace.{space_of}
@@ -63,7 +64,7 @@ use Rattle.block_answers.specs.Ready.{CanAnswer}
 use Rattle.result_rows.specs.Stores.{keeping, kind_of, StoreKind}
 use Rattle.block_answers.specs.Telling.{context_with}
 use Rattle.block_answers.proofs.Ending.{all_done, first_at, split_later}
-use Rattle.executor.proofs.InnerRows.{can, costs, grows, means, surrounded, whole, TakesOne}
+use Rattle.executor.proofs.InnerRows.{can, costs, grows, means, surrounded, whole, whole_alone, TakesOne}
 use Rattle.executor.proofs.InnerTelling.{code_says, inside_listed, late_can_evaluate, same_block, says}
 use Rattle.executor.proofs.nested.+nested.Goals as goal
 
@@ -201,7 +202,7 @@ ask_subqueries-ask_block-requires g t c =
     let there : get_or c.deref-block-items.result.now c.blocks-2.block-index 0 < length query = subst (λ n. get_or c.deref-block-items.result.now c.blocks-2.block-index 0 < n) (length-map query (λ (x : ReadyBlock). block_in x.source)) inside.there in
     let stands : Stands (database_in query) (blocks_in query) (get_or c.deref-block-items.result.now c.blocks-2.block-index 0) (combinations_in c.blocks-2.frames) = subst (Stands (database_in query) (blocks_in query) (get_or c.deref-block-items.result.now c.blocks-2.block-index 0)) (sym c.blocks-2.invariant.frames_are) inside.stands in
     let behind : number < get_or c.deref-block-items.result.now c.blocks-2.block-index 0 = inside.behind in
-    let less : 4 * (length query - get_or c.deref-block-items.result.now c.blocks-2.block-index 0) + 3 < 4 * (length query - number) = omega (arith, behind, there) in
+    let less : 5 * (length query - get_or c.deref-block-items.result.now c.blocks-2.block-index 0) + 4 < 5 * (length query - number) = omega (arith, behind, there) in
     search (rules, there, stands, less)
 
 pub ask_subqueries-blocks-2-preserved : goal.ask_subqueries-blocks-2-preserved
@@ -304,20 +305,6 @@ try_late-returns-then-is_empty-clause-total g t c r' at' =
     subst (λ (x : ReadyBlock). 0 ≡ saturated (sum_by (total_at query (combination_in x.source c.args.composite.now ∷ outer)) (subqueries (block_in x.source)))) (same_block r r' (sym at_block ∙ at'))
     (none_are_asked (total_at query (combination_in r.source c.args.composite.now ∷ outer)) (block_in r.source) none)
 
-pub try_late-ask_subqueries-requires : goal.try_late-ask_subqueries-requires
-try_late-ask_subqueries-requires g t c =
-    let query = c.args.query.now in
-    let number = c.args.number in
-    let outer = combinations_in c.args.frames.now in
-    let r : ReadyBlock = c.index-query-number.result in
-    let at_block : slice_get query number ≡ Some r = slice_get-get_or query number r c.requires.number ∙ ap Some (sym c.index-query-number.is) in
-    let entered : combinations_in c.enter.new.self ≡ combination_in r.source c.args.composite.now ∷ outer = c.in_ok-enter.ensures.entered in
-    let inside : AllByRecursion (StandsInside (database_in query) (blocks_in query) number (combinations_in c.enter.new.self)) (subqueries_at query number) =
-    subst (λ o. AllByRecursion (StandsInside (database_in query) (blocks_in query) number o) (subqueries_at query number)) (sym entered)
-    (subst (AllByRecursion (StandsInside (database_in query) (blocks_in query) number (combination_in r.source c.args.composite.now ∷ outer))) (sym (ap subqueries_of at_block)) (inside_listed query c.requires.query number r at_block outer c.requires.stands c.args.composite.now)) in
-    let less : 4 * (length query - number) < 4 * (length query - number) + 1 = omega arith in
-    search (rules, inside, less)
-
 pub try_late-try_conjuncts-late-requires : goal.try_late-try_conjuncts-late-requires
 try_late-try_conjuncts-late-requires g t c =
     let query = c.args.query.now in
@@ -325,16 +312,11 @@ try_late-try_conjuncts-late-requires g t c =
     let outer = combinations_in c.args.frames.now in
     let r : ReadyBlock = c.index-query-number.result in
     let at_block : slice_get query number ≡ Some r = slice_get-get_or query number r c.requires.number ∙ ap Some (sym c.index-query-number.is) in
-    let entered : combinations_in c.enter.new.self ≡ combination_in r.source c.args.composite.now ∷ outer = c.in_ok-enter.ensures.entered in
-    let asked : combinations_in c.ask_subqueries.new.frames ≡ combination_in r.source c.args.composite.now ∷ outer = c.in_ok-work.ensures.frames ∙ entered in
-    let back : combinations_in c.leave.new.self ≡ outer = c.leave.ensures (combination_in r.source c.args.composite.now) outer asked in
-    let results = c.ask_subqueries.new.results in
-    let listed : AllByRecursion (IsToldLast query r.seen.items (combination_in r.source c.args.composite.now ∷ outer) results) r.subqueries.items =
-    subst (λ (x : Option ReadyBlock). AllByRecursion (IsToldLast query (seen_of x) (combination_in r.source c.args.composite.now ∷ outer) results) (subqueries_of x)) at_block
-    (subst (λ o. AllByRecursion (IsToldLast query (seen_at query number) o results) (subqueries_at query number)) entered c.in_ok-work.ensures.told) in
+    let back : combinations_in c.ask_at.new.frames ≡ outer = c.in_ok-work.ensures.frames in
+    let results = c.ask_at.new.results in
     let ready : IsReady query number r = c.requires.query number r at_block in
     let late : conditions_of c.deref.result.now ≡ late_conjuncts (block_in r.source) = ap conditions_of c.deref.ensures.value ∙ ready.late in
-    let can = late_can_evaluate query c.requires.query number r at_block outer c.requires.stands c.args.composite.now results listed in
+    let can = late_can_evaluate query c.requires.query number r at_block outer c.requires.stands (numbers_in (length (block_in r.source).tables) c.args.composite.now) results (c.in_ok-work.ensures.told r at_block) in
     subst (λ o. AllByRecursion (CanEvaluate (told_environment (at (context_in r.source o) (combination_in r.source c.args.composite.now)) (told_by results))) (conditions_of c.deref.result.now)) (sym back)
     (subst (AllByRecursion (CanEvaluate (told_environment (at (context_in r.source outer) (combination_in r.source c.args.composite.now)) (told_by results)))) (sym late) can)
 
@@ -345,28 +327,56 @@ try_late-returns-clause-says g t c r' at' =
     let outer = combinations_in c.args.frames.now in
     let r : ReadyBlock = c.index-query-number.result in
     let at_block : slice_get query number ≡ Some r = slice_get-get_or query number r c.requires.number ∙ ap Some (sym c.index-query-number.is) in
-    let entered : combinations_in c.enter.new.self ≡ combination_in r.source c.args.composite.now ∷ outer = c.in_ok-enter.ensures.entered in
-    let asked : combinations_in c.ask_subqueries.new.frames ≡ combination_in r.source c.args.composite.now ∷ outer = c.in_ok-work.ensures.frames ∙ entered in
-    let back : combinations_in c.leave.new.self ≡ outer = c.leave.ensures (combination_in r.source c.args.composite.now) outer asked in
-    let results = c.ask_subqueries.new.results in
-    let listed : AllByRecursion (IsToldLast query r.seen.items (combination_in r.source c.args.composite.now ∷ outer) results) r.subqueries.items =
-    subst (λ (x : Option ReadyBlock). AllByRecursion (IsToldLast query (seen_of x) (combination_in r.source c.args.composite.now ∷ outer) results) (subqueries_of x)) at_block
-    (subst (λ o. AllByRecursion (IsToldLast query (seen_at query number) o results) (subqueries_at query number)) entered c.in_ok-work.ensures.told) in
+    let back : combinations_in c.ask_at.new.frames ≡ outer = c.in_ok-work.ensures.frames in
+    let results = c.ask_at.new.results in
     let ready : IsReady query number r = c.requires.query number r at_block in
     let late : conditions_of c.deref.result.now ≡ late_conjuncts (block_in r.source) = ap conditions_of c.deref.ensures.value ∙ ready.late in
     let env : List Combination → Environment = λ o. told_environment (at (context_in r.source o) (combination_in r.source c.args.composite.now)) (told_by results) in
     let said = c.try_conjuncts-late in
     let truth : IfOk said.result (λ all. all ≡ are_true_in (env outer) (late_conjuncts (block_in r.source))) =
-    subst (λ o. IfOk said.result (λ all. all ≡ are_true_in (env o) (late_conjuncts (block_in r.source)))) back (subst (λ ds. IfOk said.result (λ all. all ≡ are_true_in (env (combinations_in c.leave.new.self)) ds)) late said.ensures.truth) in
+    subst (λ o. IfOk said.result (λ all. all ≡ are_true_in (env o) (late_conjuncts (block_in r.source)))) back (subst (λ ds. IfOk said.result (λ all. all ≡ are_true_in (env (combinations_in c.ask_at.new.frames)) ds)) late said.ensures.truth) in
     let quiet : OnOk said.result (raised_in (env outer) (late_conjuncts (block_in r.source)) ≡ []) =
-    subst (λ o. OnOk said.result (raised_in (env o) (late_conjuncts (block_in r.source)) ≡ [])) back (subst (λ ds. OnOk said.result (raised_in (env (combinations_in c.leave.new.self)) ds ≡ [])) late said.ensures.quiet) in
+    subst (λ o. OnOk said.result (raised_in (env o) (late_conjuncts (block_in r.source)) ≡ [])) back (subst (λ ds. OnOk said.result (raised_in (env (combinations_in c.ask_at.new.frames)) ds ≡ [])) late said.ensures.quiet) in
     let raised : IfErr said.result (λ raise. Contains (raised_in (env outer) (late_conjuncts (block_in r.source))) (raise_of raise)) =
-    subst (λ o. IfErr said.result (λ raise. Contains (raised_in (env o) (late_conjuncts (block_in r.source))) (raise_of raise))) back (subst (λ ds. IfErr said.result (λ raise. Contains (raised_in (env (combinations_in c.leave.new.self)) ds) (raise_of raise))) late said.ensures.raised) in
+    subst (λ o. IfErr said.result (λ raise. Contains (raised_in (env o) (late_conjuncts (block_in r.source))) (raise_of raise))) back (subst (λ ds. IfErr said.result (λ raise. Contains (raised_in (env (combinations_in c.ask_at.new.frames)) ds) (raise_of raise))) late said.ensures.raised) in
     subst (λ (x : ReadyBlock). Says (context_among (database_in query) (blocks_in query) outer) (block_in x.source) (combination_in x.source c.args.composite.now) (said_in said.result)) (same_block r r' (sym at_block ∙ at'))
-    (code_says (database_in query) (blocks_in query) (block_in r.source) outer (combination_in r.source c.args.composite.now) (told_by results) (says query c.requires.query number r at_block outer c.requires.stands c.args.composite.now results listed) said.result truth quiet raised)
+    (code_says (database_in query) (blocks_in query) (block_in r.source) outer (combination_in r.source c.args.composite.now) (told_by results) (says query c.requires.query number r at_block outer c.requires.stands (numbers_in (length (block_in r.source).tables) c.args.composite.now) results (c.in_ok-work.ensures.told r at_block)) said.result truth quiet raised)
 
 pub try_late-returns-clause-total : goal.try_late-returns-clause-total
-try_late-returns-clause-total g t c r' at' =
+try_late-returns-clause-total g t c = c.in_ok-work.ensures.total
+
+-- ---- what late conjuncts ask for at a composite
+
+pub ask_at-ask_subqueries-requires : goal.ask_at-ask_subqueries-requires
+ask_at-ask_subqueries-requires g t c =
+    let query = c.args.query.now in
+    let number = c.args.number in
+    let outer = combinations_in c.args.frames.now in
+    let r : ReadyBlock = c.index-query-number.result in
+    let at_block : slice_get query number ≡ Some r = slice_get-get_or query number r c.requires.number ∙ ap Some (sym c.index-query-number.is) in
+    let entered : combinations_in c.enter.new.self ≡ combination_in r.source c.args.composite.now ∷ outer = c.in_ok-enter.ensures.entered in
+    let inside : AllByRecursion (StandsInside (database_in query) (blocks_in query) number (combinations_in c.enter.new.self)) (subqueries_at query number) =
+    subst (λ o. AllByRecursion (StandsInside (database_in query) (blocks_in query) number o) (subqueries_at query number)) (sym entered)
+    (subst (AllByRecursion (StandsInside (database_in query) (blocks_in query) number (combination_in r.source c.args.composite.now ∷ outer))) (sym (ap subqueries_of at_block)) (inside_listed query c.requires.query number r at_block outer c.requires.stands (numbers_in (length (block_in r.source).tables) c.args.composite.now))) in
+    let less : 5 * (length query - number) < 5 * (length query - number) + 1 = omega arith in
+    search (rules, inside, less)
+
+pub ask_at-returns-clause-told : goal.ask_at-returns-clause-told
+ask_at-returns-clause-told g t c r' at' =
+    let query = c.args.query.now in
+    let number = c.args.number in
+    let outer = combinations_in c.args.frames.now in
+    let r : ReadyBlock = c.index-query-number.result in
+    let at_block : slice_get query number ≡ Some r = slice_get-get_or query number r c.requires.number ∙ ap Some (sym c.index-query-number.is) in
+    let entered : combinations_in c.enter.new.self ≡ combination_in r.source c.args.composite.now ∷ outer = c.in_ok-enter.ensures.entered in
+    let results = c.ask_subqueries.new.results in
+    let listed : AllByRecursion (IsToldLast query r.seen.items (combination_in r.source c.args.composite.now ∷ outer) results) r.subqueries.items =
+    subst (λ (x : Option ReadyBlock). AllByRecursion (IsToldLast query (seen_of x) (combination_in r.source c.args.composite.now ∷ outer) results) (subqueries_of x)) at_block
+    (subst (λ o. AllByRecursion (IsToldLast query (seen_at query number) o results) (subqueries_at query number)) entered c.in_ok-work.ensures.told) in
+    subst (λ (x : ReadyBlock). AllByRecursion (IsToldLast query x.seen.items (combination_in x.source c.args.composite.now ∷ outer) results) x.subqueries.items) (same_block r r' (sym at_block ∙ at')) listed
+
+pub ask_at-returns-clause-total : goal.ask_at-returns-clause-total
+ask_at-returns-clause-total g t c r' at' =
     let query = c.args.query.now in
     let number = c.args.number in
     let outer = combinations_in c.args.frames.now in
@@ -377,6 +387,69 @@ try_late-returns-clause-total g t c r' at' =
     subst (λ (x : ReadyBlock). c.in_ok-work.work ≡ saturated (sum_by (total_at query (combination_in x.source c.args.composite.now ∷ outer)) (subqueries (block_in x.source)))) (same_block r r' (sym at_block ∙ at'))
     (c.in_ok-work.ensures.total ∙ ap (λ o. saturated (sum_by (total_at query o) (subqueries_at query number))) entered ∙ ap (λ ns. saturated (sum_by (total_at query (combination_in r.source c.args.composite.now ∷ outer)) ns)) (ap subqueries_of at_block)
     ∙ ap saturated (sum_by-IsPermutation (total_at query (combination_in r.source c.args.composite.now ∷ outer)) (subqueries (block_in r.source)) r.subqueries.items ready.asked))
+
+pub ask_at-returns-clause-frames : goal.ask_at-returns-clause-frames
+ask_at-returns-clause-frames g t c =
+    let query = c.args.query.now in
+    let number = c.args.number in
+    let outer = combinations_in c.args.frames.now in
+    let r : ReadyBlock = c.index-query-number.result in
+    let at_block : slice_get query number ≡ Some r = slice_get-get_or query number r c.requires.number ∙ ap Some (sym c.index-query-number.is) in
+    c.leave.ensures (combination_in r.source c.args.composite.now) outer (c.in_ok-work.ensures.frames ∙ c.in_ok-enter.ensures.entered)
+
+-- ---- a block that asks for no other
+
+pub evaluate_block-evaluate_alone-requires-clause-ready : goal.evaluate_block-evaluate_alone-requires-clause-ready
+evaluate_block-evaluate_alone-requires-clause-ready g t c =
+    let query = c.args.query.now in
+    let number = c.args.number in
+    let outer = combinations_in c.args.frames.now in
+    let r : ReadyBlock = c.index-query-number.result in
+    let at_block : slice_get query number ≡ Some r = slice_get-get_or query number r c.requires.number ∙ ap Some (sym c.index-query-number.is) in
+    let ready : IsReady query number r = c.requires.query number r at_block in
+    (blocks_in query, number, subst (λ d. IsReadyIn d (blocks_in query) number r) (sym ready.database) ready)
+
+pub evaluate_block-evaluate_alone-requires-clause-surrounded : goal.evaluate_block-evaluate_alone-requires-clause-surrounded
+evaluate_block-evaluate_alone-requires-clause-surrounded g t c =
+    let query = c.args.query.now in
+    let number = c.args.number in
+    let outer = combinations_in c.args.frames.now in
+    let r : ReadyBlock = c.index-query-number.result in
+    let at_block : slice_get query number ≡ Some r = slice_get-get_or query number r c.requires.number ∙ ap Some (sym c.index-query-number.is) in
+    surrounded query c.requires.query number r at_block outer c.requires.stands
+
+pub evaluate_block-evaluate_alone-requires-clause-none : goal.evaluate_block-evaluate_alone-requires-clause-none
+evaluate_block-evaluate_alone-requires-clause-none g t c =
+    let query = c.args.query.now in
+    let number = c.args.number in
+    let outer = combinations_in c.args.frames.now in
+    let r : ReadyBlock = c.index-query-number.result in
+    let at_block : slice_get query number ≡ Some r = slice_get-get_or query number r c.requires.number ∙ ap Some (sym c.index-query-number.is) in
+    let ready : IsReady query number r = c.requires.query number r at_block in
+    let empty : length r.late.items ≡ 0 = grind (arith, nat_tests, c.if-is_empty.true, c.is_empty.ensures, r.late.ok.0) in
+    let none : late_conjuncts (block_in r.source) ≡ [] = sym ready.late ∙ ap conditions_of (nothing_there r.late.items empty) in
+    none
+
+pub evaluate_block-returns-then-is_empty-2-clause-told : goal.evaluate_block-returns-then-is_empty-2-clause-told
+evaluate_block-returns-then-is_empty-2-clause-told g t c =
+    let query = c.args.query.now in
+    let number = c.args.number in
+    let outer = combinations_in c.args.frames.now in
+    let r : ReadyBlock = c.index-query-number.result in
+    let at_block : slice_get query number ≡ Some r = slice_get-get_or query number r c.requires.number ∙ ap Some (sym c.index-query-number.is) in
+    IfOk-weaker c.evaluate_alone.result _ _ (λ found told. means query c.requires.query number r at_block outer c.requires.stands c.args.existence (told_in found.0) (told (meanings_in query))) c.evaluate_alone.ensures.told
+
+pub evaluate_block-returns-then-is_empty-2-clause-total : goal.evaluate_block-returns-then-is_empty-2-clause-total
+evaluate_block-returns-then-is_empty-2-clause-total g t c =
+    let query = c.args.query.now in
+    let number = c.args.number in
+    let outer = combinations_in c.args.frames.now in
+    let r : ReadyBlock = c.index-query-number.result in
+    let at_block : slice_get query number ≡ Some r = slice_get-get_or query number r c.requires.number ∙ ap Some (sym c.index-query-number.is) in
+    let ready : IsReady query number r = c.requires.query number r at_block in
+    let empty : length r.late.items ≡ 0 = grind (arith, nat_tests, c.if-is_empty.true, c.is_empty.ensures, r.late.ok.0) in
+    let none : late_conjuncts (block_in r.source) ≡ [] = sym ready.late ∙ ap conditions_of (nothing_there r.late.items empty) in
+    IfOk-weaker c.evaluate_alone.result _ _ (λ found opened. whole_alone query c.requires.query number r at_block outer c.requires.stands found.1 none opened) c.evaluate_alone.ensures.opened
 
 -- ---- the rows of a block
 

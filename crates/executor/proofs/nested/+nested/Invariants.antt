@@ -15,16 +15,19 @@ use Rattle.executor.proofs.nested.+nested.Given as goal
 
 -- from a block to one behind it there is less to go
 abbrev pub decreases-ask_block : goal.decreases-ask_block
-decreases-ask_block g l = 4 * (length l.query.now - l.number) + 3
+decreases-ask_block g l = 5 * (length l.query.now - l.number) + 4
 
 abbrev pub decreases-evaluate_block : goal.decreases-evaluate_block
-decreases-evaluate_block g l = 4 * (length l.query.now - l.number) + 2
+decreases-evaluate_block g l = 5 * (length l.query.now - l.number) + 3
 
 abbrev pub decreases-try_late : goal.decreases-try_late
-decreases-try_late g l = 4 * (length l.query.now - l.number) + 1
+decreases-try_late g l = 5 * (length l.query.now - l.number) + 2
+
+abbrev pub decreases-ask_at : goal.decreases-ask_at
+decreases-ask_at g l = 5 * (length l.query.now - l.number) + 1
 
 abbrev pub decreases-ask_subqueries : goal.decreases-ask_subqueries
-decreases-ask_subqueries g l = 4 * (length l.query.now - l.number)
+decreases-ask_subqueries g l = 5 * (length l.query.now - l.number)
 
 -- those before one are told, and counted
 abbrev pub invariant-ask_subqueries-blocks-2 : goal.invariant-ask_subqueries-blocks-2

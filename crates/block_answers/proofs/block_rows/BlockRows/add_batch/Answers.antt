@@ -1,4 +1,4 @@
-use Rattle.std.proofs.Common.{◌≡◌, ◌∙◌, ap, map, subst}
+use Rattle.std.proofs.Common.{◌∙◌, ap, map, subst}
 use Rattle.std.specs.List.{AllByRecursion}
 use Rattle.query_tree.specs.Bound.{bound_function_of}
 use Rattle.grouping.specs.Batches.{IsOfColumn}

@@ -1,4 +1,4 @@
-use Rattle.std.proofs.Common.{◌∙◌, sym, subst}
+use Rattle.std.proofs.Common.{◌∙◌, sym, subst, [], ◌∷◌}
 use Rattle.std.proofs.lemmas.Result.{on_ok_weaker}
 use Rattle.definitions_answers.specs.Taking.{Says}
 use Rattle.filters.specs.Sources.{block_in}
@@ -13,7 +13,7 @@ pub returns-then-is_some-clause-told : goal.returns-then-is_some-clause-told
 returns-then-is_some-clause-told g c inner cs typed says told =
     let s = c.args.source.now in
     let outer = g.A.OuterRows.combinations c.args.around.now in
-    stays_raised s outer inner cs c.args.self.now.late c.args.self.now.rows (seen s outer c.args.composite.now) (sym c.is_some.ensures ∙ c.if-is_some.true) told
+    stays_raised s outer inner cs c.args.self.now.late c.args.self.now.rows (seen s outer c.args.composite.now ∷ []) (sym c.is_some.ensures ∙ c.if-is_some.true) told
 
 pub returns-in-Err-clause-told : goal.returns-in-Err-clause-told
 returns-in-Err-clause-told g c inner cs typed says told =
