@@ -90,7 +90,7 @@ class Body:
         return changed
 
     def functions(self, folder):
-        """The paths of the functions that it changes; none where a line is in no function."""
+        """The names of the functions that it changes; none where a line is in no function."""
         found = []
         for path, old, _ in self.pairs():
             text = (folder / path).read_text()
@@ -98,7 +98,8 @@ class Body:
             if not name:
                 return []
             module = path.removeprefix("src/").removesuffix(".rt").replace("/", "::")
-            found.append(name if module in ("lib", "main") else f"{module}::{name}")
+            # A method is called by its type, which may be another module's.
+            found.append(name if "::" in name or module in ("lib", "main") else f"{module}::{name}")
         return sorted(set(found))
 
 
