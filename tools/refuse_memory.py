@@ -1,7 +1,7 @@
 #!/usr/bin/env python3
 """Refuses each allocation of the program in turn, and looks at what such a run prints.
 
-usage: refuse_memory.py PROGRAM [--words | --sessions | --views] [SCRIPT ..]
+usage: refuse_memory.py PROGRAM [--words | --sessions | --steps | --views] [SCRIPT ..]
 
 The scripts are those of memory, or the named ones: a statement a line, and files beside them that they load. Each is run under a
 library that refuses one call of malloc or realloc: the first, then the second, and on to the last. Where its last statement is an EXPLAIN,
@@ -13,8 +13,12 @@ script and command; the status is 1 where a run is not so. A C compiler is neede
 With --sessions PROGRAM is crates/tests_engine, which runs the statements of a script one by one in one session, and a second time where memory was
 wanting for one. Behind what it reads first, each refused allocation has to leave all that is printed as it is.
 
+With --steps PROGRAM is crates/tests_engine too, which runs its own script of steps, and looks at what the run has left: a refused allocation has to
+leave the work of whole statements.
+
 With --views PROGRAM is sqlr-plan, and its views of examples/join.sql are asked so: each prints what it prints, or nothing.
 """
+import collections
 import concurrent.futures
 import os
 import pathlib
@@ -31,6 +35,8 @@ VIEWS = [
     ["tree"], ["tree", "join.certificates"], ["why", "A loop B"], ["why", "MERGE(ACCESS(SEG 1),1,SEG 2)"], ["sweep", "B ROWS", "10", "1000"], ["indexes"], ["diff", "join.sql"],
     ["search", "--all"], ["statistics"], ["page"], ["tree", "--json"],
 ]
+# What crates/tests_engine tells of its steps where an allocation is refused, if all is well.
+STEPS = [b"refused before the run\n", b"refused in the run\n", b"refused behind the run\n", b"nothing is refused\n"]
 LIBRARY = r"""
 #include <errno.h>
 #include <stddef.h>
@@ -185,17 +191,35 @@ def look_at_views(room, pool):
     return refused, failed
 
 
+def look_at_steps(room, pool):
+    """Has the steps run, and gives the same."""
+    whole, allocations = room.counted(["steps"])
+    if whole.output != STEPS[-1]:
+        raise RuntimeError("the steps aren't as they have to be where nothing is refused")
+    numbers = range(1, allocations + 1)
+    runs = list(pool.map(lambda number: room.ran(["steps"], number), numbers))
+    # the program reads its words before it begins
+    unbegun = next(place for place, it in enumerate(runs) if it.output)
+    wrong = [number for number, it in zip(numbers, runs) if number > unbegun and (it.status or it.output not in STEPS)]
+    told = collections.Counter(it.output for it in runs)
+    ends = ", ".join(f"{told[it]} {it.decode().strip()}" for it in STEPS)
+    print(f"steps: {ends}, {unbegun} not begun{told_wrong(wrong)}")
+    return allocations, len(wrong)
+
+
 def told_wrong(wrong):
     return f", {len(wrong)} wrong, the first {wrong[:9]}" if wrong else ""
 
 
 def main():
-    program, *named = [it for it in sys.argv[1:] if it not in ("--words", "--sessions", "--views")]
+    program, *named = [it for it in sys.argv[1:] if it not in ("--words", "--sessions", "--steps", "--views")]
     scripts = sorted(map(pathlib.Path, named)) or sorted(SCRIPTS.glob("*.sql"))
     with tempfile.TemporaryDirectory() as folder, concurrent.futures.ThreadPoolExecutor(os.cpu_count()) as pool:
         room = Room(str(pathlib.Path(program).resolve()), folder)
         if "--sessions" in sys.argv:
             refused, failed = look_at_sessions(room, scripts, pool)
+        elif "--steps" in sys.argv:
+            refused, failed = look_at_steps(room, pool)
         elif "--views" in sys.argv:
             refused, failed = look_at_views(room, pool)
         else:

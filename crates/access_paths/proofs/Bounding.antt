@@ -1,18 +1,19 @@
 -- What a condition bounds of a column is what it matches, once the tables that it needs are known.
 use Rattle.std.proofs.Common.{◌≡◌, ◌∙◌, refl, sym, ap, ap₂, ℕ, Bool, true, false, Option, Some, None, if◌then◌else◌, arith}
-use Rattle.std.specs.Prelude.{not, ◌&&◌, ◌==◌, bit_or, option_map, option_and_then, unwrap_or}
+use Rattle.std.specs.Prelude.{not, ◌&&◌, ◌||◌, ◌==◌, bit_or, option_map, option_and_then, unwrap_or}
 use Rattle.std.specs.Int.{bit_at}
 use Rattle.std.proofs.lemmas.Bool.Decides.{nat_tests}
 use Rattle.std.proofs.lemmas.Nat.Bits.{bit_at_or, same_from_bits}
-use Rattle.definitions.specs.Statement.{ComparisonOperator, Equals, NotEquals, LessThan, GreaterThan, LessOrEquals, GreaterOrEquals}
+use Rattle.definitions.specs.Statement.{Equals, NotEquals, LessThan, GreaterThan, LessOrEquals, GreaterOrEquals}
 use Rattle.definitions.specs.Plans.TableSet.{TableSet}
 use Rattle.definitions.specs.Plans.Order.{BlockColumn}
-use Rattle.definitions.specs.Queries.BoundBlock.{ValueExpr, Condition}
+use Rattle.definitions.specs.Queries.BoundBlock.{Condition}
 use Rattle.definitions.specs.Queries.Conjuncts.{tables_named}
 use Rattle.definitions.specs.Estimates.BlockTables.{has, is_within}
-use Rattle.definitions.specs.Estimates.Paths.{ColumnTerm, ByComparison, ByBounds, column_term, is_known, is_range, is_equality, says}
+use Rattle.definitions.specs.Estimates.Paths.{ColumnTerm, ByComparison, ByBounds, column_term, is_range, is_equality, says}
 use Rattle.definitions.proofs.EstimateTheory.Tests.{left_of, right_of, eq_of}
-use Rattle.access_paths.specs.Bounds.{SargableTerm, tables_beside, comparison_bound, range_bound, bound_by, sargable_term}
+use Rattle.predicates.proofs.Naming.{has_either}
+use Rattle.access_paths.specs.Bounds.{SargableTerm, bound_by, sargable_term}
 
 -- ---- tests
 
@@ -62,10 +63,6 @@ or_within a b s = same_tests (is_within (bit_or a b) s) (is_within a s && is_wit
 -- ---- terms
 
 module _ (tables : TableSet) where
-  abbrev within_of : Option TableSet → Bool
-  within_of None = false
-  within_of (Some required_outer) = is_within required_outer tables
-
   abbrev pub is_met : Option SargableTerm → Bool
   is_met None = false
   is_met (Some b) = is_within b.required_outer tables
@@ -83,38 +80,50 @@ module _ (tables : TableSet) where
   with_false false = refl
 
   module _ (table : ℕ) where
-    known_beside : (e : ValueExpr) → is_known tables table e ≡ within_of (tables_beside table e)
-    known_beside e = by_test (has (tables_named e) table)
-      where
-        by_test : (b : Bool) → (is_within (tables_named e) tables && not b) ≡ within_of (if b then None else Some (tables_named e))
-        by_test true = with_false (is_within (tables_named e) tables)
-        by_test false = with_true (is_within (tables_named e) tables)
+    -- what is bounded of a column by a value, and by two
+    abbrev by_value : TableSet → Option Bool → Bool → Option SargableTerm
+    by_value required_outer equality own =
+        if own then None else option_map (λ equals. record { equals = equals; required_outer = required_outer }) equality
 
-    -- an equality is met by its tables, and so is every other range
-    equal_side : (required_outer : Option TableSet) → (within_of required_outer ≡ is_met (comparison_bound Equals required_outer)) × (within_of required_outer ≡ is_met_by_equals (comparison_bound Equals required_outer))
-    equal_side None = (refl, refl)
-    equal_side (Some required_outer) = (refl, refl)
+    equal_side : (required_outer : TableSet) (own : Bool)
+        → ((is_within required_outer tables && not own) ≡ is_met (by_value required_outer (Some true) own))
+        × ((is_within required_outer tables && not own) ≡ is_met_by_equals (by_value required_outer (Some true) own))
+    equal_side required_outer true = (with_false (is_within required_outer tables), with_false (is_within required_outer tables))
+    equal_side required_outer false = (with_true (is_within required_outer tables), with_true (is_within required_outer tables))
 
-    limit_side : (op : ComparisonOperator) (required_outer : Option TableSet) → comparison_bound op required_outer ≡ option_map (λ tables. record { equals = false; required_outer = tables }) required_outer
-        → (within_of required_outer ≡ is_met (comparison_bound op required_outer)) × (false ≡ is_met_by_equals (comparison_bound op required_outer))
-    limit_side op None e = rw e (refl, refl)
-    limit_side op (Some required_outer) e = rw e (refl, refl)
+    limit_side : (required_outer : TableSet) (own : Bool)
+        → ((is_within required_outer tables && not own) ≡ is_met (by_value required_outer (Some false) own))
+        × (false ≡ is_met_by_equals (by_value required_outer (Some false) own))
+    limit_side required_outer true = (with_false (is_within required_outer tables), refl)
+    limit_side required_outer false = (with_true (is_within required_outer tables), refl)
 
-    both_ends : (low high : Option TableSet) (kl kh : Bool) → kl ≡ within_of low → kh ≡ within_of high → ((kl && kh) ≡ is_met (range_bound low high)) × (false ≡ is_met_by_equals (range_bound low high))
-    both_ends None high kl kh l h = (ap (λ b. b && kh) l, refl)
-    both_ends (Some below) None kl kh l h = (ap (λ b. kl && b) h ∙ with_false kl, refl)
-    both_ends (Some below) (Some above) kl kh l h = (ap₂ (λ x y. x && y) l h ∙ sym (or_within below above tables), refl)
+    no_side : (required_outer : TableSet) (own : Bool)
+        → (false ≡ is_met (by_value required_outer None own)) × (false ≡ is_met_by_equals (by_value required_outer None own))
+    no_side required_outer true = (refl, refl)
+    no_side required_outer false = (refl, refl)
+
+    both_ends : (below above : TableSet) (x y : Bool)
+        → ((is_within below tables && not x) && (is_within above tables && not y)) ≡ is_met (by_value (bit_or below above) (Some false) (x || y))
+    both_ends below above true y = ap (λ b. b && (is_within above tables && not y)) (with_false (is_within below tables))
+    both_ends below above false true = ap (λ b. (is_within below tables && true) && b) (with_false (is_within above tables)) ∙ with_false (is_within below tables && true)
+    both_ends below above false false = ap₂ (λ p q. p && q) (with_true (is_within below tables)) (with_true (is_within above tables)) ∙ sym (or_within below above tables)
+
+    never_equal : (below above : TableSet) (own : Bool) → false ≡ is_met_by_equals (by_value (bit_or below above) (Some false) own)
+    never_equal below above true = refl
+    never_equal below above false = refl
 
     of_term : (term : ColumnTerm) → (is_range tables table term ≡ is_met (bound_by table term)) × (is_equality tables table term ≡ is_met_by_equals (bound_by table term))
-    of_term (ByComparison Equals e) =
-        let side = equal_side (tables_beside table e) in
-        (known_beside e ∙ side.0, known_beside e ∙ side.1)
-    of_term (ByComparison NotEquals e) = (refl, refl)
-    of_term (ByComparison LessThan e) = let side = limit_side LessThan (tables_beside table e) refl in (known_beside e ∙ side.0, side.1)
-    of_term (ByComparison GreaterThan e) = let side = limit_side GreaterThan (tables_beside table e) refl in (known_beside e ∙ side.0, side.1)
-    of_term (ByComparison LessOrEquals e) = let side = limit_side LessOrEquals (tables_beside table e) refl in (known_beside e ∙ side.0, side.1)
-    of_term (ByComparison GreaterOrEquals e) = let side = limit_side GreaterOrEquals (tables_beside table e) refl in (known_beside e ∙ side.0, side.1)
-    of_term (ByBounds low high) = both_ends (tables_beside table low) (tables_beside table high) _ _ (known_beside low) (known_beside high)
+    of_term (ByComparison Equals e) = equal_side (tables_named e) (has (tables_named e) table)
+    of_term (ByComparison NotEquals e) = no_side (tables_named e) (has (tables_named e) table)
+    of_term (ByComparison LessThan e) = limit_side (tables_named e) (has (tables_named e) table)
+    of_term (ByComparison GreaterThan e) = limit_side (tables_named e) (has (tables_named e) table)
+    of_term (ByComparison LessOrEquals e) = limit_side (tables_named e) (has (tables_named e) table)
+    of_term (ByComparison GreaterOrEquals e) = limit_side (tables_named e) (has (tables_named e) table)
+    of_term (ByBounds low high) = (
+      both_ends (tables_named low) (tables_named high) (has (tables_named low) table) (has (tables_named high) table)
+          ∙ ap (λ own. is_met (by_value (bit_or (tables_named low) (tables_named high)) (Some false) own)) (sym (has_either (tables_named low) (tables_named high) table)),
+      never_equal (tables_named low) (tables_named high) (has (bit_or (tables_named low) (tables_named high)) table),
+    )
 
     of_terms : (term : Option ColumnTerm) → (unwrap_or (option_map (is_range tables table) term) false ≡ is_met (option_and_then (bound_by table) term))
         × (unwrap_or (option_map (is_equality tables table) term) false ≡ is_met_by_equals (option_and_then (bound_by table) term))

@@ -1,13 +1,13 @@
 -- What a term bounds of its column.
-use Rattle.std.specs.Prelude.{ℕ, Bool, true, false, if◌then◌else◌, bit_or, Option, Some, None, option_map}
+use Rattle.std.specs.Prelude.{ℕ, Bool, true, false, if◌then◌else◌, Option, Some, None, option_map}
 use Rattle.std.specs.Prelude.{option_and_then}
 use Rattle.definitions.specs.Statement.{ComparisonOperator, Equals, NotEquals}
 use Rattle.definitions.specs.Plans.TableSet.{TableSet}
 use Rattle.definitions.specs.Plans.Order.{BlockColumn}
-use Rattle.definitions.specs.Queries.BoundBlock.{ValueExpr, Condition}
-use Rattle.definitions.specs.Queries.Conjuncts.{tables_named}
+use Rattle.definitions.specs.Queries.BoundBlock.{Condition}
 use Rattle.definitions.specs.Estimates.BlockTables.{has}
 use Rattle.definitions.specs.Estimates.Paths.{ColumnTerm, ByComparison, ByBounds, column_term}
+use Rattle.predicates.specs.Terms.{term_tables}
 
 -- whether it says what the column equals, and the tables whose rows the values are made of that the column is compared
 -- with
@@ -15,25 +15,21 @@ pub record SargableTerm : Type 0 where
   pub equals : Bool
   pub required_outer : TableSet
 
--- the tables of a value, unless it is made of rows of the table itself
-abbrev pub tables_beside : ℕ → ValueExpr → Option TableSet
-tables_beside table e = if has (tables_named e) table then None else Some (tables_named e)
+-- every operator but `<>` bounds a column; whether it says what the column equals
+abbrev pub equality_by : ComparisonOperator → Option Bool
+equality_by Equals = Some true
+equality_by NotEquals = None
+equality_by _ = Some false
 
-abbrev pub comparison_bound : ComparisonOperator → Option TableSet → Option SargableTerm
-comparison_bound NotEquals required_outer = None
-comparison_bound Equals required_outer =
-    option_map (λ tables. record { equals = true; required_outer = tables }) required_outer
-comparison_bound _ required_outer =
-    option_map (λ tables. record { equals = false; required_outer = tables }) required_outer
+abbrev pub equality : ColumnTerm → Option Bool
+equality (ByComparison op value) = equality_by op
+equality (ByBounds low high) = Some false
 
-abbrev pub range_bound : Option TableSet → Option TableSet → Option SargableTerm
-range_bound low high =
-    option_and_then (λ below. option_map (λ above. record { equals = false; required_outer = bit_or below above }) high)
-    low
-
+-- unless it is made of rows of the table itself
 abbrev pub bound_by : ℕ → ColumnTerm → Option SargableTerm
-bound_by table (ByComparison op value) = comparison_bound op (tables_beside table value)
-bound_by table (ByBounds low high) = range_bound (tables_beside table low) (tables_beside table high)
+bound_by table term =
+    if has (term_tables term) table then None
+    else option_map (λ equals. record { equals = equals; required_outer = term_tables term }) (equality term)
 
 abbrev pub sargable_term : BlockColumn → Condition → Option SargableTerm
 sargable_term column c = option_and_then (bound_by column.table) (column_term column c)

@@ -4,6 +4,7 @@
 mod question_words;
 pub mod questions;
 pub mod requests;
+mod subcommands;
 mod words;
 
 pub use question_words::asked_question;

@@ -1,7 +1,7 @@
 //! From the words of a command line to what they ask for.
 
 ghost use Rattle.std.specs.Prelude.{◌≡◌, ◌∷◌, [], Some, false, codes, map, option_map, IfOk, IfSome};
-ghost use Rattle.clap.specs.Simple.{subcommand_rows_of};
+ghost use Rattle.clap.specs.Simple.{subcommand_rows_of, with_subcommand};
 ghost use Rattle.clap.specs.Words.{FailsBy, app_of, first_value, found_of, rule_of, kind_of};
 ghost use Rattle.clap.specs.declared.error.kind.ErrorKind.TheVariants as kind;
 ghost use Rattle.command_line.specs.CommandLine as spec;
@@ -27,17 +27,29 @@ pub fn request(alloc: Global, words: &[&str]) -> Result<Request, LineFault>
     ensures asked { IfOk result (λ r. spec.asked_of (map (λ w. w.now) words.now) ≡ Some (asked r)) }
     ensures kinds { FailsBy (spec.fault_in (map (λ w. w.now) words.now)) result }
 {
-    let mut command = match command(alloc) {
-        Ok(command) => command,
-        Err(_) => return Err(LineFault::from(AllocError)),
-    };
+    match command(alloc) {
+        Ok(mut command) => request_by(alloc, &mut command, words),
+        Err(_) => Err(LineFault::from(AllocError)),
+    }
+}
+
+/// The same, by the command whose line that is.
+fn request_by<'a>(
+    alloc: Global,
+    command: &mut Command<'a>,
+    words: &'a [&'a str],
+) -> Result<Request, LineFault>
+    requires { app_of command.now ≡ line }
+    ensures asked { IfOk result (λ r. spec.asked_of (map (λ w. w.now) words.now) ≡ Some (asked r)) }
+    ensures kinds { FailsBy (spec.fault_in (map (λ w. w.now) words.now)) result }
+{
     let matches = match command.try_get_matches_from_mut(words) {
         Ok(matches) => matches,
-        Err(fault) => return Err(with_hint(alloc, &mut command, words, fault)),
+        Err(fault) => return Err(with_hint(alloc, command, words, fault)),
     };
     match request_in(alloc, &matches) {
         Ok(Some(request)) => Ok(request),
-        Ok(None) => no_such_form(alloc, &mut command, &matches),
+        Ok(None) => no_such_form(alloc, command, &matches),
         Err(_) => Err(LineFault::from(AllocError)),
     }
 }
@@ -187,8 +199,20 @@ fn subcommand_hint(
     };
     let message = format!(in alloc;
         "unrecognized subcommand '{word}'\n\n  tip: {tip}{script}{quote}"
-    )?;
-    Ok(Some(command.error(ErrorKind::InvalidSubcommand, &message)?))
+    );
+    hint_of(command, ErrorKind::InvalidSubcommand, message)
+}
+
+/// A fault of this kind, in these words.
+fn hint_of(
+    command: &mut Command,
+    fault: ErrorKind,
+    message: Result<String, AllocError>,
+) -> Result<Option<LineFault>, AllocError>
+    ensures { IfOk result (λ hint. IfSome hint (λ f. kind_of f ≡ fault)) }
+{
+    let fault = command.error(fault, &message?)?;
+    Ok(Some(fault))
 }
 
 /// What was meant by a word that is no subcommand, in letters of whatever case, where it is known.
@@ -225,8 +249,8 @@ fn option_hint(
     for word in words {
         let is_option = word.starts_with("-") && word.len() > 1 && !word.ends_with(".sql");
         if is_option && !(is_run && is_option_of_run(word)) {
-            let message = format!(in alloc; "there is no option '{word}'")?;
-            return Ok(Some(command.error(ErrorKind::UnknownArgument, &message)?));
+            let message = format!(in alloc; "there is no option '{word}'");
+            return hint_of(command, ErrorKind::UnknownArgument, message);
         }
     }
     if is_run {
@@ -254,16 +278,17 @@ fn several_scripts(
     let (Some(first), Some(second)) = first_scripts(words) else {
         return Ok(None);
     };
-    let message = if has_text(words) {
-        format!(in alloc;
-            "a run takes one script\n\n  tip: behind -c its text stands in place of a file"
-        )?
-    } else {
-        format!(in alloc;
-            "a run takes one script\n\n  tip: 'cat {first} {second} | sqlr run -' runs one behind the other"
-        )?
-    };
-    Ok(Some(command.error(ErrorKind::UnknownArgument, &message)?))
+    if has_text(words) {
+        let fault = command.error(
+            ErrorKind::UnknownArgument,
+            "a run takes one script\n\n  tip: behind -c its text stands in place of a file",
+        )?;
+        return Ok(Some(fault));
+    }
+    let message = format!(in alloc;
+        "a run takes one script\n\n  tip: 'cat {first} {second} | sqlr run -' runs one behind the other"
+    );
+    hint_of(command, ErrorKind::UnknownArgument, message)
 }
 
 /// The first two words of a run that are no options.
@@ -338,15 +363,26 @@ fn form_fault(
 fn command<'a>(alloc: Global) -> Result<Command<'a>, AllocError>
     ensures { IfOk result (λ c. app_of c ≡ line) }
 {
-    let run = run_command(alloc)?;
+    let command = run_line(alloc)?;
     let check = check_command(alloc)?;
+    command.subcommand(check)
+}
+
+fn run_line<'a>(alloc: Global) -> Result<Command<'a>, AllocError>
+    ensures { IfOk result (λ c. app_of c ≡ with_subcommand spec.program run.top) }
+{
+    let run = run_command(alloc)?;
+    program(alloc).subcommand(run)
+}
+
+fn program<'a>(alloc: Global) -> Command<'a>
+    ensures { app_of result ≡ spec.program }
+{
     Command::new(alloc, "sqlr")
         .about("An engine for Entry SQL over tables in memory")
         .after_help(AFTER_HELP)
         .version(VERSION)
         .subcommand_required(true)
-        .subcommand(run)?
-        .subcommand(check)
 }
 
 fn run_command<'a>(alloc: Global) -> Result<Command<'a>, AllocError>

@@ -8,5 +8,9 @@ mod Outermost
 mod Batched
 mod KeptPlaces
 mod ToldBatches
+mod ToldRuns
+mod Scales
+mod UnitFlags
+mod ToldNumbers
 mod WholeQuery
 mod GivenPlans

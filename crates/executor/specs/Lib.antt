@@ -3,3 +3,6 @@ pub use Rattle.definitions_execution.specs.Total
 pub use Rattle.definitions.specs.Certificates.Explaining
 pub mod ReadyBlocks
 pub mod LateTests
+pub mod Taking
+pub mod ToldTests
+pub mod UnitSets

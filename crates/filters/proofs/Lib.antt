@@ -4,6 +4,7 @@ pub mod Paths
 pub mod Evaluable
 pub mod WordRows
 pub mod Comparing
+pub mod Few
 pub mod Parts
 pub mod TestViews
 pub mod Coming

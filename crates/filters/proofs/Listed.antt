@@ -221,6 +221,9 @@ module _ (table : ℕ) (op : ComparisonOperator) (own : ValueExpr) (xs : List (O
     pub beside_too : is_member_beside table own (member_of x) ≡ true → beside (drop i xs) ≡ beside xs → beside (drop (i + 1) xs) ≡ beside xs
     beside_too met left = sym (next_beside ∙ ap (λ b. b && beside (drop (i + 1) xs)) met) ∙ left
 
+    pub apart_here : is_member_beside table own (member_of x) ≡ false → beside (drop i xs) ≡ beside xs → false ≡ beside xs
+    apart_here unmet left = sym (next_beside ∙ ap (λ b. b && beside (drop (i + 1) xs)) unmet) ∙ left
+
   pub all_beside : (i : ℕ) → length xs ≤ i → beside (drop i xs) ≡ beside xs → true ≡ beside xs
   all_beside i past left = sym (ap beside (drop_all i xs past)) ∙ left
 
@@ -230,7 +233,7 @@ each_of : (P : ValueExpr → Type 0) (xs : List ValueExpr) → ((x : ValueExpr) 
 each_of P [] f = tt
 each_of P (x ∷ xs) f = (f x (inl refl), each_of P xs (λ y i. f y (inr i)))
 
-other_values : (P : ValueExpr → Type 0) (x : Option ValueExpr) (members : List (Option ValueExpr)) → AllByRecursion P (member_values (x ∷ members)) → AllByRecursion P (member_values members)
+pub other_values : (P : ValueExpr → Type 0) (x : Option ValueExpr) (members : List (Option ValueExpr)) → AllByRecursion P (member_values (x ∷ members)) → AllByRecursion P (member_values members)
 other_values P None members h = h
 other_values P (Some e) members h = h.1
 
@@ -246,7 +249,7 @@ next_values : (P : ValueExpr → Type 0) (cs : List (Option Comparison)) (i : �
     → AllByRecursion P (member_values (member_in x ∷ map member_in (drop (i + 1) cs)))
 next_values P cs i x h e all = subst (λ ms. AllByRecursion P (member_values ms)) (next_member cs i x h e) (left_values P cs i all)
 
-first_value : (P : ValueExpr → Type 0) (x : Option ValueExpr) (members : List (Option ValueExpr)) → AllByRecursion P (member_values (x ∷ members)) → IfSome x P
+pub first_value : (P : ValueExpr → Type 0) (x : Option ValueExpr) (members : List (Option ValueExpr)) → AllByRecursion P (member_values (x ∷ members)) → IfSome x P
 first_value P None members h = tt
 first_value P (Some e) members h = h.0
 

@@ -1,42 +1,41 @@
 //! Conjuncts as rows of a table are tested by them, taken apart once when a plan is opened.
 
 ghost use Rattle.std.specs.Prelude.{ℕ, ◌≡◌, IfOk, IfSome};
-ghost use Rattle.query_tree.specs.Bound.{condition_of};
+ghost use Rattle.predicates.specs.Parts.{condition_in};
 ghost use Rattle.filters.specs.Comparisons.{is_kind, AreComparisonsOf};
 ghost use Rattle.filters.specs.Compiled.{condition_of_filter, IsCompiled};
 
 use crate::comparison::{Comparisons, comparisons_of};
 use crate::compiled_part::Scan;
 use crate::row_test::{RowTest, test_of};
-use predicates::column_terms;
-use query_tree::Condition;
+use predicates::Conjunct;
 use std::alloc::{AllocError, Global};
 
 /// A conjunct, and how rows of a table are tested by it.
 #[derive(Drop)]
 pub struct CompiledFilter<'s> {
-    pub condition: &'s Condition,
+    pub conjunct: &'s Conjunct<'s>,
     pub(crate) test: RowTest<'s>,
 }
 
 /// A conjunct as rows of a table are tested by it.
 pub(crate) fn compiled<'s>(
     alloc: Global,
-    condition: &'s Condition,
+    conjunct: &'s Conjunct<'s>,
     table: usize,
 ) -> Result<CompiledFilter<'s>, AllocError>
-    ensures condition { IfOk result (λ filter. condition_of_filter filter ≡ condition_of condition.now) }
+    ensures condition { IfOk result (λ filter. condition_of_filter filter ≡ condition_in conjunct.now) }
     ensures compiled { IfOk result (IsCompiled table) }
 {
-    let test = test_of(alloc, condition, table)?;
-    Ok(CompiledFilter { condition, test })
+    let test = test_of(alloc, conjunct.condition, table)?;
+    Ok(CompiledFilter { conjunct, test })
 }
 
-/// Whether a condition is comparisons of columns of a table with values that are known before, or whether it is another.
-pub(crate) fn is_of_kind(condition: &Condition, table: usize, compared: bool) -> bool
-    ensures { result ≡ is_kind table compared (condition_of condition.now) }
+/// Whether a conjunct is comparisons of columns of a table with values that are known before, or whether it is another.
+pub(crate) fn is_of_kind(conjunct: &Conjunct<'_>, table: usize, compared: bool) -> bool
+    ensures { result ≡ is_kind table compared (condition_in conjunct.now) }
 {
-    let comparisons = comparisons_of(column_terms(condition), table);
+    let comparisons = comparisons_of(conjunct.terms(), table);
     if compared {
         comparisons.is_some()
     } else {

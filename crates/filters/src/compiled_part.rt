@@ -3,6 +3,7 @@
 ghost use Rattle.std.specs.Prelude.{◌≡◌, IfOk};
 ghost use Rattle.definitions.specs.Queries.BoundBlock as spec;
 ghost use Rattle.query_tree.specs.Bound.{condition_of, value_of as tree_of};
+ghost use Rattle.predicates.specs.Naming.{NamesFew};
 ghost use Rattle.filters.specs.Comparisons.{is_null_beside, is_scanned};
 ghost use Rattle.filters.specs.Compiled.{is_scan, IsPart, IsScanOf};
 
@@ -38,6 +39,7 @@ pub(crate) fn part_of(
     condition: &Condition,
     table: usize,
 ) -> Result<CompiledPart<'_>, AllocError>
+    requires few { NamesFew (condition_of condition.now) }
     ensures condition { IfOk result (λ part. condition_of part.condition.now ≡ condition_of condition.now) }
     ensures part { IfOk result (IsPart table) }
 {
@@ -47,6 +49,7 @@ pub(crate) fn part_of(
 
 /// The scan that answers a part, where one does.
 fn scan_of(alloc: Global, condition: &Condition, table: usize) -> Result<Scan<'_>, AllocError>
+    requires few { NamesFew (condition_of condition.now) }
     ensures same { IfOk result (IsScanOf table (condition_of condition.now)) }
     ensures some { IfOk result (λ scan. is_scan scan ≡ is_scanned table (condition_of condition.now)) }
 {

@@ -1,8 +1,10 @@
 //! Lists of IN and NOT IN, and how the words of rows that pass their members are put together.
 
 ghost use Rattle.std.specs.Prelude.{ℕ, ◌≡◌, ◌≤◌, IfOk, IfSome, is_some};
+ghost use Rattle.definitions.specs.Queries.Conjuncts.{tables_named};
 ghost use Rattle.sqlvalue.specs.Meaning.{op_of};
 ghost use Rattle.query_tree.specs.Bound.{condition_of, member_of, value_of as tree_of};
+ghost use Rattle.predicates.specs.Naming.{AreFew, NamesFew};
 ghost use Rattle.filters.specs.Comparisons.{is_list_beside, is_member_beside, member_op, IsMemberOf};
 ghost use Rattle.filters.specs.Compiled.{IsListOf};
 ghost use Rattle.filters.specs.Words.{word_by, words_together};
@@ -26,6 +28,7 @@ pub(crate) fn list_of(
     condition: &Condition,
     table: usize,
 ) -> Result<Option<MemberList<'_>>, AllocError>
+    requires few { NamesFew (condition_of condition.now) }
     ensures some { IfOk result (λ list. is_some list ≡ is_list_beside table (condition_of condition.now)) }
     ensures same { IfOk result (λ list. IfSome list (IsListOf table (condition_of condition.now))) }
 {
@@ -59,6 +62,7 @@ fn compared_member<'a>(
     op: ComparisonOperator,
     member: &'a Option<ValueExpr>,
 ) -> Option<Option<Comparison<'a>>>
+    requires few { IfSome (member_of member.now) (λ other. AreFew (tables_named other)) }
     ensures some { is_some result ≡ is_member_beside table (tree_of own.now) (member_of member.now) }
     ensures same { IfSome result (IsMemberOf table (op_of op) (tree_of own.now) (member_of member.now)) }
 {

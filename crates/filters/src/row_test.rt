@@ -3,6 +3,7 @@
 ghost use Rattle.std.specs.Prelude.{◌≡◌, map, IfOk};
 ghost use Rattle.std.specs.List.{AllByRecursion};
 ghost use Rattle.query_tree.specs.Bound.{condition_of};
+ghost use Rattle.predicates.specs.Naming.{NamesFew};
 ghost use Rattle.filters.specs.Compiled.{condition_of_test, IsTest};
 
 use crate::compiled_part::{CompiledPart, part_of};
@@ -24,6 +25,7 @@ pub(crate) fn test_of<'s>(
     condition: &'s Condition,
     table: usize,
 ) -> Result<RowTest<'s>, AllocError>
+    requires few { NamesFew (condition_of condition.now) }
     ensures same { IfOk result (λ test. condition_of_test test ≡ condition_of condition.now) }
     ensures tested { IfOk result (IsTest table) }
 {
@@ -41,6 +43,7 @@ fn tests_of<'s>(
     conditions: &'s [Condition],
     table: usize,
 ) -> Result<Vec<RowTest<'s>>, AllocError>
+    requires few { AllByRecursion NamesFew (map condition_of conditions.now) }
     ensures same { IfOk result (λ tests. map condition_of_test tests.items ≡ map condition_of conditions.now) }
     ensures tested { IfOk result (λ tests. AllByRecursion (IsTest table) tests.items) }
 {

@@ -1,6 +1,7 @@
 -- The tables that parts name, one part after another.
-use Rattle.std.proofs.Common.{◌≡◌, ◌∙◌, refl, sym, ap, ap₂, subst, ℕ, zero, suc, ◌+◌, ◌<◌, ◌≤◌, ◌^◌, ◌⊎◌, inl, inr, List, [], ◌∷◌, ◌++◌, length, map, get_or, drop, arith}
-use Rattle.std.specs.Prelude.{bit_or}
+use Rattle.std.proofs.Common.{◌≡◌, ◌∙◌, refl, sym, ap, ap₂, subst, ℕ, ◌+◌, ◌<◌, ◌≤◌, ◌^◌, ◌⊎◌, inl, inr, List, [], ◌∷◌, ◌++◌, length, map, get_or, drop, arith}
+use Rattle.std.specs.Prelude.{bit_or, ◌==◌, ◌||◌}
+use Rattle.std.specs.Int.{bit_at}
 use Rattle.std.specs.Borrow.{Bor}
 use Rattle.std.specs.Int.Bits.{or_zero_r}
 use Rattle.std.proofs.lemmas.Bool.{cases_lt}
@@ -8,9 +9,11 @@ use Rattle.std.proofs.lemmas.List.{drop_more}
 use Rattle.std.proofs.lemmas.Nat.{le_or_l, le_or_r}
 use Rattle.std.proofs.lemmas.Nat.Bits.{bit_at_or, same_from_bits}
 use Rattle.std.proofs.Math.Nat.{pow-le-pow_right}
-use Rattle.definitions.specs.Plans.TableSet.{TableSet, only}
+use Rattle.definitions.specs.Plans.TableSet.{TableSet, Has, Lacks, only}
+use Rattle.definitions.specs.Estimates.BlockTables.{has}
 use Rattle.definitions.specs.Queries.BoundBlock.{ValueExpr, Operand}
 use Rattle.definitions.specs.Queries.Conjuncts.{tables_named, operands_tables, tables_in}
+use Rattle.definitions.proofs.PlanTheory.TableSets.{has_or_lacks}
 use Rattle.query_tree.specs.Bound.{value_of, operand_of, operands, OperandTree}
 use Rattle.query_tree.specs.Walks.{trees_of}
 use Rattle.query_tree.specs.declared.value.ValueExpr.{ValueExpr as Value}
@@ -30,6 +33,16 @@ next_done new old step next rest here all n s h o =
 
 pub all_done : (done rest all : TableSet) → rest ≡ 0 → bit_or done rest ≡ all → done ≡ all
 all_done done rest all r h = sym (or_zero_r done) ∙ ap (bit_or done) (sym r) ∙ h
+
+-- a union has the tables of both
+pub has_either : (s t u : ℕ) → has (bit_or s t) u ≡ (has s u || has t u)
+has_either s t u = of_cases (has_or_lacks s u) (has_or_lacks t u)
+  where
+    of_cases : Has s u ⊎ Lacks s u → Has t u ⊎ Lacks t u → has (bit_or s t) u ≡ (has s u || has t u)
+    of_cases (inl a) (inl b) = let m = bit_at_or s t u in let e : bit_at (bit_or s t) u ≡ 1 = omega (arith, m, a, b) in ap (λ n. n == 1) e ∙ sym (ap (λ n. (n == 1) || has t u) a)
+    of_cases (inl a) (inr b) = let m = bit_at_or s t u in let e : bit_at (bit_or s t) u ≡ 1 = omega (arith, m, a, b) in ap (λ n. n == 1) e ∙ sym (ap (λ n. (n == 1) || has t u) a)
+    of_cases (inr a) (inl b) = let m = bit_at_or s t u in let e : bit_at (bit_or s t) u ≡ 1 = omega (arith, m, a, b) in ap (λ n. n == 1) e ∙ sym (ap₂ (λ n k. (n == 1) || (k == 1)) a b)
+    of_cases (inr a) (inr b) = let m = bit_at_or s t u in let e : bit_at (bit_or s t) u ≡ 0 = omega (arith, m, a, b) in ap (λ n. n == 1) e ∙ sym (ap₂ (λ n k. (n == 1) || (k == 1)) a b)
 
 -- ---- few tables
 

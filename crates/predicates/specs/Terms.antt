@@ -1,15 +1,22 @@
 -- What a condition says of the columns that stand alone on its sides (Selinger et al. 1979, section 4: sargable
 -- predicates).
-use Rattle.std.specs.Prelude.{false, if◌then◌else◌, List, [], ◌∷◌, ◌++◌, Option, Some, None, option_map}
+use Rattle.std.specs.Prelude.{false, if◌then◌else◌, bit_or, List, [], ◌∷◌, ◌++◌, Option, Some, None, option_map}
 use Rattle.definitions.specs.Plans.Order.{BlockColumn}
+use Rattle.definitions.specs.Plans.TableSet.{TableSet}
 use Rattle.definitions.specs.Queries.BoundBlock.{ValueExpr, Condition, Compare, Between}
 use Rattle.definitions.specs.Estimates.Paths.{ColumnTerm, ByComparison, ByBounds, is_same_column, turned}
 use Rattle.definitions.specs.Estimates.Sides.{column_of}
+use Rattle.definitions.specs.Queries.Conjuncts.{tables_named}
 
 -- a column, and what is said of it
 pub record SidedTerm : Type 0 where
   pub column : BlockColumn
   pub term : ColumnTerm
+
+-- the tables that the values name that it is compared with
+abbrev pub term_tables : ColumnTerm → TableSet
+term_tables (ByComparison op value) = tables_named value
+term_tables (ByBounds low high) = bit_or (tables_named low) (tables_named high)
 
 -- what is said of a side, where it is a column
 abbrev pub side_term : ValueExpr → ColumnTerm → Option SidedTerm

@@ -2,6 +2,7 @@
 //! says of columns.
 #![tactic(auto)]
 
+mod column_term;
 mod conjunct;
 mod equated;
 mod known;
@@ -9,9 +10,10 @@ mod split;
 mod tables;
 mod terms;
 
+pub use column_term::{ColumnTerm, SidedTerm};
 pub use conjunct::Conjunct;
 pub use equated::{column_of, equated_columns};
 pub use known::known_value;
 pub use split::conjuncts;
 pub use tables::value_tables;
-pub use terms::{ColumnTerm, ColumnTerms, SidedTerm, column_terms};
+pub use terms::{ColumnTerms, column_terms};

@@ -1,29 +1,55 @@
-//! What a checking run leaves in its session.
+//! The checks, by their names.
 
-use crate::runs::{Part, check, run};
-use crate::shelf::Shelf;
-use sqlr::{Ended, Session};
+use crate::checking_runs::refused_checking_run_keeps_what_was_made;
+use crate::faults::{
+    faulty_file_changes_nothing, file_of_no_table_is_not_fetched, sinks_fail_at_each_byte,
+};
+use crate::memory::refused_allocation_leaves_whole_statements;
+use crate::totals::{
+    inner_blocks_count_as_often_as_they_are_evaluated, matches_open_the_rows_of_their_keys,
+};
+use crate::work::{
+    joined_rows_are_counted, work_is_that_of_the_plan_that_explain_prints,
+    work_stays_where_no_rows_are_printed,
+};
 use std::alloc::Global;
 
-/// A checking run that is refused at its second statement.
-const REFUSED: &str =
-    "CREATE TABLE U (X INTEGER); CREATE TABLE U (X INTEGER); CREATE TABLE V (X INTEGER); SELECT X FROM U;";
-
-/// Whether a checking run that ends at a refusal leaves what the statements before it made, and nothing of those behind it.
-fn keeps_what_was_made(alloc: Global) -> bool {
-    let files = &[];
-    let mut session = Session::new(alloc, Shelf { alloc, files });
-    let refused = check(&mut session, Vec::new(alloc), Part::whole(REFUSED), b"");
-    let look = run(
-        &mut session,
-        Vec::new(alloc),
-        Part::whole("SELECT X FROM U; SELECT X FROM V;"),
-    );
-    refused.is(Ok(Ended::Faulted), "error E07 42000\n")
-        && look.is(Ok(Ended::Faulted), "X\n0 rows\nerror E08 42000\n")
-}
-
-#[test]
-fn refused_checking_run_keeps_what_was_made(rt: HostRuntime) {
-    assert!(rt; keeps_what_was_made(rt.alloc()));
+/// Runs each check, and tells by its name whether it holds.
+pub(crate) fn all(alloc: Global) -> [(&'static str, bool); 10] {
+    [
+        (
+            "refused_checking_run_keeps_what_was_made",
+            refused_checking_run_keeps_what_was_made(alloc),
+        ),
+        (
+            "faulty_file_changes_nothing",
+            faulty_file_changes_nothing(alloc),
+        ),
+        (
+            "file_of_no_table_is_not_fetched",
+            file_of_no_table_is_not_fetched(alloc),
+        ),
+        ("sinks_fail_at_each_byte", sinks_fail_at_each_byte(alloc)),
+        (
+            "refused_allocation_leaves_whole_statements",
+            refused_allocation_leaves_whole_statements(alloc),
+        ),
+        (
+            "inner_blocks_count_as_often_as_they_are_evaluated",
+            inner_blocks_count_as_often_as_they_are_evaluated(alloc),
+        ),
+        (
+            "matches_open_the_rows_of_their_keys",
+            matches_open_the_rows_of_their_keys(alloc),
+        ),
+        ("joined_rows_are_counted", joined_rows_are_counted(alloc)),
+        (
+            "work_is_that_of_the_plan_that_explain_prints",
+            work_is_that_of_the_plan_that_explain_prints(alloc),
+        ),
+        (
+            "work_stays_where_no_rows_are_printed",
+            work_stays_where_no_rows_are_printed(alloc),
+        ),
+    ]
 }

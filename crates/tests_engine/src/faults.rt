@@ -6,7 +6,7 @@ use crate::runs::{Part, Ran, run};
 use crate::shelf::Shelf;
 use crate::steps::{FILES, LOOK, script, seen_behind, steps_run, text};
 use sqlr::{Ended, Failures, FetchFault, Fetched, Library, RunFault, Session};
-use std::alloc::{AllocError, Global};
+use std::alloc::Global;
 use std::marker::Brand;
 use std::sync::ledger::{Blank, Ledger};
 
@@ -90,16 +90,14 @@ fn changes_nothing(alloc: Global, fault: FetchFault, end: RunFault) -> bool {
         )
 }
 
-// The file's name stands at byte 91 of the script.
-#[test]
-fn faulty_file_changes_nothing(rt: HostRuntime) {
-    let alloc = rt.alloc();
-    assert!(rt; changes_nothing(alloc, FetchFault::Device, RunFault::Library { offset: 91 }));
-    assert!(rt; changes_nothing(alloc, FetchFault::Memory, RunFault::Memory { offset: 91 }));
+/// Whether that is so of a device that fails and of want of memory. The file's name stands at byte 91 of the script.
+pub(crate) fn faulty_file_changes_nothing(alloc: Global) -> bool {
+    changes_nothing(alloc, FetchFault::Device, RunFault::Library { offset: 91 })
+        && changes_nothing(alloc, FetchFault::Memory, RunFault::Memory { offset: 91 })
 }
 
 /// Whether LOAD of a table that isn't there asks for no file, and of one that is there does.
-fn asks_for_no_file(alloc: Global) -> bool {
+pub(crate) fn file_of_no_table_is_not_fetched(alloc: Global) -> bool {
     let job = Job {
         fault: FetchFault::Device,
         first: "LOAD T FROM 'faulty.csv'; CREATE TABLE T (A INTEGER);",
@@ -108,11 +106,6 @@ fn asks_for_no_file(alloc: Global) -> bool {
     let (refused, broken) = run_faulty(alloc, job);
     refused.is(Ok(Ended::Faulted), "error E08 42000\nOK\n")
         && broken.is(Err(RunFault::Library { offset: 12 }), "")
-}
-
-#[test]
-fn file_of_no_table_is_not_fetched(rt: HostRuntime) {
-    assert!(rt; asks_for_no_file(rt.alloc()));
 }
 
 /// Whether a run ends so over a sink of so much room, with a beginning of the text in it, and leaves what the statements did whose texts
@@ -133,16 +126,19 @@ fn ends_over(
         && look.printed.as_slice() == seen_behind(steps_run(room)).as_bytes()
 }
 
-#[test]
-fn sinks_fail_at_each_byte(rt: HostRuntime) -> Result<(), AllocError> {
-    let alloc = rt.alloc();
-    let (script, text) = (script(alloc)?, text(alloc)?);
-    for room in 0..text.len() {
-        assert!(rt;
-            ends_over(alloc, &script, &text, room, Err(RunFault::Sink)),
-            "with room for {room}"
-        );
+/// Whether the script of steps ends so over a sink of each room up to all of its text.
+pub(crate) fn sinks_fail_at_each_byte(alloc: Global) -> bool {
+    match (script(alloc), text(alloc)) {
+        (Ok(script), Ok(text)) => fails_at_each_byte(alloc, &script, &text),
+        _ => false,
     }
-    assert!(rt; ends_over(alloc, &script, &text, text.len(), Ok(Ended::Faulted)));
-    Ok(())
+}
+
+fn fails_at_each_byte(alloc: Global, script: &str, text: &str) -> bool {
+    for room in 0..text.len() {
+        if !ends_over(alloc, script, text, room, Err(RunFault::Sink)) {
+            return false;
+        }
+    }
+    ends_over(alloc, script, text, text.len(), Ok(Ended::Faulted))
 }

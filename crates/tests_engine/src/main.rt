@@ -1,25 +1,21 @@
 //! Asks the plans of `cases_plans` what files of rows say, and runs the statements of a script one by one in one session, each once more where
-//! memory was wanting for it. tools/refuse_memory.py refuses its allocations in turn: what it prints has to stay the same. Its tests are those
-//! that no case can say: devices that fail, want of memory, and the work of a session. They run over a library and a sink in memory. What a
-//! test compares is in a function of its own, since each way out of a test is proved with all that it holds.
+//! memory was wanting for it. tools/refuse_memory.py refuses its allocations in turn: what it prints has to stay the same. Its checks are those
+//! that no case can say: devices that fail, want of memory, and the work of a session. They run over a library and a sink in memory. They are
+//! no tests of the crate, since one with tests is proved and compiled twice.
 #![tactic(auto)]
 
-#[cfg(test)]
+mod checking_runs;
 mod checks;
-#[cfg(test)]
 mod faults;
-#[cfg(test)]
 mod memory;
 mod runs;
 mod shelf;
-#[cfg(test)]
 mod steps;
 mod tape;
-#[cfg(test)]
 mod totals;
-#[cfg(test)]
 mod work;
 
+use crate::memory::look_behind;
 use crate::runs::{Part, Ran, run};
 use crate::shelf::{File, Shelf};
 use cases_plans::ask;
@@ -32,14 +28,43 @@ use std::{env, fs};
 /// The bytes that a tape has room for beforehand, so that no tape wants memory.
 const ROOM: usize = 1 << 16;
 
-/// The words are files of rows, a script, a statement a line, and the files that it loads.
+/// The words are `checks` or `steps`, files of rows, a script, a statement a line, and the files that it loads. Each may be left out.
 fn main(rt: HostRuntime) -> io::Result<()> {
     let words: Vec<String> = env::args(&rt)?.collect(rt.alloc())?;
-    let rest = ask_rows(&rt, words.get(1..).unwrap_or(&[]))?;
+    let rest = run_checks(&rt, words.get(1..).unwrap_or(&[]))?;
+    let rest = ask_rows(&rt, rest)?;
     match rest.split_first() {
         Some((script, names)) => run_script(&rt, script, names),
         None => Ok(()),
     }
+}
+
+/// Runs the checks that a first word asks for, and gives the words behind it.
+fn run_checks<'a, R: Runtime + AllocGlobal>(
+    rt: &R,
+    words: &'a [String],
+) -> io::Result<&'a [String]> {
+    let Some((word, rest)) = words.split_first() else {
+        return Ok(words);
+    };
+    if word.as_str() == "checks" {
+        tell_checks(rt)?;
+        return Ok(rest);
+    }
+    if word.as_str() == "steps" {
+        println!(rt; "{}", look_behind(rt.alloc()).told())?;
+        return Ok(rest);
+    }
+    Ok(words)
+}
+
+/// Prints a line of each check.
+fn tell_checks<R: Runtime + AllocGlobal>(rt: &R) -> io::Result<()> {
+    for (name, holds) in checks::all(rt.alloc()) {
+        let end = if holds { "ok" } else { "wrong" };
+        println!(rt; "{name}: {end}")?;
+    }
+    Ok(())
 }
 
 /// Asks the files of rows, whose names stand first and end so, and gives the words behind them.

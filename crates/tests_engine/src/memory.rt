@@ -1,23 +1,21 @@
-//! Want of memory. `rt try --test --fail-alloc N` refuses the Nth allocation of each test: this one
-//! holds whichever that is, and says what it has cut short. `tools/fail_alloc.py` tries each.
+//! Want of memory: what a run leaves one of whose allocations is refused. tools/refuse_memory.py refuses each in turn.
 
 use crate::runs::{Part, Ran, run};
 use crate::shelf::Shelf;
 use crate::steps::{FILES, LOOK, STEPS, script, seen_behind, steps_printed};
 use sqlr::{Ended, RunFault, Session};
 use std::alloc::{AllocError, Global};
-use std::test::Fail;
 
 /// Room for all that is printed, so that no sink wants memory.
 const ROOM: usize = 256;
 
 /// What a run tells of a refused allocation, and a look behind it at what it left.
 #[derive(Clone, Copy)]
-enum Seen {
+pub(crate) enum Seen {
     /// There was no run.
     BeforeRun,
-    /// It ended behind so many statements, of which the look sees the work.
-    Behind(usize),
+    /// It ended behind whole statements, of which the look sees the work.
+    InRun,
     /// All of the run is done, and the look wants memory and prints nothing.
     BehindRun,
     /// Nothing was refused.
@@ -26,21 +24,26 @@ enum Seen {
     Wrong,
 }
 
-#[test]
-fn refused_allocation_leaves_whole_statements(rt: HostRuntime) -> Result<(), Fail> {
-    let seen = look_behind(rt.alloc());
-    match seen {
-        Seen::BeforeRun => println!(rt; "refused before the run")?,
-        Seen::Behind(done) => println!(rt; "refused behind {done} statements")?,
-        Seen::BehindRun => println!(rt; "refused behind the run")?,
-        Seen::Whole | Seen::Wrong => {}
+impl Seen {
+    /// What it says of the allocation.
+    pub(crate) fn told(self) -> &'static str {
+        match self {
+            Seen::BeforeRun => "refused before the run",
+            Seen::InRun => "refused in the run",
+            Seen::BehindRun => "refused behind the run",
+            Seen::Whole => "nothing is refused",
+            Seen::Wrong => "wrong",
+        }
     }
-    assert!(rt; !matches!(seen, Seen::Wrong));
-    Ok(())
+}
+
+/// Whether no allocation of a run leaves what isn't the work of whole statements.
+pub(crate) fn refused_allocation_leaves_whole_statements(alloc: Global) -> bool {
+    !matches!(look_behind(alloc), Seen::Wrong)
 }
 
 /// Runs the script, and looks at what it left.
-fn look_behind(alloc: Global) -> Seen {
+pub(crate) fn look_behind(alloc: Global) -> Seen {
     match script_and_tapes(alloc) {
         Ok((script, tape, second_tape)) => look_behind_run(alloc, &script, tape, second_tape),
         Err(AllocError) => Seen::BeforeRun,
@@ -73,7 +76,7 @@ fn judge(ran: &Ran, look: &Ran) -> Seen {
     if look.printed.as_slice() != seen_behind(done).as_bytes() {
         Seen::Wrong
     } else if done < STEPS.len() {
-        Seen::Behind(done)
+        Seen::InRun
     } else {
         Seen::Whole
     }

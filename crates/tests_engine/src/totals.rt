@@ -2,8 +2,8 @@
 //! it, whether a result is kept or not. By hand: a scan opens all rows of its table, 4 of each here; a match those of its key; and
 //! subqueries are evaluated on each row that passes the other conjuncts.
 
-use crate::runs::{Part, run};
 use crate::shelf::{File, Shelf};
+use crate::work::work_behind;
 use sqlr::Session;
 use std::alloc::Global;
 
@@ -108,25 +108,26 @@ static MATCHES: [Row; 4] = [
     },
 ];
 
-/// The place of the first row behind which a session's work is another, if there is one.
-fn first_other(alloc: Global, rows: &[Row]) -> Option<usize> {
+/// Whether a session's work is each row's behind its script.
+fn are_worked(alloc: Global, rows: &[Row]) -> bool {
     let files = &FILES;
     let mut session = Session::new(alloc, Shelf { alloc, files });
-    for (place, row) in rows.iter().enumerate() {
-        let _printed = run(&mut session, Vec::new(alloc), Part::whole(row.script));
-        if session.work() != row.work {
-            return Some(place);
+    are_worked_in(alloc, &mut session, rows)
+}
+
+fn are_worked_in<'a>(alloc: Global, session: &mut Session<Shelf<'a>>, rows: &[Row]) -> bool {
+    for row in rows {
+        if work_behind(alloc, session, row.script) != row.work {
+            return false;
         }
     }
-    None
+    true
 }
 
-#[test]
-fn inner_blocks_count_as_often_as_they_are_evaluated(rt: HostRuntime) {
-    assert_eq!(rt; first_other(rt.alloc(), &CLUBS), None);
+pub(crate) fn inner_blocks_count_as_often_as_they_are_evaluated(alloc: Global) -> bool {
+    are_worked(alloc, &CLUBS)
 }
 
-#[test]
-fn matches_open_the_rows_of_their_keys(rt: HostRuntime) {
-    assert_eq!(rt; first_other(rt.alloc(), &MATCHES), None);
+pub(crate) fn matches_open_the_rows_of_their_keys(alloc: Global) -> bool {
+    are_worked(alloc, &MATCHES)
 }

@@ -50,7 +50,11 @@ fn ran<'a>(alloc: Global, session: &mut Session<Shelf<'a>>, script: &str) -> Ran
 }
 
 /// What a session's work is behind a script.
-fn work_behind<'a>(alloc: Global, session: &mut Session<Shelf<'a>>, script: &str) -> u64 {
+pub(crate) fn work_behind<'a>(
+    alloc: Global,
+    session: &mut Session<Shelf<'a>>,
+    script: &str,
+) -> u64 {
     let _printed = ran(alloc, session, script);
     session.work()
 }
@@ -62,15 +66,18 @@ fn joins_pairs<'a>(alloc: Global, session: &mut Session<Shelf<'a>>) -> bool {
         || printed.is(Ok(Ended::Well), "P|Q\n30|5\n10|5\n2 rows\n")
 }
 
-// The loop that begins with T2 costs 34, that from T1 46 and each merge 71: two rows of T2 are opened, and for each the three of T1.
-#[test]
-fn joined_rows_are_counted(rt: HostRuntime) {
-    let alloc = rt.alloc();
+/// Whether the rows that a join opens are counted. The loop that begins with T2 costs 34, that from T1 46 and each merge 71: two rows of T2
+/// are opened, and for each the three of T1.
+pub(crate) fn joined_rows_are_counted(alloc: Global) -> bool {
     let mut session = session(alloc);
-    assert!(rt; session.work() == 0);
-    assert!(rt; work_behind(alloc, &mut session, PAIRS) == 0);
-    assert!(rt; joins_pairs(alloc, &mut session));
-    assert!(rt; session.work() == 8);
+    counts_joined_rows(alloc, &mut session)
+}
+
+fn counts_joined_rows<'a>(alloc: Global, session: &mut Session<Shelf<'a>>) -> bool {
+    session.work() == 0
+        && work_behind(alloc, session, PAIRS) == 0
+        && joins_pairs(alloc, session)
+        && session.work() == 8
 }
 
 /// Whether the plan that EXPLAIN prints of the tie begins with its first table.
@@ -84,18 +91,20 @@ fn begins_with_first<'a>(alloc: Global, session: &mut Session<Shelf<'a>>) -> Opt
     }
 }
 
-// One row of T1 and for it three of T2, or three of T2 and for each the one of T1.
-#[test]
-fn work_is_that_of_the_plan_that_explain_prints(rt: HostRuntime) {
-    let alloc = rt.alloc();
+/// Whether the work is that of the plan that EXPLAIN prints: one row of T1 and for it three of T2, or three of T2 and for each the one of T1.
+pub(crate) fn work_is_that_of_the_plan_that_explain_prints(alloc: Global) -> bool {
     let mut session = session(alloc);
-    let _made = ran(alloc, &mut session, TIE);
-    let opened = match begins_with_first(alloc, &mut session) {
+    works_as_explained(alloc, &mut session)
+}
+
+fn works_as_explained<'a>(alloc: Global, session: &mut Session<Shelf<'a>>) -> bool {
+    let made = work_behind(alloc, session, TIE);
+    let opened = match begins_with_first(alloc, session) {
         Some(true) => 4,
         Some(false) => 6,
-        None => 0,
+        None => return false,
     };
-    assert!(rt; work_behind(alloc, &mut session, "SELECT X, Y FROM T1, T2;") == opened);
+    made == 0 && work_behind(alloc, session, "SELECT X, Y FROM T1, T2;") == opened
 }
 
 /// Whether what prints no rows leaves a work of 8 as it is: an exception, a refusal, EXPLAIN and a check.
@@ -113,13 +122,15 @@ fn leaves_work<'a>(alloc: Global, session: &mut Session<Shelf<'a>>) -> bool {
         && session.work() == 8
 }
 
-#[test]
-fn work_stays_where_no_rows_are_printed(rt: HostRuntime) {
-    let alloc = rt.alloc();
+pub(crate) fn work_stays_where_no_rows_are_printed(alloc: Global) -> bool {
     let mut session = session(alloc);
-    let _made = ran(alloc, &mut session, PAIRS);
-    let _more = ran(alloc, &mut session, QUOTIENTS);
-    assert!(rt; joins_pairs(alloc, &mut session));
-    assert!(rt; leaves_work(alloc, &mut session));
-    assert!(rt; work_behind(alloc, &mut session, "SELECT A FROM R WHERE A > B;") == 1);
+    keeps_work(alloc, &mut session)
+}
+
+fn keeps_work<'a>(alloc: Global, session: &mut Session<Shelf<'a>>) -> bool {
+    work_behind(alloc, session, PAIRS) == 0
+        && work_behind(alloc, session, QUOTIENTS) == 0
+        && joins_pairs(alloc, session)
+        && leaves_work(alloc, session)
+        && work_behind(alloc, session, "SELECT A FROM R WHERE A > B;") == 1
 }

@@ -21,7 +21,7 @@ mod sorting;
 
 pub use automatic_index::{AutomaticIndex, Chain};
 pub use composite_value::value_at;
-pub use implied::{SoughtColumns, is_implied, sought_columns};
+pub use implied::{SoughtColumns, outer_filter, sought_columns};
 pub use list::Composites;
 pub use row_keys::{RowKeys, keys_of_rows};
 pub use rows::{sort_rows, sort_rows_with_keys};

@@ -47,30 +47,25 @@ run_plan-requires-clause-within g c =
     let ready : IsReady query 0 r = c.requires.query 0 r at_block in
     ready.within
 
-pub take_rows-requires-clause-first : goal.take_rows-requires-clause-first
-take_rows-requires-clause-first g c = slice_get-get_or c.args.query.now 0 c.index-query-0.result c.requires.outermost ∙ ap Some (sym c.index-query-0.is)
-
-pub take_rows-requires-clause-right : goal.take_rows-requires-clause-right
-take_rows-requires-clause-right g c = rw c.as_mut_slice-results.ensures.value c.in_ok-kept.ensures
-
-pub take_rows-requires-clause-pipeline : goal.take_rows-requires-clause-pipeline
-take_rows-requires-clause-pipeline g c = subst (IsPipeline c.in_ok-pipeline.pipeline) c.new-frames.ensures c.in_ok-pipeline.ensures.well
-
-pub take_rows-requires-clause-well : goal.take_rows-requires-clause-well
-take_rows-requires-clause-well g c =
+pub take_rows-requires : goal.take_rows-requires
+take_rows-requires g c =
     let query = c.args.query.now in
     let r : ReadyBlock = c.index-query-0.result in
     let at_block : slice_get query 0 ≡ Some r = slice_get-get_or query 0 r c.requires.outermost ∙ ap Some (sym c.index-query-0.is) in
     let ready : IsReady query 0 r = c.requires.query 0 r at_block in
-    c.in_ok-rows.ensures.well r.source [] (sym ready.block)
-
-pub take_rows-requires-clause-told : goal.take_rows-requires-clause-told
-take_rows-requires-clause-told g c =
-    let query = c.args.query.now in
-    let r : ReadyBlock = c.index-query-0.result in
-    let at_block : slice_get query 0 ≡ Some r = slice_get-get_or query 0 r c.requires.outermost ∙ ap Some (sym c.index-query-0.is) in
-    let ready : IsReady query 0 r = c.requires.query 0 r at_block in
-    c.in_ok-rows.ensures.told r.source [] (sym ready.block)
+    record {
+      can = record {
+        ready = c.requires.query;
+        first = at_block;
+        stands = c.requires.stands;
+        right = rw c.as_mut_slice-results.ensures.value c.in_ok-kept.ensures;
+        frames = c.new-frames.ensures;
+        pipeline = subst (IsPipeline c.in_ok-pipeline.pipeline) c.new-frames.ensures c.in_ok-pipeline.ensures.well;
+        width = c.in_ok-pipeline.ensures.width;
+        well = c.in_ok-rows.ensures.well r.source [] (sym ready.block);
+        told = c.in_ok-rows.ensures.told r.source [] (sym ready.block);
+      };
+    }
 
 pub returns-in_err-inner-clause-raised : goal.returns-in_err-inner-clause-raised
 returns-in_err-inner-clause-raised g c =
@@ -97,7 +92,7 @@ finish-requires-clause-can g c =
     let query = c.args.query.now in
     let r : ReadyBlock = c.index-query-0.result in
     let at_block : slice_get query 0 ≡ Some r = slice_get-get_or query 0 r c.requires.outermost ∙ ap Some (sym c.index-query-0.is) in
-    subst (CanAnswer r.source) (sym c.in_ok-inner.ensures.frames) (can query c.requires.query 0 r at_block [] c.requires.stands)
+    subst (CanAnswer r.source) (sym c.in_ok-inner.ensures.taken.frames) (can query c.requires.query 0 r at_block [] c.requires.stands)
 
 pub returns-in_err-store-clause-raised : goal.returns-in_err-store-clause-raised
 returns-in_err-store-clause-raised g c =
@@ -105,12 +100,12 @@ returns-in_err-store-clause-raised g c =
     let r : ReadyBlock = c.index-query-0.result in
     let at_block : slice_get query 0 ≡ Some r = slice_get-get_or query 0 r c.requires.outermost ∙ ap Some (sym c.index-query-0.is) in
     let ready : IsReady query 0 r = c.requires.query 0 r at_block in
-    let same = c.in_ok-inner.ensures.frames in
+    let same = c.in_ok-inner.ensures.taken.frames in
     let whole_list : List Composite = left_of c.in_ok-pipeline.pipeline [] in
     let arranged = subst (λ o. ArrangePassing r.source o (left_of c.in_ok-pipeline.pipeline o)) c.new-frames.ensures c.in_ok-pipeline.ensures.arranged in
     let ordered = subst (λ o. AreRequired (block_in r.source) (map (combination_of r.source.database (block_in r.source)) (left_of c.in_ok-pipeline.pipeline o))) c.new-frames.ensures (c.in_ok-pipeline.ensures.required ready.required) in
     let e = err_from_is_err_and c.from_residual-in_err-store.result c.from_residual-in_err-store.ensures.1 in
-    rw (e.1, e.2) (raise_allowed query c.requires.query r at_block c.requires.stands whole_list arranged ordered c.take_rows.new.rows c.in_ok-inner.ensures.taken (combinations_in c.take_rows.new.frames) same c.in_err-store.field-0.0 c.in_err-store.ensures.raised)
+    rw (e.1, e.2) (raise_allowed query c.requires.query r at_block c.requires.stands whole_list arranged ordered c.take_rows.new.rows c.in_ok-inner.ensures.taken.taken (combinations_in c.take_rows.new.frames) same c.in_err-store.field-0.0 c.in_err-store.ensures.raised)
 
 pub returns-clause-rows : goal.returns-clause-rows
 returns-clause-rows g c =
@@ -118,16 +113,16 @@ returns-clause-rows g c =
     let r : ReadyBlock = c.index-query-0.result in
     let at_block : slice_get query 0 ≡ Some r = slice_get-get_or query 0 r c.requires.outermost ∙ ap Some (sym c.index-query-0.is) in
     let ready : IsReady query 0 r = c.requires.query 0 r at_block in
-    let same = c.in_ok-inner.ensures.frames in
+    let same = c.in_ok-inner.ensures.taken.frames in
     let whole_list : List Composite = left_of c.in_ok-pipeline.pipeline [] in
     let arranged = subst (λ o. ArrangePassing r.source o (left_of c.in_ok-pipeline.pipeline o)) c.new-frames.ensures c.in_ok-pipeline.ensures.arranged in
     let ordered = subst (λ o. AreRequired (block_in r.source) (map (combination_of r.source.database (block_in r.source)) (left_of c.in_ok-pipeline.pipeline o))) c.new-frames.ensures (c.in_ok-pipeline.ensures.required ready.required) in
-    let kind = c.in_ok-store.ensures.kind ∙ c.in_ok-inner.ensures.kind ∙ c.in_ok-rows.ensures.kind ∙ ap (λ b. printing (not (comes_in_order (block_of b))) (block_of b).distinct) ready.block in
+    let kind = c.in_ok-store.ensures.kind ∙ c.in_ok-inner.ensures.taken.kind ∙ c.in_ok-rows.ensures.kind ∙ ap (λ b. printing (not (comes_in_order (block_of b))) (block_of b).distinct) ready.block in
     let keys = ap (map key_of) (c.deref.ensures.value ∙ ap (λ b. b.order.items) ready.block) in
-    text_allowed query c.requires.query r at_block c.requires.stands whole_list arranged ordered c.take_rows.new.rows c.in_ok-inner.ensures.taken (combinations_in c.take_rows.new.frames) same c.in_ok-store.store _ c.in_ok-text.text.items c.in_ok-store.ensures.rows kind keys c.in_ok-text.ensures
+    text_allowed query c.requires.query r at_block c.requires.stands whole_list arranged ordered c.take_rows.new.rows c.in_ok-inner.ensures.taken.taken (combinations_in c.take_rows.new.frames) same c.in_ok-store.store _ c.in_ok-text.text.items c.in_ok-store.ensures.rows kind keys c.in_ok-text.ensures
 
 pub end-requires : goal.end-requires
-end-requires g c = record { prints = ap (λ (k : StoreKind). k.prints) (c.in_ok-store.ensures.kind ∙ c.in_ok-inner.ensures.kind ∙ c.in_ok-rows.ensures.kind) }
+end-requires g c = record { prints = ap (λ (k : StoreKind). k.prints) (c.in_ok-store.ensures.kind ∙ c.in_ok-inner.ensures.taken.kind ∙ c.in_ok-rows.ensures.kind) }
 
 pub returns-clause-total : goal.returns-clause-total
 returns-clause-total g c =
@@ -138,6 +133,6 @@ returns-clause-total g c =
     let work_is : opened_of c.in_ok-pipeline.pipeline [] ≡ work (space_of current_version r.source.database (block_in r.source)) (stored_in r.source []) (plan_of r.plan) =
     subst (λ o. opened_of c.in_ok-pipeline.pipeline o ≡ work (space_of current_version r.source.database (block_in r.source)) (stored_in r.source o) (plan_of r.plan)) c.new-frames.ensures c.in_ok-pipeline.ensures.work in
     let opened : c.opened_rows.result ≡ work (space_of current_version r.source.database (block_in r.source)) (stored_in r.source []) (plan_of r.plan) =
-    c.opened_rows.ensures ∙ c.in_ok-inner.ensures.opened ∙ work_is in
+    c.opened_rows.ensures ∙ c.in_ok-inner.ensures.taken.opened ∙ work_is in
     let arranged = subst (λ o. ArrangePassing r.source o (left_of c.in_ok-pipeline.pipeline o)) c.new-frames.ensures c.in_ok-pipeline.ensures.arranged in
-    c.saturating_sum.ensures.exact ∙ whole query c.requires.query 0 r at_block [] c.requires.stands c.opened_rows.result c.in_ok-inner.inner whole_list arranged opened c.in_ok-inner.ensures.total
+    c.saturating_sum.ensures.exact ∙ whole query c.requires.query 0 r at_block [] c.requires.stands c.opened_rows.result c.in_ok-inner.inner whole_list arranged opened c.in_ok-inner.ensures.taken.total

@@ -1,0 +1,70 @@
+-- Late conjuncts that compare a column's value with what was told of a subquery.
+use Rattle.std.specs.Prelude.{ℕ, ℤ, ◌≡◌, ◌*ℤ◌, Bool, true, false, not, List, [], ◌∷◌, Result}
+use Rattle.std.specs.Ordering.{int_cmp}
+use Rattle.definitions.specs.Arithmetic.{Is, Raise}
+use Rattle.definitions.specs.Statement.{Equals}
+use Rattle.definitions.specs.Truth.{agrees, compared_with_any, known, unless}
+use Rattle.definitions.specs.Value.{Value, Number, number_cmp}
+use Rattle.definitions.specs.Queries.BoundBlock.{Condition}
+use Rattle.definitions.specs.Queries.Evaluation.{cell, truth, Environment}
+use Rattle.definitions_answers.specs.Told.{told_environment}
+use Rattle.definitions_execution.specs.OfBlock.{combination_of}
+use Rattle.definitions_execution.specs.Stored.{Composite}
+use Rattle.sqlvalue.specs.Meaning.{op_of}
+use Rattle.sqlvalue.specs.declared.number.Num.{Num}
+use Rattle.sqlvalue.specs.declared.op.ComparisonOperator.{ComparisonOperator}
+use Rattle.query_tree.specs.Bound.{column_of}
+use Rattle.query_tree.specs.declared.leaf.BlockColumn.{BlockColumn}
+use Rattle.filters.specs.Sources.{block_in, BlockSource}
+use Rattle.executor.specs.UnitSets.{has}
+use Rattle.executor.specs.declared.told_test.Asked.{Asked}
+use Rattle.executor.specs.declared.told_test.Asked.TheVariants as a
+use Rattle.executor.specs.declared.told_test.ToldTest.{ToldTest}
+
+-- the other way round where it is negated
+abbrev pub is_unless : (negated : Bool) → Bool → Bool
+is_unless true b = not b
+is_unless false b = b
+
+abbrev pub meets : Asked → ℤ → Bool
+meets (a.Compared op factor units) unit = agrees (op_of op) (int_cmp (unit *ℤ factor) units)
+meets (a.Listed negated units) unit = is_unless negated (has units unit)
+
+-- a number of so many units, at the test's scale, passes it
+abbrev pub passes : ToldTest → ℤ → Bool
+passes test unit = meets test.asked unit
+
+-- where a number of the test's scale is in its column, a condition is as true as the test tells, by what was told of its
+-- subqueries
+abbrev pub IsTestOf : (told : ℕ → Result (List Value) Raise) → ToldTest → Condition → Type 0
+IsTestOf told test condition = (env : Environment) (unit : ℤ)
+    → cell env.combination (column_of test.column) ≡ Number unit test.scale
+    → truth (told_environment env told) condition ≡ Is (known (passes test unit))
+
+-- it is that of the one condition that there is
+abbrev pub IsTestOfAll : (told : ℕ → Result (List Value) Raise) → ToldTest → List Condition → Type 0
+IsTestOfAll told test (condition ∷ []) = IsTestOf told test condition
+IsTestOfAll told test _ = ⊥
+
+-- a test is that of a comparison of a column's numbers of a scale with a number
+pub record ComparesWith (own : BlockColumn) (digits : ℕ) (op : ComparisonOperator) (number : Num) (test : ToldTest)
+    : Type 0 where
+  pub column : test.column ≡ own
+  pub scale : test.scale ≡ digits
+  pub compares : (unit : ℤ)
+      → passes test unit ≡ agrees (op_of op) (number_cmp unit digits number.units number.scale)
+
+-- or of IN or NOT IN
+pub record ListsValues (own : BlockColumn) (digits : ℕ) (negated : Bool) (values : List Value) (test : ToldTest)
+    : Type 0 where
+  pub column : test.column ≡ own
+  pub scale : test.scale ≡ digits
+  pub lists : (unit : ℤ)
+      → unless negated (compared_with_any Equals (Number unit digits) values) ≡ known (passes test unit)
+
+-- a composite has a number of the test's scale in its column, which passes the test or doesn't
+abbrev pub IsTestedAs : BlockSource → Composite → ToldTest → (passed : Bool) → Type 0
+IsTestedAs source composite test passed = (unit : ℤ)
+    × (cell (combination_of source.database (block_in source) composite) (column_of test.column)
+    ≡ Number unit test.scale)
+    × (passed ≡ passes test unit)
