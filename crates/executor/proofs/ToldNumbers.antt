@@ -1,9 +1,9 @@
-use Rattle.std.proofs.Common.{◌≡◌, ◌∙◌, refl, sym, ap, ap₂, ℕ, ◌-◌, ◌^◌, ◌<◌, ◌≤◌, List, [], ◌∷◌, ◌++◌, Bool, true, false, length, map, get_or, arith}
+use Rattle.std.proofs.Common.{◌≡◌, ◌∙◌, refl, sym, ap, ap₂, ℕ, ◌-◌, ◌^◌, ◌<◌, ◌≤◌, List, [], ◌∷◌, ◌++◌, Bool, true, false, length, map, get_or, arith, inl, inr}
 use Rattle.std.specs.Prelude.{ℤ, pos, ◌*ℤ◌, ◌&&◌, IfSome, Option, None, Some, slice_get, Ok, Err, Result}
 use Rattle.std.specs.Ordering.{int_cmp}
-use Rattle.definitions.specs.Arithmetic.{Is, Meaning, Raise}
+use Rattle.definitions.specs.Arithmetic.{Is, Raise}
 use Rattle.definitions.specs.Statement.{ComparisonOperator, Equals}
-use Rattle.definitions.specs.Truth.{agrees, compared, compared_with_any, is_true, known, unless, Truth}
+use Rattle.definitions.specs.Truth.{agrees, compared, compared_with_any, is_true, known, or, unless, Unknown}
 use Rattle.definitions.specs.Value.{number_cmp, Null, Number, SqlType, Value}
 use Rattle.definitions.specs.Table.{Row}
 use Rattle.definitions.specs.ValueType.{ValueType}
@@ -31,7 +31,7 @@ use Rattle.filters.specs.Sources.{block_in, context_in, BlockSource}
 use Rattle.subqueries.specs.Keeping.{told_by}
 use Rattle.subqueries.specs.declared.kept_results.KeptResults.{KeptResults}
 use Rattle.executor.specs.LateTests.{are_true_at, raised_at}
-use Rattle.executor.specs.ToldTests.{ComparesWith, IsTestOf, IsTestOfAll, IsTestedAs, ListsValues}
+use Rattle.executor.specs.ToldTests.{is_unless, passes, ComparesWith, IsTestOf, IsTestOfAll, IsTestedAs, ListsValues}
 use Rattle.executor.specs.declared.told_test.ToldTest.{ToldTest}
 
 -- ---- what was told
@@ -52,6 +52,23 @@ alone (y ∷ z ∷ zs) x some few is = absurd (omega (arith, few))
 pub got_at : {X : Type 0} (xs : List X) (i : ℕ) (x : X) → true ≡ ltb i (length xs) → x ≡ get_or xs i x → slice_get xs i ≡ Some x
 got_at xs i x inside is = slice_get-get_or xs i x (ltb-true i (length xs) (sym inside)) ∙ ap Some (sym is)
 
+pub unless_known : (negated b : Bool) → unless negated (known b) ≡ known (is_unless negated b)
+unless_known true true = refl
+unless_known true false = refl
+unless_known false b = refl
+
+still_unknown : (negated : Bool) → unless negated Unknown ≡ Unknown
+still_unknown true = refl
+still_unknown false = refl
+
+all_unknown : (value : Value) (values : List Value) → compared_with_any Equals Null (value ∷ values) ≡ Unknown
+all_unknown value [] = refl
+all_unknown value (v ∷ vs) = ap (or Unknown) (all_unknown v vs)
+
+pub unknown_in_list : {X : Type 0} (f : X → Value) (xs : List X) → 0 < length xs → compared_with_any Equals Null (map f xs) ≡ Unknown
+unknown_in_list f [] some = absurd (omega (arith, some))
+unknown_in_list f (x ∷ xs) some = all_unknown (f x) (map f xs)
+
 -- ---- the test of a comparison
 
 pub compares_at : (op : ComparisonOperator) (factor units own : ℤ) (m n : ℕ) → factor ≡ pos (10 ^ (n - m)) → units ≡ own *ℤ pos (10 ^ (m - n))
@@ -65,10 +82,15 @@ module _ (told : ℕ → Result (List Value) Raise) (block : ℕ) where
 
   pub is_test : (type : ValueType) (test : ToldTest) (column : BlockColumn) (own : SqlType) (digits : ℕ) (op : code.ComparisonOperator) (number : Num) → told block ≡ Ok (number_of number ∷ []) → ComparesWith column digits op number test
       → IsTestOf told test (Compare (op_of op) (Column (column_of column) own) (Subquery block type))
-  is_test type test column own digits op number e h = λ env unit there.
-      let value_is : cell env.combination (column_of column) ≡ Number unit digits = ap (λ c. cell env.combination (column_of c)) (sym h.column) ∙ there ∙ ap (Number unit) h.scale in
-      compare_means type env (op_of op) (column_of column) own (number_of number) e ∙ ap (λ v. Is (compared (op_of op) v (number_of number))) value_is
-      ∙ ap (λ b. Is (known b)) (sym (h.compares unit))
+  is_test type test column own digits op number e h = record {
+    number = λ env unit there.
+        let value_is : cell env.combination (column_of column) ≡ Number unit digits = ap (λ c. cell env.combination (column_of c)) (sym h.column) ∙ there ∙ ap (Number unit) h.scale in
+        compare_means type env (op_of op) (column_of column) own (number_of number) e ∙ ap (λ v. Is (compared (op_of op) v (number_of number))) value_is
+        ∙ ap (λ b. Is (known b)) (sym (h.compares unit));
+    null = λ env there.
+        let value_is : cell env.combination (column_of column) ≡ Null = ap (λ c. cell env.combination (column_of c)) (sym h.column) ∙ there in
+        compare_means type env (op_of op) (column_of column) own (number_of number) e ∙ ap (λ v. Is (compared (op_of op) v (number_of number))) value_is;
+  }
 
   in_means : (env : Environment) (negated : Bool) (column : order.BlockColumn) (own : SqlType) (values : List Value) → told block ≡ Ok values
       → truth (told_environment env told) (InQuery negated (Column column own) block) ≡ Is (unless negated (compared_with_any Equals (cell env.combination column) values))
@@ -78,20 +100,26 @@ module _ (told : ℕ → Result (List Value) Raise) (block : ℕ) where
 
   pub is_list_test : (test : ToldTest) (column : BlockColumn) (own : SqlType) (digits : ℕ) (negated : Bool) (values : List Value) → told block ≡ Ok values → ListsValues column digits negated values test
       → IsTestOf told test (InQuery negated (Column (column_of column) own) block)
-  is_list_test test column own digits negated values e h = λ env unit there.
-      let value_is : cell env.combination (column_of column) ≡ Number unit digits = ap (λ c. cell env.combination (column_of c)) (sym h.column) ∙ there ∙ ap (Number unit) h.scale in
-      in_means env negated (column_of column) own values e ∙ ap (λ v. Is (unless negated (compared_with_any Equals v values))) value_is ∙ ap Is (h.lists unit)
+  is_list_test test column own digits negated values e h = record {
+    number = λ env unit there.
+        let value_is : cell env.combination (column_of column) ≡ Number unit digits = ap (λ c. cell env.combination (column_of c)) (sym h.column) ∙ there ∙ ap (Number unit) h.scale in
+        in_means env negated (column_of column) own values e ∙ ap (λ v. Is (unless negated (compared_with_any Equals v values))) value_is ∙ ap Is (h.lists unit);
+    null = λ env there.
+        let value_is : cell env.combination (column_of column) ≡ Null = ap (λ c. cell env.combination (column_of c)) (sym h.column) ∙ there in
+        in_means env negated (column_of column) own values e ∙ ap (λ v. Is (unless negated (compared_with_any Equals v values))) value_is ∙ ap (λ t. Is (unless negated t)) h.null
+        ∙ ap Is (still_unknown negated);
+  }
 
--- ---- the number in a composite's column
+-- ---- the value in a composite's column
 
-pub number_there : (source : BlockSource) (column : order.BlockColumn) (items : List Composite) (place : ℕ) → place < length items → (rows : List ℕ) → rows ≡ map (λ composite. row_number composite column.table) items
-    → (own v : Value) → own ≡ get_or (get_or (rows_in source.database (block_in source) column.table) (get_or rows place 0) []) column.number Null → own ≡ v
-    → cell (combination_of source.database (block_in source) (get_or items place [])) column ≡ v
-number_there source column items place within rows are own v there number =
+pub value_at_place : (source : BlockSource) (column : order.BlockColumn) (items : List Composite) (place : ℕ) → place < length items → (rows : List ℕ) → rows ≡ map (λ composite. row_number composite column.table) items
+    → (own : Value) → own ≡ get_or (get_or (rows_in source.database (block_in source) column.table) (get_or rows place 0) []) column.number Null
+    → cell (combination_of source.database (block_in source) (get_or items place [])) column ≡ own
+value_at_place source column items place within rows are own there =
     let table = λ (composite : Composite). row_number composite column.table in
     let row_is : get_or rows place 0 ≡ row_number (get_or items place []) column.table = ap (λ rs. get_or rs place 0) are ∙ get_or-map table items place [] 0 within in
     ap (λ (r : Row). get_or r column.number Null) (row_of source.database (block_in source) (get_or items place []) column.table)
-    ∙ ap (λ n. get_or (get_or (rows_in source.database (block_in source) column.table) n []) column.number Null) (sym row_is) ∙ sym there ∙ number
+    ∙ ap (λ n. get_or (get_or (rows_in source.database (block_in source) column.table) n []) column.number Null) (sym row_is) ∙ sym there
 
 pub if_some : {X : Type 0} (P Q : X → Type 0) (found : Option X) → ((x : X) → P x → Q x) → IfSome found P → IfSome found Q
 if_some P Q None h p = tt
@@ -99,25 +127,34 @@ if_some P Q (Some x) h p = h x p
 
 -- ---- what it tells of a composite
 
-only_one : (passed : Bool) → passed ≡ is_true (known passed) && true
+only_known : (passed : Bool) → is_true (known passed) ≡ passed
+only_known true = refl
+only_known false = refl
+
+only_one : (passed : Bool) → passed ≡ passed && true
 only_one true = refl
 only_one false = refl
 
 module _ (source : BlockSource) (outer : List Combination) (results : List KeptResults) (composite : Composite) (test : ToldTest) (passed : Bool) (tested : IsTestedAs source composite test passed) where
-  abbrev env : Environment
-  env = told_environment (at (context_in source outer) (combination_of source.database (block_in source) composite)) (told_by results)
+  abbrev here : Environment
+  here = at (context_in source outer) (combination_of source.database (block_in source) composite)
 
-  means : (condition : Condition) → IsTestOf (told_by results) test condition → truth env condition ≡ Is (known passed)
-  means condition h =
-      let (unit, there, is) = tested in
-      h (at (context_in source outer) (combination_of source.database (block_in source) composite)) unit there ∙ ap (λ b. Is (known b)) (sym is)
+  abbrev env : Environment
+  env = told_environment here (told_by results)
+
+  means : (condition : Condition) → IsTestOf (told_by results) test condition → (is_surely_true (truth env condition) ≡ passed) × (raises_of (truth env condition) ≡ [])
+  means condition h = by_value tested
+    where
+      by_value : IsTestedAs source composite test passed → (is_surely_true (truth env condition) ≡ passed) × (raises_of (truth env condition) ≡ [])
+      by_value (inl (unit, there, is)) = let m = h.number here unit there in (ap is_surely_true m ∙ only_known (passes test unit) ∙ sym is, ap raises_of m)
+      by_value (inr (there, is)) = let m = h.null here there in (ap is_surely_true m ∙ sym is, ap raises_of m)
 
   pub tested_truth : (conditions : List Condition) → IsTestOfAll (told_by results) test conditions → passed ≡ are_true_at source outer results conditions composite
   tested_truth [] h = absurd h
-  tested_truth (condition ∷ []) h = only_one passed ∙ sym (ap (λ (m : Meaning Truth). is_surely_true m && true) (means condition h))
+  tested_truth (condition ∷ []) h = only_one passed ∙ ap (λ b. b && true) (sym (means condition h).0)
   tested_truth (condition ∷ other ∷ others) h = absurd h
 
   pub tested_quiet : (conditions : List Condition) → IsTestOfAll (told_by results) test conditions → raised_at source outer results conditions composite ≡ []
   tested_quiet [] h = absurd h
-  tested_quiet (condition ∷ []) h = ap (λ (m : Meaning Truth). raises_of m ++ []) (means condition h)
+  tested_quiet (condition ∷ []) h = ap (λ rs. rs ++ []) (means condition h).1
   tested_quiet (condition ∷ other ∷ others) h = absurd h

@@ -1,10 +1,10 @@
 -- Late conjuncts that compare a column's value with what was told of a subquery.
-use Rattle.std.specs.Prelude.{ℕ, ℤ, ◌≡◌, ◌*ℤ◌, Bool, true, false, not, List, [], ◌∷◌, Result}
+use Rattle.std.specs.Prelude.{ℕ, ℤ, ◌≡◌, ◌*ℤ◌, ◌⊎◌, Bool, true, false, not, List, [], ◌∷◌, Result}
 use Rattle.std.specs.Ordering.{int_cmp}
 use Rattle.definitions.specs.Arithmetic.{Is, Raise}
 use Rattle.definitions.specs.Statement.{Equals}
-use Rattle.definitions.specs.Truth.{agrees, compared_with_any, known, unless}
-use Rattle.definitions.specs.Value.{Value, Number, number_cmp}
+use Rattle.definitions.specs.Truth.{agrees, compared_with_any, known, unless, Unknown}
+use Rattle.definitions.specs.Value.{Value, Null, Number, number_cmp}
 use Rattle.definitions.specs.Queries.BoundBlock.{Condition}
 use Rattle.definitions.specs.Queries.Evaluation.{cell, truth, Environment}
 use Rattle.definitions_answers.specs.Told.{told_environment}
@@ -35,11 +35,12 @@ abbrev pub passes : ToldTest → ℤ → Bool
 passes test unit = meets test.asked unit
 
 -- where a number of the test's scale is in its column, a condition is as true as the test tells, by what was told of its
--- subqueries
-abbrev pub IsTestOf : (told : ℕ → Result (List Value) Raise) → ToldTest → Condition → Type 0
-IsTestOf told test condition = (env : Environment) (unit : ℤ)
-    → cell env.combination (column_of test.column) ≡ Number unit test.scale
-    → truth (told_environment env told) condition ≡ Is (known (passes test unit))
+-- subqueries; and unknown where null is there
+pub record IsTestOf (told : ℕ → Result (List Value) Raise) (test : ToldTest) (condition : Condition) : Type 0 where
+  pub number : (env : Environment) (unit : ℤ) → cell env.combination (column_of test.column) ≡ Number unit test.scale
+      → truth (told_environment env told) condition ≡ Is (known (passes test unit))
+  pub null : (env : Environment) → cell env.combination (column_of test.column) ≡ Null
+      → truth (told_environment env told) condition ≡ Is Unknown
 
 -- it is that of the one condition that there is
 abbrev pub IsTestOfAll : (told : ℕ → Result (List Value) Raise) → ToldTest → List Condition → Type 0
@@ -61,10 +62,15 @@ pub record ListsValues (own : BlockColumn) (digits : ℕ) (negated : Bool) (valu
   pub scale : test.scale ≡ digits
   pub lists : (unit : ℤ)
       → unless negated (compared_with_any Equals (Number unit digits) values) ≡ known (passes test unit)
+  pub null : compared_with_any Equals Null values ≡ Unknown
 
--- a composite has a number of the test's scale in its column, which passes the test or doesn't
+-- what a test tells of a value: of a number of its scale whether it passes, and null doesn't
+abbrev pub TellsOf : ToldTest → Value → (passed : Bool) → Type 0
+TellsOf test value passed =
+    ((unit : ℤ) × (value ≡ Number unit test.scale) × (passed ≡ passes test unit))
+    ⊎ ((value ≡ Null) × (passed ≡ false))
+
+-- and of that in its column, of a composite
 abbrev pub IsTestedAs : BlockSource → Composite → ToldTest → (passed : Bool) → Type 0
-IsTestedAs source composite test passed = (unit : ℤ)
-    × (cell (combination_of source.database (block_in source) composite) (column_of test.column)
-    ≡ Number unit test.scale)
-    × (passed ≡ passes test unit)
+IsTestedAs source composite test passed =
+    TellsOf test (cell (combination_of source.database (block_in source) composite) (column_of test.column)) passed

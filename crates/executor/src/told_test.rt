@@ -2,20 +2,20 @@
 
 ghost use Rattle.std.specs.Prelude.{◌≡◌, ◌^◌, ◌<◌, ◌∷◌, [], IfOk, IfSome, Ok, get_or, length, map, pos};
 ghost use Rattle.definitions.specs.Queries.BoundBlock as spec;
-ghost use Rattle.sqlvalue.specs.Meaning.{number_of, op_of};
+ghost use Rattle.sqlvalue.specs.Meaning.{number_of, op_of, value_of as meaning_of};
 ghost use Rattle.sqlvalue.specs.Owned.{owned_value};
 ghost use Rattle.query_tree.specs.Bound.{condition_of, value_of};
 ghost use Rattle.subqueries.specs.Keeping.{told_by};
 ghost use Rattle.block_answers.specs.Views.{conditions_of};
-ghost use Rattle.executor.specs.ToldTests.{is_unless, passes, ComparesWith, IsTestOf, IsTestOfAll, IsTestedAs, ListsValues};
+ghost use Rattle.executor.specs.ToldTests.{is_unless, passes, ComparesWith, IsTestOf, IsTestOfAll, IsTestedAs, ListsValues, TellsOf};
 
 use crate::unit_set::UnitSet;
 use filters::BlockSource;
 use query_tree::{BlockColumn, Condition, ValueExpr};
 use result_rows::unit_of;
 use scans::Batch;
-use sqlvalue::{ComparisonOperator, Num, OwnedValue, SqlType};
-use std::alloc::{AllocError, Global};
+use sqlvalue::{ComparisonOperator, Num, OwnedValue, SqlType, Value};
+use std::alloc::Global;
 use subqueries::KeptResults;
 
 /// What a late conjunct asks of a column by what was told of a subquery, made ready for numbers of a scale (own).
@@ -40,36 +40,33 @@ enum Asked {
     },
 }
 
-/// The test that late conjuncts come to by what was told last of their subqueries, where there is one conjunct and it has a test.
+/// The test that late conjuncts come to by what was told last of their subqueries, where there is one conjunct and it has a test, for which
+/// there is memory.
 pub(crate) fn test_of(
     alloc: Global,
     late: &[&Condition],
     results: &[KeptResults],
-) -> Result<Option<ToldTest>, AllocError>
-    ensures { IfOk result (λ test. IfSome test (λ t. IsTestOfAll (told_by results.now) t (conditions_of late.now))) }
+) -> Option<ToldTest>
+    ensures { IfSome result (λ test. IsTestOfAll (told_by results.now) test (conditions_of late.now)) }
 {
     match late {
         [condition] => condition_test(alloc, condition, results),
-        _ => Ok(None),
+        _ => None,
     }
 }
 
 /// The test that a condition comes to, where it compares a column with a subquery, or is IN or NOT IN of one.
-fn condition_test(
-    alloc: Global,
-    condition: &Condition,
-    results: &[KeptResults],
-) -> Result<Option<ToldTest>, AllocError>
-    ensures { IfOk result (λ test. IfSome test (λ t. IsTestOf (told_by results.now) t (condition_of condition.now))) }
+fn condition_test(alloc: Global, condition: &Condition, results: &[KeptResults]) -> Option<ToldTest>
+    ensures { IfSome result (λ test. IsTestOf (told_by results.now) test (condition_of condition.now)) }
 {
     match condition {
-        Condition::Compare { op, left, right } => Ok(comparison_test(*op, left, right, results)),
+        Condition::Compare { op, left, right } => comparison_test(*op, left, right, results),
         Condition::InQuery {
             negated,
             value,
             block,
         } => membership_test(alloc, *negated, value, *block, results),
-        _ => Ok(None),
+        _ => None,
     }
 }
 
@@ -99,15 +96,15 @@ fn membership_test(
     value: &ValueExpr,
     block: usize,
     results: &[KeptResults],
-) -> Result<Option<ToldTest>, AllocError>
-    ensures { IfOk result (λ test. IfSome test (λ t. IsTestOf (told_by results.now) t
-        (spec.InQuery negated (value_of value.now) block))) }
+) -> Option<ToldTest>
+    ensures { IfSome result (λ test. IsTestOf (told_by results.now) test
+        (spec.InQuery negated (value_of value.now) block)) }
 {
     match (value, told_values(results, block)) {
         (ValueExpr::Column { column, sql_type }, Some(values)) => {
             list_test(alloc, *column, scale_of(*sql_type), negated, values)
         }
-        _ => Ok(None),
+        _ => None,
     }
 }
 
@@ -147,16 +144,16 @@ fn list_test(
     scale: u8,
     negated: bool,
     values: &[OwnedValue],
-) -> Result<Option<ToldTest>, AllocError>
-    ensures { IfOk result (λ test. IfSome test (ListsValues column scale negated (map owned_value values.now))) }
+) -> Option<ToldTest>
+    ensures { IfSome result (ListsValues column scale negated (map owned_value values.now)) }
 {
-    match UnitSet::of_values(alloc, values, scale)? {
-        Some(units) => Ok(Some(ToldTest {
+    match UnitSet::of_values(alloc, values, scale) {
+        Ok(Some(units)) => Some(ToldTest {
             column,
             scale,
             asked: Asked::Listed { negated, units },
-        })),
-        None => Ok(None),
+        }),
+        _ => None,
     }
 }
 
@@ -211,8 +208,17 @@ impl ToldTest {
             return None;
         }
         let row = batch.column(self.column.table)[place];
-        let unit = unit_of(&source.cell(self.column, row as usize), self.scale)?;
-        self.passes(unit)
+        self.tells_of(&source.cell(self.column, row as usize))
+    }
+
+    /// Whether a value passes, where that is a number of the test's scale, which is not too great, or null, which doesn't.
+    fn tells_of(&self, value: &Value) -> Option<bool>
+        ensures { IfSome result (TellsOf self.now (meaning_of value.now)) }
+    {
+        match value {
+            Value::Null => Some(false),
+            _ => self.passes(unit_of(value, self.scale)?),
+        }
     }
 
     /// Whether a number of so many units passes, if that is not too great.

@@ -1,6 +1,6 @@
 //! Units of a list, as flags.
 
-ghost use Rattle.std.specs.Prelude.{ℕ, ◌≡◌, ◌-ℤ◌, IfOk, IfSome, IsNone, map, pos};
+ghost use Rattle.std.specs.Prelude.{ℕ, ◌≡◌, ◌-ℤ◌, ◌<◌, IfOk, IfSome, IsNone, OnSome, length, map, pos};
 ghost use Rattle.sqlvalue.specs.Owned.{owned_value};
 ghost use Rattle.executor.specs.UnitSets.{has, HasUnitsOf, IsPlaceOf};
 
@@ -19,14 +19,18 @@ pub(crate) struct UnitSet {
 const LONGEST_RANGE: usize = 1 << 20;
 
 impl UnitSet {
-    /// The units of numbers of a scale; none where a value is no such number, or their range is too long.
+    /// The units of numbers of a scale; none where there is no value, or one is no such number, or their range is too long.
     pub(crate) fn of_values(
         alloc: Global,
         values: &[OwnedValue],
         scale: u8,
     ) -> Result<Option<UnitSet>, AllocError>
-        ensures { IfOk result (λ set. IfSome set (HasUnitsOf scale (map owned_value values.now))) }
+        ensures units { IfOk result (λ set. IfSome set (HasUnitsOf scale (map owned_value values.now))) }
+        ensures some { IfOk result (λ set. OnSome set (0 < length values.now)) }
     {
+        if values.is_empty() {
+            return Ok(None);
+        }
         let Some((least, greatest)) = least_and_greatest(values, scale) else {
             return Ok(None);
         };

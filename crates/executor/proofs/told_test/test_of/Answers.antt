@@ -1,5 +1,5 @@
 use Rattle.std.proofs.Common.{sym, subst}
-use Rattle.std.specs.Prelude.{IfOk, IfSome}
+use Rattle.std.specs.Prelude.{IfSome}
 use Rattle.subqueries.specs.Keeping.{told_by}
 use Rattle.block_answers.specs.Views.{conditions_of}
 use Rattle.executor.specs.ToldTests.{IsTestOfAll}
@@ -9,4 +9,4 @@ use Rattle.executor.proofs.told_test.test_of.Goals as goal
 pub returns-in-len1 : goal.returns-in-len1
 returns-in-len1 c =
     let is = alone c.args.late.now c.condition-item.result c.in-len1.len_at_least c.in-len1.len_below c.condition-item.is in
-    subst (λ late. IfOk c.condition_test.result (λ test. IfSome test (λ t. IsTestOfAll (told_by c.args.results.now) t (conditions_of late)))) (sym is) c.condition_test.ensures
+    subst (λ late. IfSome c.condition_test.result (λ test. IsTestOfAll (told_by c.args.results.now) test (conditions_of late))) (sym is) c.condition_test.ensures
