@@ -7,3 +7,4 @@ mod Parts
 mod Sizes
 mod Shorts
 mod Places
+mod RowTruths

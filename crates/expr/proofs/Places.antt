@@ -1,6 +1,6 @@
 -- Values on many rows: what a loop over places keeps, and the word of the rows on which a test passes.
 use Rattle.std.proofs.Common.{◌≡◌, ◌≢◌, ◌∙◌, refl, sym, ap, ap₂, subst, ℕ, zero, suc, ◌+◌, ◌-◌, ◌*◌, ◌^◌, ◌<◌, ◌≤◌, List, ◌∷◌, length, max, get_or, set, Bool, true, false, cond, map, Option, below_more, arith, Some, None, []}
-use Rattle.std.specs.Prelude.{ℤ, pos, neg_ℤ, ◌+ℤ◌, ◌-ℤ◌, ◌*ℤ◌, FitsSigned, IfSome, ◌&&◌, ◌||◌, bit_and, bit_or, option_map}
+use Rattle.std.specs.Prelude.{ℤ, pos, neg_ℤ, ◌+ℤ◌, ◌-ℤ◌, ◌*ℤ◌, FitsSigned, ◌&&◌, ◌||◌, bit_and, bit_or, option_map}
 use Rattle.std.specs.Int.{from_bool, w64}
 use Rattle.std.specs.List.{range_with_len}
 use Rattle.std.proofs.lemmas.List.{get_or-set_other, get_or-set_same}
@@ -13,7 +13,6 @@ use Rattle.definitions.specs.Scanning.{word_of}
 use Rattle.definitions.specs.Truth.{Truth, False, Unknown, True, agrees, and, compared, is_true, known, known_or_unknown, opposite, unless}
 use Rattle.definitions.specs.Value.{Value, Number, compare}
 use Rattle.definitions.specs.Statement.{ComparisonOperator, GreaterOrEquals, GreaterThan, LessOrEquals, LessThan}
-use Rattle.definitions.specs.Queries.Combinations.{is_surely_true}
 use Rattle.definitions.specs.Queries.Evaluation.{on_one, on_two}
 use Rattle.expr.proofs.Shorts.{in_bounds, judged_short, neg_by, one_of, same_size, size_fits}
 
@@ -84,19 +83,16 @@ times_units a b x y s m n scale left right at fs e =
 -- ---- comparisons
 
 -- a comparison of two values that are told
-pub compared_told : (op : ComparisonOperator) (k l : Meaning Value) (v w : Value) → k ≡ Is v → l ≡ Is w → is_surely_true (on_two (compared op) k l) ≡ is_true (compared op v w)
+pub compared_told : (op : ComparisonOperator) (k l : Meaning Value) (v w : Value) → k ≡ Is v → l ≡ Is w → on_two (compared op) k l ≡ Is (compared op v w)
 compared_told op k l v w e f = rw (e, f) refl
 
 pub known_true : (b : Bool) → b ≡ is_true (known b)
 known_true true = refl
 known_true false = refl
 
-pub told_alike : (o : Option ℕ) (v w : ℕ) → v ≡ w → IfSome o (λ x. x ≡ v) → IfSome o (λ x. x ≡ w)
-told_alike o v w e h = subst (λ y. IfSome o (λ x. x ≡ y)) e h
-
 -- ---- BETWEEN
 
-both_true : (t u : Truth) → is_true (and t u) ≡ (is_true t && is_true u)
+pub both_true : (t u : Truth) → is_true (and t u) ≡ (is_true t && is_true u)
 both_true False u = refl
 both_true Unknown False = refl
 both_true Unknown Unknown = refl
@@ -122,14 +118,15 @@ not_to (Some Less) = refl
 not_to (Some Equal) = refl
 not_to (Some Greater) = refl
 
-pub between_told : (k l m : Meaning Value) (x y z : Value) → k ≡ Is x → l ≡ Is y → m ≡ Is z
-    → is_surely_true (on_one (unless false) (on_two and (on_two (compared GreaterOrEquals) k l) (on_two (compared LessOrEquals) k m))) ≡ (is_true (compared GreaterOrEquals x y) && is_true (compared LessOrEquals x z))
-between_told k l m x y z e f h = rw (e, f, h) (both_true (compared GreaterOrEquals x y) (compared LessOrEquals x z))
+pub between_told : (negated : Bool) (k l m : Meaning Value) (x y z : Value) → k ≡ Is x → l ≡ Is y → m ≡ Is z
+    → on_one (unless negated) (on_two and (on_two (compared GreaterOrEquals) k l) (on_two (compared LessOrEquals) k m)) ≡ Is (unless negated (and (compared GreaterOrEquals x y) (compared LessOrEquals x z)))
+between_told negated k l m x y z e f h = rw (e, f, h) refl
 
-pub outside_told : (k l m : Meaning Value) (x y z : Value) → k ≡ Is x → l ≡ Is y → m ≡ Is z
-    → is_surely_true (on_one (unless true) (on_two and (on_two (compared GreaterOrEquals) k l) (on_two (compared LessOrEquals) k m))) ≡ (is_true (compared LessThan x y) || is_true (compared GreaterThan x z))
-outside_told k l m x y z e f h =
-    rw (e, f, h) (one_false (compared GreaterOrEquals x y) (compared LessOrEquals x z) ∙ ap₂ (λ b c. b || c) (not_from (compare x y)) (not_to (compare x z)))
+pub inside_true : (x y z : Value) → is_true (unless false (and (compared GreaterOrEquals x y) (compared LessOrEquals x z))) ≡ (is_true (compared GreaterOrEquals x y) && is_true (compared LessOrEquals x z))
+inside_true x y z = both_true (compared GreaterOrEquals x y) (compared LessOrEquals x z)
+
+pub outside_true : (x y z : Value) → is_true (unless true (and (compared GreaterOrEquals x y) (compared LessOrEquals x z))) ≡ (is_true (compared LessThan x y) || is_true (compared GreaterThan x z))
+outside_true x y z = one_false (compared GreaterOrEquals x y) (compared LessOrEquals x z) ∙ ap₂ (λ b c. b || c) (not_from (compare x y)) (not_to (compare x z))
 
 -- ---- words put together
 

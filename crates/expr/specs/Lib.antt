@@ -4,3 +4,4 @@ pub mod Answers
 pub mod Sizes
 pub mod Shorts
 pub mod Vectors
+pub mod RowTruths

@@ -8,6 +8,7 @@ mod many_rows;
 mod operation;
 mod predicate;
 mod raising;
+mod row_truths;
 mod short;
 mod vectors;
 
@@ -16,4 +17,4 @@ pub use environments::Environment;
 pub use evaluation::value;
 pub use many_rows::ManyRows;
 pub use raising::can_raise;
-pub use vectors::true_rows;
+pub use row_truths::true_rows;

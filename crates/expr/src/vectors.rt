@@ -7,14 +7,14 @@ ghost use Rattle.definitions.specs.Arithmetic.{Is};
 ghost use Rattle.definitions.specs.Scanning.{word_of};
 ghost use Rattle.definitions.specs.Truth.{compared, is_true};
 ghost use Rattle.definitions.specs.Queries.BoundBlock as spec;
-ghost use Rattle.definitions.specs.Queries.Combinations.{is_surely_true};
 ghost use Rattle.definitions.specs.Queries.Evaluation as meaning;
 ghost use Rattle.sqlvalue.specs.Meaning.{op_of, value_of};
-ghost use Rattle.query_tree.specs.Bound.{column_of, condition_of, operator_of, value_of as tree_of};
+ghost use Rattle.query_tree.specs.Bound.{column_of, operator_of, value_of as tree_of};
+ghost use Rattle.expr.specs.RowTruths.{AreTrueRows};
 ghost use Rattle.expr.specs.Vectors.{of_units, value_at, AreValues, IsScaling};
 
 use crate::many_rows::ManyRows;
-use query_tree::{BlockColumn, Condition, Operator, ValueExpr};
+use query_tree::{BlockColumn, Operator, ValueExpr};
 use sqlvalue::{ComparisonOperator, SqlType, Value};
 
 /// How many levels an expression may have that is calculated on many rows: each takes a thousand bytes of the stack and more (own).
@@ -28,36 +28,8 @@ pub(crate) struct Scaling {
     scale: u8,
 }
 
-/// Of so many rows from `first` on, those on which a condition is true, where that is found for all of them together: it compares what is
-/// made of columns, parameters and numbers by signs, sums, differences and products, and all that is met fits 64 bits (ISO/IEC 9075:1992,
-/// 8.2, 8.3 and 6.12). Bit i of the word is that of the row `first + i`. None says nothing.
-pub fn true_rows<S: ManyRows>(
-    condition: &Condition,
-    rows: &S,
-    first: usize,
-    count: usize,
-) -> Option<u64>
-    requires few { count ≤ 64 }
-    requires small { first + count ≤ 2 ^ 32 }
-    ensures { IfSome result (λ word. word ≡ word_of (map (λ row. is_surely_true
-        (meaning.truth (S.environment rows.now row) (condition_of condition.now))) (range_with_len first count))) }
-{
-    match condition {
-        Condition::Compare { op, left, right } => {
-            compared_rows(*op, left, right, rows, first, count)
-        }
-        Condition::Between {
-            negated,
-            value,
-            low,
-            high,
-        } => between_rows(*negated, value, low, high, rows, first, count),
-        _ => None,
-    }
-}
-
 /// Those on which a comparison is true (ISO/IEC 9075:1992, 8.2).
-fn compared_rows<S: ManyRows>(
+pub(crate) fn compared_rows<S: ManyRows>(
     op: ComparisonOperator,
     left: &ValueExpr,
     right: &ValueExpr,
@@ -67,9 +39,8 @@ fn compared_rows<S: ManyRows>(
 ) -> Option<u64>
     requires few { count ≤ 64 }
     requires small { first + count ≤ 2 ^ 32 }
-    ensures { IfSome result (λ word. word ≡ word_of (map (λ row. is_surely_true (meaning.truth
-        (S.environment rows.now row) (spec.Compare (op_of op) (tree_of left.now) (tree_of right.now))))
-        (range_with_len first count))) }
+    ensures { IfSome result (AreTrueRows (λ row. meaning.truth (S.environment rows.now row)
+        (spec.Compare (op_of op) (tree_of left.now) (tree_of right.now))) first count) }
 {
     let _scales = (scale_of(left, MOST_LEVELS)?, scale_of(right, MOST_LEVELS)?);
     let mut a = [None; 64];
@@ -80,7 +51,7 @@ fn compared_rows<S: ManyRows>(
 }
 
 /// Those on which a value lies from one to another, both included, or else doesn't (ISO/IEC 9075:1992, 8.3).
-fn between_rows<S: ManyRows>(
+pub(crate) fn between_rows<S: ManyRows>(
     negated: bool,
     value: &ValueExpr,
     low: &ValueExpr,
@@ -91,8 +62,8 @@ fn between_rows<S: ManyRows>(
 ) -> Option<u64>
     requires few { count ≤ 64 }
     requires small { first + count ≤ 2 ^ 32 }
-    ensures { IfSome result (λ word. word ≡ word_of (map (λ row. is_surely_true (meaning.truth (S.environment rows.now row)
-        (spec.Between negated (tree_of value.now) (tree_of low.now) (tree_of high.now)))) (range_with_len first count))) }
+    ensures { IfSome result (AreTrueRows (λ row. meaning.truth (S.environment rows.now row)
+        (spec.Between negated (tree_of value.now) (tree_of low.now) (tree_of high.now))) first count) }
 {
     let _scales = (
         scale_of(value, MOST_LEVELS)?,

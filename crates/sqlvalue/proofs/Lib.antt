@@ -1,5 +1,6 @@
 pub mod Comparing
 mod Calculating
 pub mod Likeness
+mod LikePatterns
 pub mod NumberKeys
 mod Quotes

@@ -6,3 +6,4 @@ pub mod Owned
 pub mod Raises
 pub mod Truths
 pub mod RefusalMeaning
+pub mod LikePatterns

@@ -5,6 +5,7 @@
 mod arithmetic;
 mod comparison;
 mod field;
+mod like_pattern;
 mod lines;
 mod number;
 mod op;
@@ -14,6 +15,7 @@ mod raise;
 mod ranking_number;
 mod refusal;
 mod sql_type;
+mod text_search;
 mod truth;
 mod value;
 mod values;
@@ -21,6 +23,7 @@ mod values;
 pub use arithmetic::{add, div, mul, sub};
 pub use comparison::{compare, rank};
 pub use field::FieldFault;
+pub use like_pattern::LikePattern;
 pub use lines::{
     LOADED_ROOM, write_exception, write_fault, write_loaded, write_record_refusal, write_refusal,
 };

@@ -20,7 +20,7 @@ pub fn like(text: &str, pattern: &str) -> bool
 
 /// Where a character doesn't fit, the run that the last `%` stands for is made longer by one. Those before it need
 /// no other try: what it leaves is an ending of what a longer run of theirs would leave.
-fn fits(text: &[u8], pattern: &[u8]) -> bool
+pub(crate) fn fits(text: &[u8], pattern: &[u8]) -> bool
     ensures { result ≡ spec.fits pattern.now text.now }
 {
     let mut at = Places {
