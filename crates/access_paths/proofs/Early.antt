@@ -1,7 +1,7 @@
 -- How an early conjunct matches a column, and a late one doesn't.
-use Rattle.std.proofs.Common.{◌≡◌, ◌∙◌, refl, sym, ap, subst, ℕ, zero, suc, ◌+◌, ◌-◌, ◌<◌, ◌≤◌, List, [], ◌∷◌, ◌++◌, Option, Some, None, if◌then◌else◌, Bool, true, false, length, map, get_or, arith}
+use Rattle.std.proofs.Common.{◌≡◌, ◌∙◌, refl, sym, ap, subst, ℕ, suc, ◌+◌, ◌-◌, ◌<◌, ◌≤◌, List, [], ◌∷◌, ◌++◌, Option, Some, None, if◌then◌else◌, Bool, true, false, length, map, get_or, arith}
 use Rattle.std.specs.Prelude.{not, slice_get, option_map, filter_map}
-use Rattle.std.specs.List.{AllByRecursion, range_with_len}
+use Rattle.std.specs.List.{range_with_len}
 use Rattle.std.proofs.lemmas.List.{length-map}
 use Rattle.std.proofs.lemmas.List.Elements.{filter_map-append}
 use Rattle.std.proofs.lemmas.Option.{slice_get-map, slice_get-get_or}
@@ -9,18 +9,11 @@ use Rattle.definitions.specs.Table.{Database}
 use Rattle.definitions.specs.Plans.Order.{BlockColumn}
 use Rattle.definitions.specs.Queries.BoundBlock.{Condition, Block}
 use Rattle.definitions.specs.Queries.Conjuncts.{conjuncts, is_late}
-use Rattle.definitions.specs.Estimates.PlanConjuncts.{plan_conjunct, plan_conjuncts}
-use Rattle.predicates.specs.Naming.{NamesFew}
+use Rattle.definitions.specs.Estimates.PlanConjuncts.{plan_conjuncts}
 use Rattle.estimate.specs.PlanConjuncts.{condition_of_conjunct, conjunct_of}
 use Rattle.estimate.specs.declared.plan_conjunct.PlanConjunct.{PlanConjunct}
-use Rattle.estimate.proofs.Places.{twice_mapped}
 use Rattle.access_paths.specs.Bounds.{SargableTerm, sargable_term}
 use Rattle.access_paths.specs.Matches.{Match, match_at, early_bound}
-
-same_at : {X Z : Type 0} (f g : X → Z) (xs : List X) (i : ℕ) (x : X) → map f xs ≡ map g xs → i < length xs → x ≡ get_or xs i x → f x ≡ g x
-same_at f g [] i x e h r = absurd (omega (arith, h))
-same_at f g (y ∷ ys) zero x e h r = let same : x ≡ y = r in let first : f y ≡ g y = cc in rw same first
-same_at f g (y ∷ ys) (suc i) x e h r = let rest : map f ys ≡ map g ys = cc in same_at f g ys i x rest (omega (arith, h)) r
 
 mapped_at : {X Z : Type 0} (f : X → Z) (xs : List X) (zs : List Z) (i : ℕ) (x : X) → map f xs ≡ zs → i < length xs → x ≡ get_or xs i x → slice_get zs i ≡ Some (f x)
 mapped_at f xs zs i x e h r = ap (λ l. slice_get l i) (sym e) ∙ slice_get-map f xs i ∙ ap (option_map f) (slice_get-get_or xs i x h ∙ ap Some (sym r))
@@ -30,20 +23,6 @@ module _ (db : Database) (block : Block) (items : List PlanConjunct) (i : ℕ) (
     (exact : map conjunct_of items ≡ plan_conjuncts db block) (told : map condition_of_conjunct items ≡ conjuncts block) (h : i < length items) (r : x ≡ get_or items i x) where
   pub condition_at : slice_get (conjuncts block) i ≡ Some (condition_of_conjunct x)
   condition_at = mapped_at condition_of_conjunct items (conjuncts block) i x told h r
-
-  pub early_at : x.early ≡ not (is_late (condition_of_conjunct x))
-  early_at =
-      let both : map conjunct_of items ≡ map (λ c. plan_conjunct db block (condition_of_conjunct c)) items =
-      exact ∙ ap (map (plan_conjunct db block)) (sym told) ∙ sym (twice_mapped (plan_conjunct db block) condition_of_conjunct items) in
-      ap (λ c. c.early) (same_at conjunct_of (λ c. plan_conjunct db block (condition_of_conjunct c)) items i x both h r)
-
-  pub few_at : AllByRecursion NamesFew (conjuncts block) → NamesFew (condition_of_conjunct x)
-  few_at few = all_of (conjuncts block) i condition_at few
-    where
-      all_of : (cs : List Condition) (i : ℕ) → slice_get cs i ≡ Some (condition_of_conjunct x) → AllByRecursion NamesFew cs → NamesFew (condition_of_conjunct x)
-      all_of [] i e few = absurd cc
-      all_of (c ∷ cs) zero e few = let same : c ≡ condition_of_conjunct x = cc in rw (← same) few.0
-      all_of (c ∷ cs) (suc i) e few = all_of cs i e few.1
 
 module _ (block : Block) (column : BlockColumn) (number : ℕ) (c : Condition) (at : slice_get (conjuncts block) number ≡ Some c) where
   abbrev pub match_of : Option SargableTerm → Option Match

@@ -60,11 +60,11 @@ fn match_at(estimate: &Estimate, column: BlockColumn, number: usize) -> Option<M
     ensures exact { option_map matching_term_of result ≡ spec.match_at (block_of estimate.now.block) (column_of column)
         number }
 {
-    let conjunct = estimate.conjuncts()[number];
-    if !conjunct.early {
+    let planned = estimate.conjuncts()[number];
+    if planned.conjunct.late {
         return None;
     }
-    let bound = sargable_term(column, conjunct.condition)?;
+    let bound = sargable_term(column, planned.conjunct)?;
     Some(MatchingTerm {
         conjunct: number,
         equals: bound.equals,

@@ -1,16 +1,16 @@
 //! What conditions say of a column.
 
 ghost use Rattle.std.specs.Prelude.{◌≡◌, option_map};
-ghost use Rattle.query_tree.specs.Bound.{column_of, condition_of};
+ghost use Rattle.query_tree.specs.Bound.{column_of};
 ghost use Rattle.predicates.specs.Columns.{term_of};
-ghost use Rattle.predicates.specs.Naming.{NamesFew};
+ghost use Rattle.predicates.specs.Parts.{condition_in};
 ghost use Rattle.predicates.specs.Views.{term_in};
 ghost use Rattle.access_paths.specs.Bounds as spec;
 ghost use Rattle.access_paths.specs.Views.{sargable_term_of};
 
 use plan_tree::TableSet;
-use predicates::{ColumnTerm, SidedTerm, column_terms};
-use query_tree::{BlockColumn, Condition};
+use predicates::{ColumnTerm, Conjunct, SidedTerm};
+use query_tree::BlockColumn;
 use sqlvalue::ComparisonOperator;
 
 /// A bound of a column's values: whether they are to be equal to a value, and the tables whose rows that is made of.
@@ -20,12 +20,11 @@ pub(crate) struct SargableTerm {
     pub required_outer: TableSet,
 }
 
-/// What a condition says of a column, if it matches it (Selinger et al. 1979, section 4: sargable predicates that match an index).
-pub(crate) fn sargable_term(column: BlockColumn, condition: &Condition) -> Option<SargableTerm>
-    requires few { NamesFew (condition_of condition.now) }
-    ensures exact { option_map sargable_term_of result ≡ spec.sargable_term (column_of column) (condition_of condition.now) }
+/// What a conjunct says of a column, if it matches it (Selinger et al. 1979, section 4: sargable predicates that match an index).
+pub(crate) fn sargable_term(column: BlockColumn, conjunct: Conjunct<'_>) -> Option<SargableTerm>
+    ensures exact { option_map sargable_term_of result ≡ spec.sargable_term (column_of column) (condition_in conjunct.entry) }
 {
-    bound_by(column.table, column_terms(condition).of(column)?)
+    bound_by(column.table, conjunct.terms.of(column)?)
 }
 
 /// What is said of a column of a table, if that bounds it: it doesn't where it is made of rows of the table itself.

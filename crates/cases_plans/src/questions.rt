@@ -53,7 +53,7 @@ fn add_share(
         answer.fail();
         return Ok(());
     };
-    answer.add(u64::from(found.early));
+    answer.add(u64::from(!found.conjunct.late));
     answer.add(u64::from(found.selectivity));
     Ok(())
 }

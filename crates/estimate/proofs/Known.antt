@@ -7,11 +7,15 @@ use Rattle.definitions.specs.Queries.BoundBlock.{Block}
 use Rattle.definitions.specs.Estimates.Fractions.{one_half, one_third}
 use Rattle.definitions.specs.Estimates.Sides.{Side, PlainColumn, KnownNumber, OtherValue}
 use Rattle.definitions.specs.Estimates.Selectivity.{equal_share, greater_of, keys_of, one_key, part_or, range_over}
-use Rattle.estimate.specs.Views.{column_in}
 
 -- a part of a range that is known
 pub part_known : (db : Database) (block : Block) (column : BlockColumn) (part : KeyRange → ℕ) (other : ℕ) (range : KeyRange) → Some range ≡ range_over db block column → part_or db block column part other ≡ part range
 part_known db block column part other range e = sym (ap (λ (o : Option KeyRange). unwrap_or (option_map part o) other) e)
+
+-- the column that a side is
+abbrev pub column_in : Side → Option BlockColumn
+column_in (PlainColumn column scale) = Some column
+column_in _ = None
 
 -- `=` goes by the columns that its sides are
 abbrev pub by_columns : Database → Block → Option BlockColumn → Option BlockColumn → ℕ

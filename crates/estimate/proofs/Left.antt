@@ -17,7 +17,7 @@ one_left : (kind : Conjunct → Bool) (c : Conjunct) (cs : List Conjunct) (left 
 one_left kind c cs left true e = rw (← e) refl
 one_left kind c cs left false e = rw (← e) refl
 
-pub next_left : (kind : Conjunct → Bool) (cs : List PlanConjunct) (i : ℕ) (c : PlanConjunct) (left new : ℕ) (applied : Bool) → i < length cs → c ≡ get_or cs i c → applied ≡ (c.early && kind (conjunct_of c))
+pub next_left : (kind : Conjunct → Bool) (cs : List PlanConjunct) (i : ℕ) (c : PlanConjunct) (left new : ℕ) (applied : Bool) → i < length cs → c ≡ get_or cs i c → applied ≡ ((conjunct_of c).early && kind (conjunct_of c))
     → new ≡ (if applied then share left c.selectivity else left) → left_by kind (map conjunct_of (drop (i + 1) cs)) new ≡ left_by kind (map conjunct_of (drop i cs)) left
 next_left kind cs i c left new applied h e a n =
     ap (left_by kind (map conjunct_of (drop (i + 1) cs))) n

@@ -3,6 +3,7 @@ mod Drawing
 mod OwnIndex
 mod Known
 pub mod Places
+pub mod Saying
 mod Left
 pub mod Members
 mod Sizes

@@ -1,11 +1,9 @@
 -- What an estimate keeps.
 use Rattle.std.specs.Prelude.{◌≡◌, ◌≤◌, length, map}
-use Rattle.std.specs.List.{AllByRecursion}
 use Rattle.definitions.specs.Limits.{most_from_tables, most_conjuncts}
 use Rattle.definitions.specs.Queries.Conjuncts as queries
 use Rattle.definitions.specs.Estimates.PlanConjuncts.{plan_conjuncts}
 use Rattle.query_tree.specs.Bound.{block_of}
-use Rattle.predicates.specs.Naming.{NamesFew}
 use Rattle.estimate.specs.Tables.{tables_of, AreTablesOf}
 use Rattle.estimate.specs.Estimated.{Estimated}
 use Rattle.estimate.specs.PlanConjuncts.{condition_of_conjunct, conjunct_of}
@@ -25,4 +23,3 @@ pub record IsEstimate (e : Inside) : Type 0 where
   pub planned : map conjunct_of e.conjuncts.items ≡ plan_conjuncts e.database.now (block_of e.block.now)
   pub conditions : map condition_of_conjunct e.conjuncts.items ≡ queries.conjuncts (block_of e.block.now)
   pub counted : length e.conjuncts.items ≤ most_conjuncts
-  pub named : AllByRecursion NamesFew (queries.conjuncts (block_of e.block.now))

@@ -1,7 +1,7 @@
 pub use Rattle.definitions.specs.Estimates
 pub use Rattle.predicates.specs.Parts
 pub mod Ranges
-pub mod Views
+pub mod Inequalities
 pub mod Tables
 pub mod Estimated
 pub mod PlanConjuncts

@@ -9,7 +9,6 @@ ghost use Rattle.definitions.specs.Estimates.BlockTables.{table_at};
 ghost use Rattle.definitions.specs.Estimates.Cardinality as spec;
 ghost use Rattle.definitions.specs.Estimates.PlanConjuncts as plans;
 ghost use Rattle.query_tree.specs.Bound.{block_of};
-ghost use Rattle.predicates.specs.Naming.{NamesFew};
 ghost use Rattle.predicates.specs.Parts.{AreConjunctsOf};
 ghost use Rattle.plan_tree.specs.Sets.{set_of};
 ghost use Rattle.estimate.specs.Tables.{tables_of, AreTablesOf};
@@ -116,7 +115,6 @@ impl<'a> Estimate<'a> {
     pub fn conjuncts(&self) -> &[PlanConjunct<'_>]
         ensures exact { map conjunct_of result.now ≡ plans.plan_conjuncts self.now.database (block_of self.now.block) }
         ensures conditions { map condition_of_conjunct result.now ≡ queries.conjuncts (block_of self.now.block) }
-        ensures few { AllByRecursion NamesFew (queries.conjuncts (block_of self.now.block)) }
         ensures counted { length result.now ≤ most_conjuncts }
     {
         self.conjuncts.as_slice()

@@ -11,10 +11,8 @@ mod plan_conjunct;
 mod planning;
 mod selectivity_shares;
 mod shares;
-mod sides;
 mod table_size;
 
-pub use conditions::selectivity;
 pub use estimate::Estimate;
 pub use fractions::{MILLION, fraction, share};
 pub use plan_conjunct::PlanConjunct;

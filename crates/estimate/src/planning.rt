@@ -37,10 +37,7 @@ fn plan_conjunct<'a>(tables: &[&Table], conjunct: Conjunct<'a>) -> PlanConjunct<
         conjunct_of result ≡ spec.plan_conjunct db block (condition_in conjunct.entry) }
 {
     PlanConjunct {
-        condition: conjunct.condition,
-        early: !conjunct.late,
-        tables: conjunct.tables,
-        equated: conjunct.equated,
-        selectivity: selectivity(tables, conjunct.condition),
+        conjunct,
+        selectivity: selectivity(tables, conjunct),
     }
 }

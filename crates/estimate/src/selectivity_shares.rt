@@ -1,21 +1,26 @@
 //! The shares of rows that comparisons, ranges, lists and nulls are taken to leave (Selinger et al. 1979, table 1; some numbers are own).
 
-ghost use Rattle.std.specs.Prelude.{◌≡◌, ◌<◌, ◌≤◌, IfSome};
+ghost use Rattle.std.specs.Prelude.{◌≡◌, ◌<◌, ◌≤◌, IfSome, Some, option_map};
 ghost use Rattle.definitions.specs.Table.{Database};
-ghost use Rattle.definitions.specs.Queries.BoundBlock.{Block};
+ghost use Rattle.definitions.specs.Statement as comparison;
+ghost use Rattle.definitions.specs.Queries.BoundBlock.{Block, Compare, ValueExpr};
 ghost use Rattle.definitions.specs.Estimates.Fractions.{million};
 ghost use Rattle.definitions.specs.Estimates.Selectivity as spec;
 ghost use Rattle.definitions.specs.Estimates.KeyRanges.{drawn, part_above, part_below, part_between};
 ghost use Rattle.definitions.specs.Estimates.Fractions as fractions;
+ghost use Rattle.definitions.specs.Estimates.Paths.{ByBounds, ByComparison};
+ghost use Rattle.definitions.specs.Estimates.Sides.{column_of as side_column, side_of};
 ghost use Rattle.query_tree.specs.Bound.{column_of};
 ghost use Rattle.sqlvalue.specs.Meaning.{op_of};
-ghost use Rattle.estimate.specs.Views.{side_in};
+ghost use Rattle.predicates.specs.Terms.{side_term, terms_of};
+ghost use Rattle.predicates.specs.Views.{sided_term_of, terms_in};
+ghost use Rattle.estimate.specs.Inequalities.{IsInequality};
 ghost use Rattle.estimate.specs.Tables.{tables_of, AreTablesOf};
 
 use crate::column_keys::{keys_of, range_over};
 use crate::fractions::{ONE_HALF, ONE_QUARTER, ONE_TENTH, ONE_THIRD, fraction, rest_of};
-use crate::sides::Side;
 use catalog::Table;
+use predicates::{ColumnTerm, ColumnTerms, SidedTerm, known_number};
 use query_tree::BlockColumn;
 use sqlvalue::{ComparisonOperator, Num};
 
@@ -32,39 +37,40 @@ pub fn one_key(keys: Option<u64>) -> u32
     }
 }
 
-/// A comparison: `a >= b` is as `a > b`, `a < b` as `b > a`, and `a <> b` as NOT `a = b`.
+/// A comparison, by what it says of columns: `a >= b` is as `a > b`, `a < b` as `b > a`, and `a <> b` as NOT `a = b`.
 pub(crate) fn comparison_share(
     tables: &[&Table],
     op: ComparisonOperator,
-    left: Side,
-    right: Side,
+    terms: ColumnTerms<'_>,
 ) -> u32
     ensures exact { (db : Database) (block : Block) → AreTablesOf db block (tables_of tables.now) →
-        result ≡ spec.comparison_share db block (op_of op) (side_in left) (side_in right) }
+        (a b : ValueExpr) → terms_in terms.entry ≡ terms_of (Compare (op_of op) a b) →
+        result ≡ spec.comparison_share db block (op_of op) (side_of a) (side_of b) }
     ensures below { result ≤ million }
 {
     match op {
-        ComparisonOperator::Equals => equal_share(tables, left, right),
-        ComparisonOperator::NotEquals => rest_of(equal_share(tables, left, right)),
-        ComparisonOperator::GreaterThan | ComparisonOperator::GreaterOrEquals => greater_share(
-            tables, left, right,
-        ),
-        ComparisonOperator::LessThan | ComparisonOperator::LessOrEquals => greater_share(
-            tables, right, left,
-        ),
+        ComparisonOperator::Equals => equal_share(tables, terms),
+        ComparisonOperator::NotEquals => rest_of(equal_share(tables, terms)),
+        ComparisonOperator::GreaterThan
+        | ComparisonOperator::GreaterOrEquals
+        | ComparisonOperator::LessThan
+        | ComparisonOperator::LessOrEquals => inequality_share(tables, terms),
     }
 }
 
 /// `=`: one of the keys of the column, or of that of two columns that has more of them.
-fn equal_share(tables: &[&Table], left: Side, right: Side) -> u32
+fn equal_share(tables: &[&Table], terms: ColumnTerms<'_>) -> u32
     ensures exact { (db : Database) (block : Block) → AreTablesOf db block (tables_of tables.now) →
-        result ≡ spec.equal_share db block (side_in left) (side_in right) }
+        (op : comparison.ComparisonOperator) (a b : ValueExpr) → terms_in terms.entry ≡ terms_of (Compare op a b) →
+        result ≡ spec.equal_share db block (side_of a) (side_of b) }
     ensures below { result ≤ million }
 {
-    match (left.column(), right.column()) {
-        (Some(x), Some(y)) => one_key(greater_of(keys_of(tables, x), keys_of(tables, y))),
-        (Some(x), None) => one_key(keys_of(tables, x)),
-        (None, Some(y)) => one_key(keys_of(tables, y)),
+    match (terms.left, terms.right) {
+        (Some(x), Some(y)) => {
+            one_key(greater_of(keys_of(tables, x.column), keys_of(tables, y.column)))
+        }
+        (Some(x), None) => one_key(keys_of(tables, x.column)),
+        (None, Some(y)) => one_key(keys_of(tables, y.column)),
         (None, None) => ONE_THIRD,
     }
 }
@@ -83,20 +89,39 @@ fn greater_of(a: Option<u64>, b: Option<u64>) -> Option<u64>
     }
 }
 
-/// `>` and `>=`: the part of a column's range above a number, or below one that stands on the left.
-fn greater_share(tables: &[&Table], left: Side, right: Side) -> u32
+/// `<`, `<=`, `>` and `>=`: what the first column that it speaks of keeps.
+fn inequality_share(tables: &[&Table], terms: ColumnTerms<'_>) -> u32
     ensures exact { (db : Database) (block : Block) → AreTablesOf db block (tables_of tables.now) →
-        result ≡ spec.greater_share db block (side_in left) (side_in right) }
+        (op : comparison.ComparisonOperator) (a b : ValueExpr) → IsInequality op →
+        terms_in terms.entry ≡ terms_of (Compare op a b) →
+        result ≡ spec.comparison_share db block op (side_of a) (side_of b) }
     ensures below { result ≤ million }
 {
-    match (left, right) {
-        (Side::PlainColumn { column, scale }, Side::KnownNumber(number)) => {
-            share_above(tables, column, scale, number)
+    match terms.first() {
+        Some(sided) => bounded_share(tables, sided),
+        None => ONE_THIRD,
+    }
+}
+
+/// The part of a column's range on its side of a number that it is compared with.
+fn bounded_share(tables: &[&Table], sided: SidedTerm<'_>) -> u32
+    ensures exact { (db : Database) (block : Block) → AreTablesOf db block (tables_of tables.now) →
+        (op : comparison.ComparisonOperator) (own other : ValueExpr) → IsInequality op →
+        Some (sided_term_of sided.entry) ≡ side_term own (ByComparison op other) →
+        result ≡ spec.comparison_share db block op (side_of own) (side_of other) }
+    ensures below { result ≤ million }
+{
+    let ColumnTerm::Comparison { op, value } = sided.term else {
+        return ONE_THIRD;
+    };
+    let Some(number) = known_number(value) else {
+        return ONE_THIRD;
+    };
+    match op {
+        ComparisonOperator::GreaterThan | ComparisonOperator::GreaterOrEquals => {
+            share_above(tables, sided.column, sided.scale, number)
         }
-        (Side::KnownNumber(number), Side::PlainColumn { column, scale }) => {
-            share_below(tables, column, scale, number)
-        }
-        _ => ONE_THIRD,
+        _ => share_below(tables, sided.column, sided.scale, number),
     }
 }
 
@@ -126,19 +151,31 @@ fn share_below(tables: &[&Table], column: BlockColumn, scale: u8, number: Num) -
     }
 }
 
-/// BETWEEN: the part of a column's range between two numbers.
-pub(crate) fn between_share(tables: &[&Table], value: Side, low: Side, high: Side) -> u32
+/// BETWEEN, by what it says of a column: the part of its range between two numbers.
+pub(crate) fn between_share(tables: &[&Table], term: Option<SidedTerm<'_>>) -> u32
     ensures exact { (db : Database) (block : Block) → AreTablesOf db block (tables_of tables.now) →
-        result ≡ spec.between_share db block (side_in value) (side_in low) (side_in high) }
+        (value low high : ValueExpr) → option_map sided_term_of term.entry ≡ side_term value (ByBounds low high) →
+        result ≡ spec.between_share db block (side_of value) (side_of low) (side_of high) }
     ensures below { result ≤ million }
 {
-    let Side::PlainColumn { column, scale } = value else {
-        return ONE_THIRD;
+    match term {
+        Some(sided) => ranged_share(tables, sided),
+        None => ONE_THIRD,
+    }
+}
+
+/// The part of a column's range between two values, a quarter where they aren't known numbers.
+fn ranged_share(tables: &[&Table], sided: SidedTerm<'_>) -> u32
+    ensures exact { (db : Database) (block : Block) → AreTablesOf db block (tables_of tables.now) →
+        (value low high : ValueExpr) → Some (sided_term_of sided.entry) ≡ side_term value (ByBounds low high) →
+        result ≡ spec.between_share db block (side_of value) (side_of low) (side_of high) }
+    ensures below { result ≤ million }
+{
+    let ColumnTerm::Range { low, high } = sided.term else {
+        return ONE_QUARTER;
     };
-    match (low, high) {
-        (Side::KnownNumber(low), Side::KnownNumber(high)) => {
-            share_between(tables, column, scale, low, high)
-        }
+    match (known_number(low), known_number(high)) {
+        (Some(low), Some(high)) => share_between(tables, sided.column, sided.scale, low, high),
         _ => ONE_QUARTER,
     }
 }
@@ -157,28 +194,30 @@ fn share_between(tables: &[&Table], column: BlockColumn, scale: u8, low: Num, hi
     }
 }
 
-/// IN with a list: as many times one key as there are members, NULL too, but at most a half.
-pub(crate) fn list_share(tables: &[&Table], value: Side, members: usize) -> u32
+/// IN with a list: as many times one key as there are members, NULL too, but at most a half; a third where the value is no column.
+pub(crate) fn list_share(tables: &[&Table], column: Option<BlockColumn>, members: usize) -> u32
     ensures exact { (db : Database) (block : Block) → AreTablesOf db block (tables_of tables.now) →
-        result ≡ spec.list_share db block (side_in value) members }
+        (value : ValueExpr) → option_map column_of column ≡ side_column value →
+        result ≡ spec.list_share db block (side_of value) members }
     ensures below { result ≤ million }
 {
-    match value {
-        Side::PlainColumn { column, .. } => {
+    match column {
+        Some(column) => {
             let share = members.saturating_mul(one_key(keys_of(tables, column)) as usize);
             share.min(ONE_HALF as usize) as u32
         }
-        Side::KnownNumber(_) | Side::OtherValue => ONE_THIRD,
+        None => ONE_THIRD,
     }
 }
 
-/// IS NULL: a tenth of a column's rows.
-pub(crate) fn null_share(value: Side) -> u32
-    ensures exact { (db : Database) (block : Block) → result ≡ spec.null_share db block (side_in value) }
+/// IS NULL: a tenth of a column's rows; a third where the value is no column.
+pub(crate) fn null_share(column: Option<BlockColumn>) -> u32
+    ensures exact { (db : Database) (block : Block) (value : ValueExpr) → option_map column_of column ≡ side_column value →
+        result ≡ spec.null_share db block (side_of value) }
     ensures below { result ≤ million }
 {
-    match value {
-        Side::PlainColumn { .. } => ONE_TENTH,
-        Side::KnownNumber(_) | Side::OtherValue => ONE_THIRD,
+    match column {
+        Some(_) => ONE_TENTH,
+        None => ONE_THIRD,
     }
 }

@@ -1,6 +1,6 @@
 //! What conjuncts leave of rows.
 
-ghost use Rattle.std.specs.Prelude.{◌≡◌, ◌≤◌, ◌<◌, ◌&&◌, if◌then◌else◌, map};
+ghost use Rattle.std.specs.Prelude.{◌≡◌, ◌≤◌, ◌<◌, ◌&&◌, if◌then◌else◌, map, not};
 ghost use Rattle.definitions.specs.Limits.{most_from_tables};
 ghost use Rattle.definitions.specs.Plans.Cost as cost;
 ghost use Rattle.definitions.specs.Estimates.Cardinality as spec;
@@ -51,18 +51,20 @@ pub(crate) fn left_by_known(
 
 fn is_completed(conjunct: &PlanConjunct, taken: TableSet, table: usize) -> bool
     requires { table < most_from_tables }
-    ensures { result ≡ (conjunct.now.early && spec.is_completed (set_of taken) table (conjunct_of conjunct.now)) }
+    ensures { result ≡ (not conjunct.now.conjunct.late && spec.is_completed (set_of taken) table (conjunct_of conjunct.now)) }
 {
-    conjunct.early
+    let conjunct = conjunct.conjunct;
+    !conjunct.late
         && conjunct.tables.is_within(taken.with(table))
         && !conjunct.tables.is_within(taken)
 }
 
 fn is_known(conjunct: &PlanConjunct, known: TableSet, table: usize) -> bool
     requires { table < most_from_tables }
-    ensures { result ≡ (conjunct.now.early && names_known (set_of known) table (conjunct_of conjunct.now)) }
+    ensures { result ≡ (not conjunct.now.conjunct.late && names_known (set_of known) table (conjunct_of conjunct.now)) }
 {
-    conjunct.early && conjunct.tables.has(table) && conjunct.tables.is_within(known.with(table))
+    let conjunct = conjunct.conjunct;
+    !conjunct.late && conjunct.tables.has(table) && conjunct.tables.is_within(known.with(table))
 }
 
 /// What a conjunct leaves of some rows, if it is applied.

@@ -35,7 +35,7 @@ pub(crate) fn compiled<'s>(
 pub(crate) fn is_of_kind(conjunct: &Conjunct<'_>, table: usize, compared: bool) -> bool
     ensures { result ≡ is_kind table compared (condition_in conjunct.now) }
 {
-    let comparisons = comparisons_of(conjunct.terms(), table);
+    let comparisons = comparisons_of(conjunct.terms, table);
     if compared {
         comparisons.is_some()
     } else {

@@ -17,10 +17,11 @@ use std::alloc::{AllocError, Global};
 pub(crate) fn sides(conjunct: &PlanConjunct) -> Option<(BlockColumn, BlockColumn)>
     ensures { option_map pair_of result ≡ sides_of (conjunct_of conjunct.now) }
 {
-    if conjunct.early {
-        conjunct.equated
-    } else {
+    let conjunct = conjunct.conjunct;
+    if conjunct.late {
         None
+    } else {
+        conjunct.equated
     }
 }
 

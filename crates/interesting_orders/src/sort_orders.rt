@@ -15,6 +15,7 @@ ghost use Rattle.interesting_orders.specs.Keys.{index_keys, column_orders, read_
 ghost use Rattle.interesting_orders.specs.Adding.{added, table_keys};
 
 use crate::known::known_indexes;
+use crate::places::sides;
 use catalog::Table;
 use estimate::{Estimate, PlanConjunct};
 use plan_tree::{SortKey, Version};
@@ -220,11 +221,11 @@ fn is_same(a: SortKey, b: SortKey) -> bool
 
 /// The columns of a merge conjunct: it is early, and they are of two tables.
 fn merge_columns(conjunct: &PlanConjunct) -> Option<(BlockColumn, BlockColumn)>
-    ensures { column_orders result ≡ (if conjunct.now.early then numbering.side_orders
+    ensures { column_orders result ≡ (if (conjunct_of conjunct.now).early then numbering.side_orders
         (conjunct_of conjunct.now).equated else []) }
 {
-    match conjunct.equated {
-        Some((x, y)) if conjunct.early && x.table != y.table => Some((x, y)),
+    match sides(conjunct) {
+        Some((x, y)) if x.table != y.table => Some((x, y)),
         _ => None,
     }
 }

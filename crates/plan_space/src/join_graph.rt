@@ -64,7 +64,8 @@ fn links(conjunct: &PlanConjunct, set: TableSet, table: usize) -> bool
     requires { table < most_from_tables }
     ensures { Decides result (LinksBy (conjunct_of conjunct.now) (set_of set) table) }
 {
-    conjunct.early && connect(conjunct.tables, set, table)
+    let conjunct = conjunct.conjunct;
+    !conjunct.late && connect(conjunct.tables, set, table)
 }
 
 /// Whether tables connect a table to a set: they are that table and one of the set or more, and no others.

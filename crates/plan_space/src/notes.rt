@@ -135,8 +135,9 @@ fn linked_with(estimate: &Estimate, set: TableSet) -> TableSet {
 fn with_neighbours(conjuncts: &[PlanConjunct], set: TableSet) -> TableSet {
     let mut linked = set;
     for conjunct in conjuncts {
-        if conjunct.tables.meets(linked) {
-            linked = linked.union(conjunct.tables);
+        let tables = conjunct.conjunct.tables;
+        if tables.meets(linked) {
+            linked = linked.union(tables);
         }
     }
     linked

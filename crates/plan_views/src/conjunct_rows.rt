@@ -4,7 +4,8 @@ use catalog::Table as StoredTable;
 use estimate::PlanConjunct;
 use plan_pages::{MadeTable, Table, number, words};
 use planned_queries::BlockView;
-use query_tree::{BlockColumn, Condition, ValueExpr};
+use predicates::column_of;
+use query_tree::{BlockColumn, Condition};
 use std::alloc::{AllocError, Global};
 
 /// A table of the conjuncts: number, words, share of rows in millionths, where the share comes from, and whether plans apply it.
@@ -24,7 +25,7 @@ pub(crate) fn conjunct_table(alloc: Global, block: &BlockView<'_>) -> Result<Tab
     let mut place: u64 = 0;
     for conjunct in block.estimate.conjuncts() {
         place = place.saturating_add(1);
-        let condition = block.names.condition(conjunct.condition);
+        let condition = block.names.condition(conjunct.conjunct.condition);
         rows.begin_row(0, false);
         rows.put_number(place);
         rows.put_text(format!(in alloc; "{condition}"));
@@ -36,10 +37,10 @@ pub(crate) fn conjunct_table(alloc: Global, block: &BlockView<'_>) -> Result<Tab
 }
 
 fn applied_word(conjunct: &PlanConjunct<'_>) -> &'static str {
-    if conjunct.early {
-        "as soon as its tables are there"
-    } else {
+    if conjunct.conjunct.late {
         "last, outside the plan"
+    } else {
+        "as soon as its tables are there"
     }
 }
 
@@ -100,22 +101,16 @@ fn own_keys(block: &BlockView<'_>, column: BlockColumn) -> Option<u64> {
 pub(crate) fn columns_of(
     conjunct: &PlanConjunct<'_>,
 ) -> (Option<BlockColumn>, Option<BlockColumn>) {
-    if let Some((left, right)) = conjunct.equated {
-        return (Some(left), Some(right));
-    }
-    match conjunct.condition {
-        Condition::Compare { left, right, .. } => (plain_column(left), plain_column(right)),
+    let terms = conjunct.conjunct.terms;
+    match conjunct.conjunct.condition {
+        Condition::Compare { .. } => (
+            terms.left.map(|sided| sided.column),
+            terms.right.map(|sided| sided.column),
+        ),
         Condition::Between { value, .. }
         | Condition::InList { value, .. }
         | Condition::IsNull { value, .. }
-        | Condition::Like { value, .. } => (plain_column(value), None),
+        | Condition::Like { value, .. } => (column_of(value), None),
         _ => (None, None),
-    }
-}
-
-fn plain_column(value: &ValueExpr) -> Option<BlockColumn> {
-    match value {
-        ValueExpr::Column { column, .. } => Some(*column),
-        _ => None,
     }
 }

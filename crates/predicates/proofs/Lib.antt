@@ -1,3 +1,4 @@
+pub mod Few
 pub mod FormedBlocks
 pub mod Naming
 pub mod Saying

@@ -8,7 +8,7 @@ use Rattle.definitions.specs.Queries.Conjuncts.{tables_in, tables_named, values_
 use Rattle.definitions.specs.Estimates.Paths.{ColumnTerm, ByComparison, ByBounds, column_term, is_column, is_same_column, turned}
 use Rattle.definitions.specs.Estimates.Sides.{column_of}
 use Rattle.predicates.specs.Naming.{AreFew}
-use Rattle.predicates.specs.Terms.{SidedTerm, first_term, listed, side_term, terms_of}
+use Rattle.predicates.specs.Terms.{SidedTerm, column_scale, first_term, listed, side_term, terms_of}
 use Rattle.predicates.proofs.Naming.{left_few, right_few}
 
 module _ (column : BlockColumn) where
@@ -16,7 +16,7 @@ module _ (column : BlockColumn) where
   alone e t = of_column (column_of e)
     where
       of_column : (o : Option BlockColumn)
-          → first_term column (listed (option_map (λ c. record { column = c; term = t }) o)) ≡ (if unwrap_or (option_map (is_same_column column) o) false then Some t else None)
+          → first_term column (listed (option_map (λ c. record { column = c; scale = column_scale e; term = t }) o)) ≡ (if unwrap_or (option_map (is_same_column column) o) false then Some t else None)
       of_column None = refl
       of_column (Some c) = refl
 
@@ -25,7 +25,7 @@ module _ (column : BlockColumn) where
   before e t others = of_column (column_of e)
     where
       of_column : (o : Option BlockColumn)
-          → first_term column (listed (option_map (λ c. record { column = c; term = t }) o) ++ others)
+          → first_term column (listed (option_map (λ c. record { column = c; scale = column_scale e; term = t }) o) ++ others)
           ≡ (if unwrap_or (option_map (is_same_column column) o) false then Some t else first_term column others)
       of_column None = refl
       of_column (Some c) = refl

@@ -4,3 +4,5 @@ pub mod Naming
 pub mod Columns
 pub mod Terms
 pub mod Views
+pub mod Known
+pub mod TermSets

@@ -6,13 +6,13 @@ use Rattle.predicates.specs.Columns.{term_of}
 use Rattle.predicates.specs.Terms as spec
 use Rattle.predicates.specs.Terms.{listed}
 use Rattle.predicates.specs.declared.column_term.SidedTerm.{SidedTerm}
-use Rattle.predicates.specs.declared.terms.ColumnTerms.{ColumnTerms}
+use Rattle.predicates.specs.declared.column_term.ColumnTerms.{ColumnTerms}
 
 abbrev pub term_in : SidedTerm → ColumnTerm
 term_in x = term_of x.term
 
 abbrev pub sided_term_of : SidedTerm → spec.SidedTerm
-sided_term_of x = record { column = column_of x.column; term = term_in x }
+sided_term_of x = record { column = column_of x.column; scale = x.scale; term = term_in x }
 
 abbrev pub terms_in : ColumnTerms → List spec.SidedTerm
 terms_in x = listed (option_map sided_term_of x.left) ++ listed (option_map sided_term_of x.right)

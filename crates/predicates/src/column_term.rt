@@ -23,12 +23,21 @@ pub enum ColumnTerm<'a> {
     },
 }
 
-/// A column, and what a condition says of it.
+/// A column that stands alone on a side of a condition, and what the condition says of it.
 #[derive(Clone, Copy)]
 pub struct SidedTerm<'a> {
     pub column: BlockColumn,
+    /// How many digits of the column's numbers stand behind the point; 0 of a text.
+    pub scale: u8,
     pub term: ColumnTerm<'a>,
     /// The tables that the other side names, of a range those of both its ends.
     pub tables: TableSet,
     pub ghost named: { set_of tables ≡ term_tables (term_of term) },
+}
+
+/// What a condition says of the column that stands alone on its left, and of that on its right.
+#[derive(Clone, Copy)]
+pub struct ColumnTerms<'a> {
+    pub left: Option<SidedTerm<'a>>,
+    pub right: Option<SidedTerm<'a>>,
 }

@@ -6,7 +6,11 @@ ghost use Rattle.definitions.specs.Queries.Conjuncts.{condition_tables, is_late}
 ghost use Rattle.query_tree.specs.Bound.{condition_of};
 ghost use Rattle.plan_tree.specs.Sets.{set_of};
 ghost use Rattle.predicates.specs.Columns.{pair_of};
+ghost use Rattle.predicates.specs.Terms.{terms_of};
+ghost use Rattle.predicates.specs.Views.{terms_in};
+ghost use Rattle.predicates.specs.TermSets.{terms_set};
 
+use crate::column_term::ColumnTerms;
 use plan_tree::TableSet;
 use query_tree::{BlockColumn, Condition};
 
@@ -18,9 +22,12 @@ pub struct Conjunct<'a> {
     pub late: bool,
     /// The tables of its block that it names.
     pub tables: TableSet,
+    /// What it says of the columns that stand alone on its sides.
+    pub terms: ColumnTerms<'a>,
     /// The two columns, where it is `column = column`.
     pub equated: Option<(BlockColumn, BlockColumn)>,
     pub ghost judged: { late ≡ is_late (condition_of condition.now) },
     pub ghost named: { set_of tables ≡ condition_tables (condition_of condition.now) },
+    pub ghost said: { terms_in terms ≡ terms_of (condition_of condition.now) } by { terms_set _ _ },
     pub ghost equal: { option_map pair_of equated ≡ plans.equated_columns (condition_of condition.now) },
 }

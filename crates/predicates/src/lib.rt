@@ -10,10 +10,10 @@ mod split;
 mod tables;
 mod terms;
 
-pub use column_term::{ColumnTerm, SidedTerm};
+pub use column_term::{ColumnTerm, ColumnTerms, SidedTerm};
 pub use conjunct::Conjunct;
 pub use equated::{column_of, equated_columns};
-pub use known::known_value;
+pub use known::{known_number, known_value};
 pub use split::conjuncts;
 pub use tables::value_tables;
-pub use terms::{ColumnTerms, column_terms};
+pub use terms::{column_terms, range_term};

@@ -14,6 +14,7 @@ ghost use Rattle.predicates.specs.Parts.{condition_in, AreConjunctsOf};
 use crate::conjunct::Conjunct;
 use crate::equated::equated_columns;
 use crate::tables::tables_of;
+use crate::terms::column_terms;
 use expr::can_raise;
 use query_tree::{Block, Condition, ValueExpr, push_conjuncts, push_tested, push_values};
 use std::alloc::{AllocError, Global};
@@ -57,6 +58,7 @@ fn taken_apart<'a>(alloc: Global, condition: &'a Condition) -> Result<Conjunct<'
         condition,
         late: !tested.is_empty() || any_can_raise(&values) || tables.is_empty(),
         tables,
+        terms: column_terms(condition),
         equated: equated_columns(condition),
     })
 }

@@ -1,4 +1,4 @@
-use Rattle.std.proofs.Common.{◌∙◌, map, drop}
+use Rattle.std.proofs.Common.{◌∙◌, drop}
 use Rattle.std.proofs.lemmas.List.{drop_all}
 use Rattle.definitions.specs.Estimates.PlanConjuncts.{plan_conjunct}
 use Rattle.predicates.specs.Parts.{condition_in}

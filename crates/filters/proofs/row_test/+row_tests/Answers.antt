@@ -7,7 +7,7 @@ use Rattle.query_tree.specs.declared.condition.Condition.{the_lemmas}
 use Rattle.query_tree.proofs.Views.{of_and, of_or}
 use Rattle.predicates.specs.Naming.{NamesFew}
 use Rattle.predicates.proofs.Naming.{still_few}
-use Rattle.filters.proofs.Few.{part_few, parts_few}
+use Rattle.predicates.proofs.Few.{part_few, parts_few}
 use Rattle.filters.specs.Compiled.{condition_of_test}
 use Rattle.filters.proofs.Tables.{all_mapped}
 use Rattle.filters.proofs.TestViews.{all_tested, any_tested}

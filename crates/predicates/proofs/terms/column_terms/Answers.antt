@@ -20,14 +20,14 @@ compared-requires-in-Compare c =
     let few = each_few (value_of e.left ∷ value_of e.right ∷ []) (still_few _ _ is c.requires.few) in
     record { few = few.0 }
 
-pub within-requires-clause-low : goal.within-requires-clause-low
-within-requires-clause-low c =
+pub range_term-requires-clause-low : goal.range_term-requires-clause-low
+range_term-requires-clause-low c =
     let e = c.in-Between-false-default-default-default in
     let is = ap condition_tables (ap condition_of e.is ∙ of_between e.negated e.value e.low e.high) in
     (each_few (value_of e.value ∷ value_of e.low ∷ value_of e.high ∷ []) (still_few _ _ is c.requires.few)).1.0
 
-pub within-requires-clause-high : goal.within-requires-clause-high
-within-requires-clause-high c =
+pub range_term-requires-clause-high : goal.range_term-requires-clause-high
+range_term-requires-clause-high c =
     let e = c.in-Between-false-default-default-default in
     let is = ap condition_tables (ap condition_of e.is ∙ of_between e.negated e.value e.low e.high) in
     (each_few (value_of e.value ∷ value_of e.low ∷ value_of e.high ∷ []) (still_few _ _ is c.requires.few)).1.1.0

@@ -5,7 +5,6 @@ use Rattle.definitions.specs.Estimates.PlanConjuncts.{plan_conjunct}
 use Rattle.estimate.specs.PlanConjuncts.{condition_of_conjunct}
 use Rattle.estimate.specs.Tables.{tables_of, AreTablesOf}
 use Rattle.query_tree.specs.Bound.{block_of}
-use Rattle.predicates.proofs.FormedBlocks.{formed_conjuncts_few}
 use Rattle.estimate.proofs.estimate.Estimate.new.Goals as goal
 
 pub invariant_of-result : goal.invariant_of-result
@@ -20,5 +19,4 @@ invariant_of-result c =
       planned = c.in_ok-conjuncts.ensures.exact c.args.database.now (block_of c.args.block.now) (subst (λ xs. AreTablesOf c.args.database.now (block_of c.args.block.now) (tables_of xs)) (sym c.deref-2.ensures.value) c.in_ok-tables.ensures.exact) ∙ ap (map (plan_conjunct c.args.database.now (block_of c.args.block.now))) c.requires.conjuncts;
       conditions = c.in_ok-conjuncts.ensures.conditions ∙ c.requires.conjuncts;
       counted = subst (λ n. n ≤ most_conjuncts) (ap length (sym (c.in_ok-conjuncts.ensures.conditions ∙ c.requires.conjuncts)) ∙ length-map c.in_ok-conjuncts.conjuncts.items condition_of_conjunct) formed.conjuncts;
-      named = formed_conjuncts_few c.args.database.now blocks around n (block_of c.args.block.now) formed;
     }

@@ -7,10 +7,10 @@ use Rattle.definitions.specs.Estimates.Fractions.{million, either_of}
 use Rattle.definitions.specs.Estimates.Selectivity.{selectivity, selectivities}
 use Rattle.query_tree.specs.Bound.{condition_of, conditions}
 use Rattle.estimate.specs.Tables.{tables_of, AreTablesOf}
-use Rattle.estimate.proofs.conditions.+selectivity.Given as goal
+use Rattle.estimate.proofs.conditions.+part_selectivity.Given as goal
 
-abbrev pub decreases-selectivity : goal.decreases-selectivity
-decreases-selectivity l = goal.size-selectivity l
+abbrev pub decreases-part_selectivity : goal.decreases-part_selectivity
+decreases-part_selectivity l = goal.size-part_selectivity l
 
 abbrev pub invariant-all : goal.invariant-all
 invariant-all l = record {
