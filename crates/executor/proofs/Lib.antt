@@ -6,11 +6,7 @@ mod InnerRows
 mod InnerTelling
 mod Outermost
 mod Batched
-mod KeptPlaces
 mod ToldBatches
 mod ToldRuns
-mod Scales
-mod UnitFlags
-mod ToldNumbers
 mod WholeQuery
 mod GivenPlans

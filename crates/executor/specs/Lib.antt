@@ -2,7 +2,4 @@ pub use Rattle.definitions.specs.Queries.Answer
 pub use Rattle.definitions_execution.specs.Total
 pub use Rattle.definitions.specs.Certificates.Explaining
 pub mod ReadyBlocks
-pub mod LateTests
 pub mod Taking
-pub mod ToldTests
-pub mod UnitSets

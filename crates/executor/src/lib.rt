@@ -8,8 +8,6 @@ mod ready_block;
 mod running;
 mod taking;
 mod told_batches;
-mod told_test;
-mod unit_set;
 mod watch;
 
 pub use answer::{answer_text, run_select};

@@ -5,4 +5,5 @@ pub mod Scanning
 pub mod Slots
 pub mod Saying
 pub mod Stretches
+pub mod Gathers
 pub mod Taken

@@ -1,0 +1,188 @@
+use Rattle.std.proofs.Common.{◌≡◌, ◌∙◌, refl, sym, ap, ap₂, subst, ℕ, ◌-◌, ◌^◌, ◌<◌, ◌≤◌, List, [], ◌∷◌, ◌++◌, Bool, true, false, length, map, get_or, arith, inl, inr}
+use Rattle.std.specs.Prelude.{ℤ, pos, ◌*ℤ◌, ◌&&◌, IfSome, Option, None, Some, slice_get, Ok, Err, Result}
+use Rattle.std.specs.Ordering.{int_cmp}
+use Rattle.definitions.specs.Arithmetic.{Is, Raise}
+use Rattle.definitions.specs.Statement.{ComparisonOperator, Equals}
+use Rattle.definitions.specs.Truth.{agrees, compared, compared_with_any, is_true, known, or, unless, Unknown}
+use Rattle.definitions.specs.Value.{number_cmp, Null, Number, SqlType, Value}
+use Rattle.definitions.specs.Table.{Row}
+use Rattle.definitions.specs.ValueType.{ValueType}
+use Rattle.definitions.specs.Plans.Order as order
+use Rattle.definitions.specs.Queries.BoundBlock.{Column, Compare, Condition, InQuery, Subquery}
+use Rattle.definitions.specs.Queries.Combinations.{at, is_surely_true, raises_of}
+use Rattle.definitions.specs.Queries.Evaluation.{and_then, cell, column_values, on_one, on_two, only_value, truth, Environment}
+use Rattle.definitions.specs.Queries.Telling.{MayAnswer}
+use Rattle.definitions_answers.specs.Told.{meaning_told, told_environment}
+use Rattle.definitions_execution.proofs.BlockFits.{row_of}
+use Rattle.std.proofs.lemmas.List.{get_or-map}
+use Rattle.std.proofs.lemmas.Option.{slice_get-get_or}
+use Rattle.std.proofs.lemmas.Bool.{ltb-true}
+use Rattle.std.proofs.Math.Dec.{ltb}
+use Rattle.definitions_execution.specs.OfBlock.{combination_of, rows_in}
+use Rattle.definitions_execution.specs.Stored.{row_number, Composite}
+use Rattle.definitions.specs.Queries.Evaluation.{Combination}
+use Rattle.sqlvalue.specs.Meaning.{number_of, op_of}
+use Rattle.sqlvalue.specs.declared.number.Num.{Num}
+use Rattle.sqlvalue.specs.declared.op.ComparisonOperator as code
+use Rattle.query_tree.specs.Bound.{column_of}
+use Rattle.query_tree.specs.declared.leaf.BlockColumn.{BlockColumn}
+use Rattle.told_tests.proofs.Scales.{common_scale}
+use Rattle.filters.specs.Sources.{block_in, context_in, BlockSource}
+use Rattle.subqueries.specs.Keeping.{told_by}
+use Rattle.subqueries.specs.declared.kept_results.KeptResults.{KeptResults}
+use Rattle.told_tests.specs.LateTests.{are_true_at, raised_at}
+use Rattle.told_tests.specs.ToldTests.{is_unless, passes, ComparesWith, IsComparedWith, IsTestOf, IsTestOfAll, IsTestedAs, ListsValues}
+use Rattle.told_tests.specs.declared.told_test.ToldTest.{ToldTest}
+
+-- ---- what was told
+
+first_values : (values : List Value) → values ≡ column_values (map (λ v. v ∷ []) values)
+first_values [] = refl
+first_values (v ∷ vs) = ap (λ l. v ∷ l) (first_values vs)
+
+pub told_is : (told : Result (List Value) Raise) (values : List Value) → MayAnswer (on_one column_values (meaning_told told)) (Ok values) → told ≡ Ok values
+told_is (Ok own) values h = ap Ok (first_values own ∙ sym h)
+told_is (Err e) values h = absurd h
+
+pub alone : {X : Type 0} (xs : List X) (x : X) → 1 ≤ length xs → length xs < 2 → x ≡ get_or xs 0 x → xs ≡ x ∷ []
+alone [] x some few is = absurd (omega (arith, some))
+alone (y ∷ []) x some few is = ap (λ z. z ∷ []) (sym is)
+alone (y ∷ z ∷ zs) x some few is = absurd (omega (arith, few))
+
+pub got_at : {X : Type 0} (xs : List X) (i : ℕ) (x : X) → true ≡ ltb i (length xs) → x ≡ get_or xs i x → slice_get xs i ≡ Some x
+got_at xs i x inside is = slice_get-get_or xs i x (ltb-true i (length xs) (sym inside)) ∙ ap Some (sym is)
+
+pub unless_known : (negated b : Bool) → unless negated (known b) ≡ known (is_unless negated b)
+unless_known true true = refl
+unless_known true false = refl
+unless_known false b = refl
+
+still_unknown : (negated : Bool) → unless negated Unknown ≡ Unknown
+still_unknown true = refl
+still_unknown false = refl
+
+all_unknown : (value : Value) (values : List Value) → compared_with_any Equals Null (value ∷ values) ≡ Unknown
+all_unknown value [] = refl
+all_unknown value (v ∷ vs) = ap (or Unknown) (all_unknown v vs)
+
+pub unknown_in_list : {X : Type 0} (f : X → Value) (xs : List X) → 0 < length xs → compared_with_any Equals Null (map f xs) ≡ Unknown
+unknown_in_list f [] some = absurd (omega (arith, some))
+unknown_in_list f (x ∷ xs) some = all_unknown (f x) (map f xs)
+
+-- ---- the test of a comparison
+
+pub compares_at : (op : ComparisonOperator) (factor units own : ℤ) (m n : ℕ) → factor ≡ pos (10 ^ (n - m)) → units ≡ own *ℤ pos (10 ^ (m - n))
+    → (unit : ℤ) → agrees op (int_cmp (unit *ℤ factor) units) ≡ agrees op (number_cmp unit m own n)
+compares_at op factor units own m n f u unit = ap (agrees op) (ap₂ (λ x y. int_cmp (unit *ℤ x) y) f u ∙ common_scale unit own m n)
+
+pub turned_at : (op : ComparisonOperator) (factor units own : ℤ) (m n : ℕ) → factor ≡ pos (10 ^ (n - m)) → units ≡ own *ℤ pos (10 ^ (m - n))
+    → (unit : ℤ) → agrees op (int_cmp units (unit *ℤ factor)) ≡ agrees op (number_cmp own n unit m)
+turned_at op factor units own m n f u unit = ap (agrees op) (ap₂ (λ x y. int_cmp y (unit *ℤ x)) f u ∙ common_scale own unit n m)
+
+module _ (told : ℕ → Result (List Value) Raise) (block : ℕ) where
+  -- a condition compares what is in the test's column with a number
+  abbrev Means : Condition → ToldTest → (code.ComparisonOperator × Num) → Type 0
+  Means condition test asked = (env : Environment) → truth (told_environment env told) condition ≡ Is (compared (op_of asked.0) (cell env.combination (column_of test.column)) (number_of asked.1))
+
+  compare_means : (type : ValueType) (env : Environment) (op : ComparisonOperator) (column : order.BlockColumn) (own : SqlType) (v : Value) → told block ≡ Ok (v ∷ [])
+      → truth (told_environment env told) (Compare op (Column column own) (Subquery block type)) ≡ Is (compared op (cell env.combination column) v)
+  compare_means type env op column own v e = ap (λ (r : Result (List Value) Raise). on_two (compared op) (Is (cell env.combination column)) (and_then only_value (meaning_told r))) e
+
+  pub is_test : (type : ValueType) (test : ToldTest) (column : BlockColumn) (own : SqlType) (digits : ℕ) (op : code.ComparisonOperator) (number : Num) → told block ≡ Ok (number_of number ∷ []) → ComparesWith column digits op number test
+      → IsTestOf told test (Compare (op_of op) (Column (column_of column) own) (Subquery block type))
+  is_test type test column own digits op number e h = record {
+    number = λ env unit there.
+        let value_is : cell env.combination (column_of column) ≡ Number unit digits = ap (λ c. cell env.combination (column_of c)) (sym h.column) ∙ there ∙ ap (Number unit) h.scale in
+        compare_means type env (op_of op) (column_of column) own (number_of number) e ∙ ap (λ v. Is (compared (op_of op) v (number_of number))) value_is
+        ∙ ap (λ b. Is (known b)) (sym (h.compares unit));
+    null = λ env there.
+        let value_is : cell env.combination (column_of column) ≡ Null = ap (λ c. cell env.combination (column_of c)) (sym h.column) ∙ there in
+        compare_means type env (op_of op) (column_of column) own (number_of number) e ∙ ap (λ v. Is (compared (op_of op) v (number_of number))) value_is;
+    compares = subst (λ asked. IfSome asked (Means (Compare (op_of op) (Column (column_of column) own) (Subquery block type)) test)) (sym h.comparison)
+        (λ env. compare_means type env (op_of op) (column_of column) own (number_of number) e ∙ ap (λ c. Is (compared (op_of op) (cell env.combination (column_of c)) (number_of number))) (sym h.column));
+  }
+
+  turned_means : (type : ValueType) (env : Environment) (op : ComparisonOperator) (column : order.BlockColumn) (own : SqlType) (v : Value) → told block ≡ Ok (v ∷ [])
+      → truth (told_environment env told) (Compare op (Subquery block type) (Column column own)) ≡ Is (compared op v (cell env.combination column))
+  turned_means type env op column own v e = ap (λ (r : Result (List Value) Raise). on_two (compared op) (and_then only_value (meaning_told r)) (Is (cell env.combination column))) e
+
+  pub is_turned_test : (type : ValueType) (test : ToldTest) (column : BlockColumn) (own : SqlType) (digits : ℕ) (op : code.ComparisonOperator) (number : Num) → told block ≡ Ok (number_of number ∷ []) → IsComparedWith column digits op number test
+      → IsTestOf told test (Compare (op_of op) (Subquery block type) (Column (column_of column) own))
+  is_turned_test type test column own digits op number e h = record {
+    number = λ env unit there.
+        let value_is : cell env.combination (column_of column) ≡ Number unit digits = ap (λ c. cell env.combination (column_of c)) (sym h.column) ∙ there ∙ ap (Number unit) h.scale in
+        turned_means type env (op_of op) (column_of column) own (number_of number) e ∙ ap (λ v. Is (compared (op_of op) (number_of number) v)) value_is
+        ∙ ap (λ b. Is (known b)) (sym (h.compares unit));
+    null = λ env there.
+        let value_is : cell env.combination (column_of column) ≡ Null = ap (λ c. cell env.combination (column_of c)) (sym h.column) ∙ there in
+        turned_means type env (op_of op) (column_of column) own (number_of number) e ∙ ap (λ v. Is (compared (op_of op) (number_of number) v)) value_is;
+    compares = subst (λ asked. IfSome asked (Means (Compare (op_of op) (Subquery block type) (Column (column_of column) own)) test)) (sym h.comparison) tt;
+  }
+
+  in_means : (env : Environment) (negated : Bool) (column : order.BlockColumn) (own : SqlType) (values : List Value) → told block ≡ Ok values
+      → truth (told_environment env told) (InQuery negated (Column column own) block) ≡ Is (unless negated (compared_with_any Equals (cell env.combination column) values))
+  in_means env negated column own values e =
+      ap (λ (r : Result (List Value) Raise). on_one (unless negated) (on_two (compared_with_any Equals) (Is (cell env.combination column)) (on_one column_values (meaning_told r)))) e
+      ∙ ap (λ vs. Is (unless negated (compared_with_any Equals (cell env.combination column) vs))) (sym (first_values values))
+
+  pub is_list_test : (test : ToldTest) (column : BlockColumn) (own : SqlType) (digits : ℕ) (negated : Bool) (values : List Value) → told block ≡ Ok values → ListsValues column digits negated values test
+      → IsTestOf told test (InQuery negated (Column (column_of column) own) block)
+  is_list_test test column own digits negated values e h = record {
+    number = λ env unit there.
+        let value_is : cell env.combination (column_of column) ≡ Number unit digits = ap (λ c. cell env.combination (column_of c)) (sym h.column) ∙ there ∙ ap (Number unit) h.scale in
+        in_means env negated (column_of column) own values e ∙ ap (λ v. Is (unless negated (compared_with_any Equals v values))) value_is ∙ ap Is (h.lists unit);
+    null = λ env there.
+        let value_is : cell env.combination (column_of column) ≡ Null = ap (λ c. cell env.combination (column_of c)) (sym h.column) ∙ there in
+        in_means env negated (column_of column) own values e ∙ ap (λ v. Is (unless negated (compared_with_any Equals v values))) value_is ∙ ap (λ t. Is (unless negated t)) h.null
+        ∙ ap Is (still_unknown negated);
+    compares = subst (λ asked. IfSome asked (Means (InQuery negated (Column (column_of column) own) block) test)) (sym h.comparison) tt;
+  }
+
+-- ---- the value in a composite's column
+
+pub value_at_place : (source : BlockSource) (column : order.BlockColumn) (items : List Composite) (place : ℕ) → place < length items → (rows : List ℕ) → rows ≡ map (λ composite. row_number composite column.table) items
+    → (own : Value) → own ≡ get_or (get_or (rows_in source.database (block_in source) column.table) (get_or rows place 0) []) column.number Null
+    → cell (combination_of source.database (block_in source) (get_or items place [])) column ≡ own
+value_at_place source column items place within rows are own there =
+    let table = λ (composite : Composite). row_number composite column.table in
+    let row_is : get_or rows place 0 ≡ row_number (get_or items place []) column.table = ap (λ rs. get_or rs place 0) are ∙ get_or-map table items place [] 0 within in
+    ap (λ (r : Row). get_or r column.number Null) (row_of source.database (block_in source) (get_or items place []) column.table)
+    ∙ ap (λ n. get_or (get_or (rows_in source.database (block_in source) column.table) n []) column.number Null) (sym row_is) ∙ sym there
+
+pub if_some : {X : Type 0} (P Q : X → Type 0) (found : Option X) → ((x : X) → P x → Q x) → IfSome found P → IfSome found Q
+if_some P Q None h p = tt
+if_some P Q (Some x) h p = h x p
+
+-- ---- what it tells of a composite
+
+only_known : (passed : Bool) → is_true (known passed) ≡ passed
+only_known true = refl
+only_known false = refl
+
+pub only_one : (passed : Bool) → passed ≡ passed && true
+only_one true = refl
+only_one false = refl
+
+module _ (source : BlockSource) (outer : List Combination) (results : List KeptResults) (composite : Composite) (test : ToldTest) (passed : Bool) (tested : IsTestedAs source composite test passed) where
+  abbrev here : Environment
+  here = at (context_in source outer) (combination_of source.database (block_in source) composite)
+
+  abbrev env : Environment
+  env = told_environment here (told_by results)
+
+  means : (condition : Condition) → IsTestOf (told_by results) test condition → (is_surely_true (truth env condition) ≡ passed) × (raises_of (truth env condition) ≡ [])
+  means condition h = by_value tested
+    where
+      by_value : IsTestedAs source composite test passed → (is_surely_true (truth env condition) ≡ passed) × (raises_of (truth env condition) ≡ [])
+      by_value (inl (unit, there, is)) = let m = h.number here unit there in (ap is_surely_true m ∙ only_known (passes test unit) ∙ sym is, ap raises_of m)
+      by_value (inr (there, is)) = let m = h.null here there in (ap is_surely_true m ∙ sym is, ap raises_of m)
+
+  pub tested_truth : (conditions : List Condition) → IsTestOfAll (told_by results) test conditions → passed ≡ are_true_at source outer results conditions composite
+  tested_truth [] h = absurd h
+  tested_truth (condition ∷ []) h = only_one passed ∙ ap (λ b. b && true) (sym (means condition h).0)
+  tested_truth (condition ∷ other ∷ others) h = absurd h
+
+  pub tested_quiet : (conditions : List Condition) → IsTestOfAll (told_by results) test conditions → raised_at source outer results conditions composite ≡ []
+  tested_quiet [] h = absurd h
+  tested_quiet (condition ∷ []) h = ap (λ rs. rs ++ []) (means condition h).1
+  tested_quiet (condition ∷ other ∷ others) h = absurd h

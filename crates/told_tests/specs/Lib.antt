@@ -1,0 +1,4 @@
+pub mod LateTests
+pub mod RunScans
+pub mod ToldTests
+pub mod UnitSets

@@ -1,0 +1,353 @@
+//! Late conjuncts that compare a column with what was told of a subquery, as tests of numbers.
+
+ghost use Rattle.std.specs.Prelude.{◌≡◌, ◌≤◌, ◌^◌, ◌<◌, ◌∷◌, [], All, IfOk, IfSome, Ok, OnSome, filter, get_or, length, map, pos, take};
+ghost use Rattle.definitions.specs.Queries.BoundBlock as spec;
+ghost use Rattle.sqlvalue.specs.Meaning.{number_of, op_of, value_of as meaning_of};
+ghost use Rattle.sqlvalue.specs.Owned.{owned_value};
+ghost use Rattle.query_tree.specs.Bound.{condition_of, value_of};
+ghost use Rattle.subqueries.specs.Keeping.{told_by};
+ghost use Rattle.block_answers.specs.Views.{conditions_of};
+ghost use Rattle.told_tests.specs.ToldTests.{is_unless, passes, passes_at, AreWhereTrue, ComparesWith, IsComparedWith, IsScaledTo, IsTested, IsTestOf, IsTestOfAll, IsTestedAs, ListsValues, RaisesOnNone, TellsOf};
+
+use crate::run_scan::scan_places;
+use crate::unit_set::UnitSet;
+use filters::BlockSource;
+use query_tree::{BlockColumn, Condition, ValueExpr};
+use result_rows::unit_of;
+use scans::Batch;
+use sqlvalue::{ComparisonOperator, Num, OwnedValue, SqlType, Value};
+use std::alloc::Global;
+use subqueries::KeptResults;
+
+/// What a late conjunct asks of a column by what was told of a subquery, made ready for numbers of a scale (own).
+#[derive(Drop)]
+pub struct ToldTest {
+    column: BlockColumn,
+    scale: u8,
+    asked: Asked,
+}
+
+/// What is asked of the units of a number: that by a factor they compare with others, which are those of a number; or others with them; or that
+/// they are among others, or not (own).
+#[derive(Drop)]
+enum Asked {
+    Compared {
+        op: ComparisonOperator,
+        factor: i64,
+        units: i64,
+        number: Num,
+    },
+    Turned {
+        op: ComparisonOperator,
+        factor: i64,
+        units: i64,
+    },
+    Listed {
+        negated: bool,
+        units: UnitSet,
+    },
+}
+
+/// The test that late conjuncts come to by what was told last of their subqueries, where there is one conjunct and it has a test, for which
+/// there is memory.
+pub fn test_of(alloc: Global, late: &[&Condition], results: &[KeptResults]) -> Option<ToldTest>
+    ensures { IfSome result (λ test. IsTestOfAll (told_by results.now) test (conditions_of late.now)) }
+{
+    match late {
+        [condition] => condition_test(alloc, condition, results),
+        _ => None,
+    }
+}
+
+/// The test that a condition comes to, where it compares a column with a subquery, or is IN or NOT IN of one.
+fn condition_test(alloc: Global, condition: &Condition, results: &[KeptResults]) -> Option<ToldTest>
+    ensures { IfSome result (λ test. IsTestOf (told_by results.now) test (condition_of condition.now)) }
+{
+    match condition {
+        Condition::Compare { op, left, right } => comparison_test(*op, left, right, results),
+        Condition::InQuery {
+            negated,
+            value,
+            block,
+        } => membership_test(alloc, *negated, value, *block, results),
+        _ => None,
+    }
+}
+
+/// The test of a comparison of a column with a subquery that gave one number, or of such a subquery with a column.
+fn comparison_test(
+    op: ComparisonOperator,
+    left: &ValueExpr,
+    right: &ValueExpr,
+    results: &[KeptResults],
+) -> Option<ToldTest>
+    ensures { IfSome result (λ test. IsTestOf (told_by results.now) test
+        (spec.Compare (op_of op) (value_of left.now) (value_of right.now))) }
+{
+    match (left, right) {
+        (ValueExpr::Column { column, sql_type }, ValueExpr::Subquery { block, .. }) => {
+            let number = told_number(results, *block)?;
+            number_test(*column, scale_of(*sql_type), op, number)
+        }
+        (ValueExpr::Subquery { block, .. }, ValueExpr::Column { column, sql_type }) => {
+            let number = told_number(results, *block)?;
+            turned_test(*column, scale_of(*sql_type), op, number)
+        }
+        _ => None,
+    }
+}
+
+/// The test of IN or NOT IN of a column and a subquery.
+fn membership_test(
+    alloc: Global,
+    negated: bool,
+    value: &ValueExpr,
+    block: usize,
+    results: &[KeptResults],
+) -> Option<ToldTest>
+    ensures { IfSome result (λ test. IsTestOf (told_by results.now) test
+        (spec.InQuery negated (value_of value.now) block)) }
+{
+    match (value, told_values(results, block)) {
+        (ValueExpr::Column { column, sql_type }, Some(values)) => {
+            list_test(alloc, *column, scale_of(*sql_type), negated, values)
+        }
+        _ => None,
+    }
+}
+
+/// The number that was told last of a block alone, if there is such a block.
+fn told_number(results: &[KeptResults], block: usize) -> Option<Num>
+    ensures { IfSome result (λ number. told_by results.now block ≡ Ok (number_of number ∷ [])) }
+{
+    let values = told_values(results, block)?;
+    only_number(values)
+}
+
+/// The values that were told last of a block, if there is such a block and it raised nothing.
+fn told_values(results: &[KeptResults], block: usize) -> Option<&[OwnedValue]>
+    ensures { IfSome result (λ values. told_by results.now block ≡ Ok (map owned_value values.now)) }
+{
+    match results.get(block)?.first_values() {
+        Ok(values) => Some(values),
+        Err(_) => None,
+    }
+}
+
+/// The test of a comparison of a column's numbers of a scale with a number, if all that it takes fits 64 bits.
+fn number_test(
+    column: BlockColumn,
+    scale: u8,
+    op: ComparisonOperator,
+    number: Num,
+) -> Option<ToldTest>
+    ensures { IfSome result (ComparesWith column scale op number) }
+{
+    let Scaled { factor, units } = to_common_scale(scale, number)?;
+    Some(ToldTest {
+        column,
+        scale,
+        asked: Asked::Compared {
+            op,
+            factor,
+            units,
+            number,
+        },
+    })
+}
+
+/// The test of a comparison of a number with a column's numbers of a scale, if all that it takes fits 64 bits.
+fn turned_test(
+    column: BlockColumn,
+    scale: u8,
+    op: ComparisonOperator,
+    number: Num,
+) -> Option<ToldTest>
+    ensures { IfSome result (IsComparedWith column scale op number) }
+{
+    let Scaled { factor, units } = to_common_scale(scale, number)?;
+    Some(ToldTest {
+        column,
+        scale,
+        asked: Asked::Turned { op, factor, units },
+    })
+}
+
+/// By what numbers of a scale are multiplied to compare with a number, and what that makes of its units.
+#[derive(Clone, Copy)]
+struct Scaled {
+    factor: i64,
+    units: i64,
+}
+
+/// That of a number, if it fits 64 bits.
+fn to_common_scale(scale: u8, number: Num) -> Option<Scaled>
+    ensures { IfSome result (IsScaledTo scale number) }
+{
+    let factor = power_of_ten(number.scale.saturating_sub(scale))?;
+    let wider = power_of_ten(scale.saturating_sub(number.scale))?;
+    let units = whole(number)?.checked_mul(wider)?;
+    Some(Scaled { factor, units })
+}
+
+/// The test of IN or NOT IN of a column's numbers of a scale, where the values are such numbers, of a range that is not too long.
+fn list_test(
+    alloc: Global,
+    column: BlockColumn,
+    scale: u8,
+    negated: bool,
+    values: &[OwnedValue],
+) -> Option<ToldTest>
+    ensures { IfSome result (ListsValues column scale negated (map owned_value values.now)) }
+{
+    match UnitSet::of_values(alloc, values, scale) {
+        Ok(Some(units)) => Some(ToldTest {
+            column,
+            scale,
+            asked: Asked::Listed { negated, units },
+        }),
+        _ => None,
+    }
+}
+
+/// The units of a number, where they fit 64 bits.
+fn whole(number: Num) -> Option<i64>
+    ensures { IfSome result (λ units. units ≡ number.units) }
+{
+    match i64::try_from(number.units) {
+        Ok(units) => Some(units),
+        Err(_) => None,
+    }
+}
+
+/// How many units of a scale make one, where that fits 64 bits.
+fn power_of_ten(scale: u8) -> Option<i64>
+    ensures { IfSome result (λ power. power ≡ pos (10 ^ scale)) }
+{
+    10i64.checked_pow(u32::from(scale))
+}
+
+/// The number that is alone in a list.
+fn only_number(values: &[OwnedValue]) -> Option<Num>
+    ensures { IfSome result (λ number. map owned_value values.now ≡ number_of number ∷ []) }
+{
+    match values {
+        [OwnedValue::Num(number)] => Some(*number),
+        _ => None,
+    }
+}
+
+/// How many digits of a type's numbers stand behind the point.
+fn scale_of(sql_type: SqlType) -> u8 {
+    match sql_type {
+        SqlType::Numeric { scale, .. } => scale,
+        SqlType::Smallint | SqlType::Integer | SqlType::Char { .. } => 0,
+    }
+}
+
+impl ToldTest {
+    /// Writes the places of those composites of a batch that pass to the beginning of a slice, and tells how many, where that is found for all of
+    /// them together: the conjuncts that it is a test of are true on these, and nothing is raised.
+    pub fn passing_places(
+        &self,
+        source: &BlockSource<'_>,
+        batch: &Batch,
+        places: &mut [u32],
+    ) -> Option<usize>
+        requires room { length places.old ≡ 1024 }
+        ensures room { length places.new ≡ 1024 }
+        ensures count { IfSome result (λ count. count ≤ 1024) }
+        ensures within { IfSome result (λ count. All (λ place. place < length batch.now.items)
+            (take count places.new)) }
+        ensures passing { IfSome result (λ count. AreWhereTrue source.now self.now batch.now.items
+            (take count places.new)) }
+        ensures quiet { OnSome result (RaisesOnNone source.now self.now batch.now.items) }
+    {
+        if let Asked::Compared { op, number, .. } = &self.asked
+            && let Some(count) = scan_places(source, batch, self.column, *op, *number, places)
+        {
+            return Some(count);
+        }
+        self.places_by_units(source, batch, places)
+    }
+
+    /// The same, one composite after another, where all have a number of the test's scale in the column, which is not too great, or null.
+    fn places_by_units(
+        &self,
+        source: &BlockSource<'_>,
+        batch: &Batch,
+        places: &mut [u32],
+    ) -> Option<usize>
+        requires room { length places.old ≡ 1024 }
+        ensures room { length places.new ≡ 1024 }
+        ensures count { IfSome result (λ count. count ≤ 1024) }
+        ensures within { IfSome result (λ count. All (λ place. place < length batch.now.items)
+            (take count places.new)) }
+        ensures passing { IfSome result (λ count. map (λ place. get_or batch.now.items place []) (take count places.new)
+            ≡ filter (passes_at source.now self.now) batch.now.items) }
+        ensures tested { OnSome result (All (IsTested source.now self.now) batch.now.items) }
+    {
+        // It is not so, but a look is less than to carry that along.
+        if self.column.table >= batch.width() {
+            return None;
+        }
+        // A look at the length tells that there is room.
+        let _len = batch.len();
+        let rows = batch.column(self.column.table);
+        let mut count: usize = 0;
+        'rows: for place in 0..rows.len() {
+            let passed = self.tells_of(&source.cell(self.column, rows[place] as usize))?;
+            places[count] = place as u32;
+            count += usize::from(passed);
+        }
+        Some(count)
+    }
+
+    /// Whether the composite at a place of a batch passes, where it has a number of the test's scale in the column, which is not too great.
+    pub fn passed(&self, source: &BlockSource<'_>, batch: &Batch, place: usize) -> Option<bool>
+        requires { place < length batch.now.items }
+        ensures { IfSome result (IsTestedAs source.now (get_or batch.now.items place []) self.now) }
+    {
+        // It is not so, but a look is less than to carry that along.
+        if self.column.table >= batch.width() {
+            return None;
+        }
+        let row = batch.column(self.column.table)[place];
+        self.tells_of(&source.cell(self.column, row as usize))
+    }
+
+    /// Whether a value passes, where that is a number of the test's scale, which is not too great, or null, which doesn't.
+    fn tells_of(&self, value: &Value) -> Option<bool>
+        ensures { IfSome result (TellsOf self.now (meaning_of value.now)) }
+    {
+        match value {
+            Value::Null => Some(false),
+            _ => self.passes(unit_of(value, self.scale)?),
+        }
+    }
+
+    /// Whether a number of so many units passes, if that is not too great.
+    fn passes(&self, unit: i64) -> Option<bool>
+        ensures { IfSome result (λ passed. passed ≡ passes self.now unit) }
+    {
+        match &self.asked {
+            Asked::Compared {
+                op,
+                factor,
+                units,
+                ..
+            } => Some(op.agrees(unit.checked_mul(*factor)?.cmp(units))),
+            Asked::Turned { op, factor, units } => {
+                Some(op.agrees(units.cmp(&unit.checked_mul(*factor)?)))
+            }
+            Asked::Listed { negated, units } => Some(is_unless(*negated, units.has(unit))),
+        }
+    }
+}
+
+/// The same, or the other way round where it is negated.
+fn is_unless(negated: bool, known: bool) -> bool
+    ensures { result ≡ is_unless negated known }
+{
+    if negated { !known } else { known }
+}
