@@ -1,10 +1,12 @@
 -- Rows of one group, taken in together.
 use Rattle.std.proofs.Common.{◌≡◌, ◌∙◌, refl, sym, ap, ap₂, subst, ℕ, zero, suc, ◌+◌, ◌-◌, ◌<◌, ◌≤◌, List, [], ◌∷◌, ◌++◌, true, Option, Some, None, append_assoc, arith, get_or, length, map, take, drop, true≢false}
-use Rattle.std.specs.Prelude.{◌&&◌}
+use Rattle.std.specs.Prelude.{◌&&◌, ℤ}
+use Rattle.std.specs.Cmp.{int_cmp_total, tied_itself}
 use Rattle.std.specs.List.{AllByRecursion}
 use Rattle.std.proofs.lemmas.List.{append-nil, drop_more, get_or-drop, map-append, drop-map, take-map, take-append-drop}
 use Rattle.std.specs.Ordering.{is_eq}
-use Rattle.definitions.specs.Value.{Value, rank}
+use Rattle.definitions.specs.Value.{Value, Number, rank}
+use Rattle.sqlvalue.proofs.NumberKeys.{of_one_scale}
 use Rattle.definitions.specs.Queries.Grouping.{same_value}
 use Rattle.query_tree.specs.Bound.{column_of}
 use Rattle.query_tree.specs.declared.leaf.BlockColumn as bound
@@ -31,6 +33,10 @@ use Rattle.block_answers.specs.declared.group_rows.Groups.{Groups}
 use Rattle.block_answers.specs.declared.group_rows.OpenGroup.{OpenGroup}
 use Rattle.result_rows.specs.declared.row_store.RowStore.{RowStore}
 use Rattle.block_answers.proofs.Cuts.{cut_goes_on, Begins}
+
+-- a number ranks as itself
+pub same_number : (value own : Value) (units : ℤ) (m n : ℕ) → value ≡ Number units m → own ≡ Number units n → m ≡ n → is_eq (rank value own) ≡ true
+same_number value own units m n v o e = rw (v, o) (ap is_eq (sym (of_one_scale units units m n e) ∙ tied_itself int_cmp_total units))
 
 -- ---- parts of lists
 

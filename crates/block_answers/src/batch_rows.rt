@@ -7,6 +7,7 @@ ghost use Rattle.filters.specs.Sources.{block_in};
 ghost use Rattle.block_answers.specs.Groups.{environments};
 ghost use Rattle.block_answers.specs.Runs.{between, combinations_at};
 
+use columns::NumberColumn;
 use filters::{BlockSource, OuterRows};
 use query_tree::BlockColumn;
 use result_rows::RowBatch;
@@ -44,6 +45,10 @@ impl<'a, A: OuterRows> RowBatch for BatchRows<'a, A> {
     fn rows(&self, table: usize) -> &[u32] {
         let _len = self.batch.len();
         &self.batch.column(table)[self.first..self.end]
+    }
+
+    fn numbers(&self, column: BlockColumn) -> Option<&NumberColumn> {
+        self.source.numbers(column)
     }
 
     fn cell(&self, column: BlockColumn, row: usize) -> Value<'_> {

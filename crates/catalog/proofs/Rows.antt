@@ -42,6 +42,11 @@ pub part_in_table : (cs : List StoredColumn) (is : List StoredIndex) (n : ℕ) (
 part_in_table cs is n t j c first rows o f l e =
     ap (part_of first rows) (sym (column_values n cs j c f (omega (arith, l, columns_many cs is n t o)) e)) ∙ ap (λ rs. part_of first rows (map (λ row. get_or row j Null) rs)) (sym o.rows)
 
+pub cells_in_table : (cs : List StoredColumn) (is : List StoredIndex) (n : ℕ) (t : Table) (j : ℕ) (c : StoredColumn) → IsOf cs is n t → AreFilled n cs → j < length t.columns → c ≡ get_or cs j c
+    → c.values ≡ map (λ row. get_or row j Null) t.rows
+cells_in_table cs is n t j c o f l e =
+    sym (column_values n cs j c f (omega (arith, l, columns_many cs is n t o)) e) ∙ ap (map (λ row. get_or row j Null)) (sym o.rows)
+
 pub rows_in_column : (cs : List StoredColumn) (is : List StoredIndex) (n : ℕ) (t : Table) (j : ℕ) (c : StoredColumn) (last : ℕ) → IsOf cs is n t → AreFilled n cs → j < length t.columns → c ≡ get_or cs j c → last ≤ length t.rows
     → last ≤ length c.values
 rows_in_column cs is n t j c last o f l e h = omega (arith, h, rows_many cs is n t o, filled_at n cs j c f (omega (arith, l, columns_many cs is n t o)) e)

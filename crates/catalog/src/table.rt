@@ -1,6 +1,6 @@
 //! A table: its columns, rows, indexes and statistics, and how rows are read and loaded.
 
-ghost use Rattle.std.specs.Prelude.{Bool, ◌≡◌, ◌<◌, ◌≤◌, ◌+◌, ◌↔◌, Some, None, Ok, Err, IsNone, IfOk, IfErr, OnOk, OnErr, IfSome, length, map, bytes_eq, option_map, slice_get};
+ghost use Rattle.std.specs.Prelude.{Bool, ◌≡◌, ◌<◌, ◌≤◌, ◌+◌, ◌↔◌, Some, None, Ok, Err, IsNone, IfOk, IfErr, OnOk, OnErr, IfSome, length, map, bytes_eq, option_map, slice_get, slice_index_or};
 ghost use Rattle.std.specs.List.{AllByRecursion, position_from};
 ghost use Rattle.definitions.specs.Limits.{most_index_columns, most_rows};
 ghost use Rattle.definitions.specs.Table as spec;
@@ -10,6 +10,7 @@ ghost use Rattle.definitions.specs.Statistics.{row_width};
 ghost use Rattle.definitions.specs.Invariant.{IsCount, IsPageCount, IsTable};
 ghost use Rattle.definitions.specs.Value as values;
 ghost use Rattle.definitions.specs.Value.{IsType};
+ghost use Rattle.columns.specs.Columns.{cells_of};
 ghost use Rattle.loading.specs.Meaning.{column_refusal};
 ghost use Rattle.catalog.specs.Places.{IsColumnPlace};
 ghost use Rattle.definitions.specs.Scanning.{true_word, unknown_word};
@@ -22,6 +23,7 @@ use crate::fault::{
 };
 use crate::growth::{Grown, grow};
 use crate::naming::{Named, Names, second_twin};
+use columns::Column;
 use indexes::{Index, TableStatistics, UniqueFault, row_width};
 use loading::{ColumnFault, LoadWatch, TableColumn, cut_columns};
 use parse_tree::{ColumnDefinition, Constraint, MAX_INDEX_COLUMNS, Name};
@@ -185,6 +187,14 @@ impl Table {
         ensures { value_of result ≡ cell_at self.now row column }
     {
         self.columns[column].cell(row)
+    }
+
+    /// The cells of a column, of which each row has one.
+    pub fn cells(&self, column: usize) -> &Column
+        requires { column < length self.now.columns }
+        ensures { (cells_of result.now).values ≡ map (λ row. slice_index_or row column values.Null) self.now.rows }
+    {
+        self.columns[column].cells()
     }
 
     /// Of so many rows from `first` on, those in which a comparison of a column's value with another is true, and

@@ -178,8 +178,15 @@ impl NumberColumn {
         Ok(())
     }
 
+    /// The scale of the column's numbers.
+    pub fn scale(&self) -> u8
+        ensures { result ≡ spec.scale_of self.now.type }
+    {
+        self.sql_type.scale()
+    }
+
     /// The units in a row, or none for null and past the end.
-    fn units_in(&self, row: usize) -> Option<i64>
+    pub fn units_in(&self, row: usize) -> Option<i64>
         ensures value { number_or_null self.now.type result ≡ value_in self.now row }
         ensures held { IsHeld self.now.type (value_in self.now row) }
     {

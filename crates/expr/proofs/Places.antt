@@ -11,7 +11,9 @@ use Rattle.std.proofs.Math.Nat.{pow-suc}
 use Rattle.definitions.specs.Arithmetic.{Meaning, Is, minus, plus, times}
 use Rattle.definitions.specs.Scanning.{word_of}
 use Rattle.definitions.specs.Truth.{Truth, False, Unknown, True, agrees, and, compared, is_true, known, known_or_unknown, opposite, unless}
-use Rattle.definitions.specs.Value.{Value, Number, compare}
+use Rattle.columns.specs.Cells.{number_or_null}
+use Rattle.definitions.specs.Value.{SqlType, Value, Number, compare, scale_of}
+use Rattle.expr.specs.Vectors.{of_units}
 use Rattle.definitions.specs.Statement.{ComparisonOperator, GreaterOrEquals, GreaterThan, LessOrEquals, LessThan}
 use Rattle.definitions.specs.Queries.Evaluation.{on_one, on_two}
 use Rattle.expr.proofs.Shorts.{in_bounds, judged_short, neg_by, one_of, same_size, size_fits}
@@ -28,6 +30,11 @@ pub rest_unchanged : {X : Type 0} (xs ys : List X) (i : ℕ) (x d : X) → ((k :
 rest_unchanged xs ys i x d h k beyond =
     let other : k ≢ i = omega (arith, beyond) in
     get_or-set_other xs i k x d other ∙ h k (omega (arith, beyond))
+
+-- what a column of numbers has in a row, by its units
+pub column_units : (type : SqlType) (units : Option ℤ) → of_units (scale_of type) units ≡ number_or_null type units
+column_units type None = refl
+column_units type (Some u) = refl
 
 -- ---- words
 

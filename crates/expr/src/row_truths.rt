@@ -259,17 +259,7 @@ fn joined_words(all: bool, left: u64, right: u64) -> u64
 fn operator_behind(negated: bool, op: ComparisonOperator) -> ComparisonOperator
     ensures { (a b : spec.Value) → compared (op_of result) a b ≡ unless negated (compared (op_of op) a b) }
 {
-    if !negated {
-        return op;
-    }
-    match op {
-        ComparisonOperator::Equals => ComparisonOperator::NotEquals,
-        ComparisonOperator::NotEquals => ComparisonOperator::Equals,
-        ComparisonOperator::LessThan => ComparisonOperator::GreaterOrEquals,
-        ComparisonOperator::GreaterThan => ComparisonOperator::LessOrEquals,
-        ComparisonOperator::LessOrEquals => ComparisonOperator::GreaterThan,
-        ComparisonOperator::GreaterOrEquals => ComparisonOperator::LessThan,
-    }
+    if negated { op.negated() } else { op }
 }
 
 /// Whether one NOT is left of two that may be there (ISO/IEC 9075:1992, 8.12).

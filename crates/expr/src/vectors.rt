@@ -9,11 +9,13 @@ ghost use Rattle.definitions.specs.Truth.{compared, is_true};
 ghost use Rattle.definitions.specs.Queries.BoundBlock as spec;
 ghost use Rattle.definitions.specs.Queries.Evaluation as meaning;
 ghost use Rattle.sqlvalue.specs.Meaning.{op_of, value_of};
+ghost use Rattle.columns.specs.Starts.{value_in};
 ghost use Rattle.query_tree.specs.Bound.{column_of, operator_of, value_of as tree_of};
 ghost use Rattle.expr.specs.RowTruths.{AreTrueRows};
 ghost use Rattle.expr.specs.Vectors.{of_units, value_at, AreValues, IsScaling};
 
 use crate::many_rows::ManyRows;
+use columns::NumberColumn;
 use query_tree::{BlockColumn, Operator, ValueExpr};
 use sqlvalue::{ComparisonOperator, SqlType, Value};
 
@@ -164,6 +166,43 @@ fn write_values<S: ManyRows>(
 
 /// Writes the values in a column, if they are numbers of its type's scale or null.
 fn write_column<S: ManyRows>(
+    column: BlockColumn,
+    sql_type: SqlType,
+    rows: &S,
+    first: usize,
+    count: usize,
+    units: &mut [Option<i64>; 64],
+) -> Option<u8>
+    requires few { count ≤ 64 }
+    requires small { first + count ≤ 2 ^ 32 }
+    ensures { IfSome result (λ scale. (place : ℕ) → place < count → value_at scale units.new place
+        ≡ meaning.cell (S.environment rows.now (first + place)).combination (column_of column)) }
+{
+    match rows.numbers(column) {
+        Some(numbers) => Some(write_numbers(numbers, first, count, units)),
+        None => write_cells(column, sql_type, rows, first, count, units),
+    }
+}
+
+/// Writes the numbers of a column that stand from one place on.
+fn write_numbers(
+    numbers: &NumberColumn,
+    first: usize,
+    count: usize,
+    units: &mut [Option<i64>; 64],
+) -> u8
+    requires few { count ≤ 64 }
+    requires small { first + count ≤ 2 ^ 32 }
+    ensures { (place : ℕ) → place < count → value_at result units.new place ≡ value_in numbers.now (first + place) }
+{
+    for place in 0..count {
+        units[place] = numbers.units_in(first + place);
+    }
+    numbers.scale()
+}
+
+/// Writes the values in a column, one after another.
+fn write_cells<S: ManyRows>(
     column: BlockColumn,
     sql_type: SqlType,
     rows: &S,

@@ -1,5 +1,5 @@
 -- The values in rows of a block's tables.
-use Rattle.std.proofs.Common.{◌≡◌, ◌∙◌, refl, ap, ℕ, zero, suc, ◌≤◌, List, [], ◌∷◌, length, get_or, Some, arith, ◌≢◌, sym, subst, ◌<◌, set, inl, inr}
+use Rattle.std.proofs.Common.{◌≡◌, ◌∙◌, refl, ap, ℕ, zero, suc, ◌≤◌, List, [], ◌∷◌, length, map, get_or, Some, arith, ◌≢◌, sym, subst, ◌<◌, set, inl, inr}
 use Rattle.std.specs.Prelude.{◌⊎◌}
 use Rattle.std.specs.List.{AllByRecursion}
 use Rattle.std.proofs.lemmas.List.{get_or-set_other, get_or-set_same}
@@ -26,6 +26,11 @@ row_ends width [] row column all h = refl
 row_ends width (r ∷ rs) zero column all h = let long = all.0 in past r column Null (omega (arith, long, h))
 row_ends width (r ∷ rs) (suc row) column all h = row_ends width rs row column all.1 h
 
+mapped_row : (column : ℕ) (rows : List Row) (row : ℕ) → get_or (map (λ r. get_or r column Null) rows) row Null ≡ get_or (get_or rows row []) column Null
+mapped_row column [] row = refl
+mapped_row column (r ∷ rs) zero = refl
+mapped_row column (r ∷ rs) (suc row) = mapped_row column rs row
+
 abbrev pub value_there : Database → Block → (table column row : ℕ) → Value
 value_there db block table column row = get_or (get_or (rows_in db block table) row []) column Null
 
@@ -36,6 +41,10 @@ module _ (db : Database) (block : Block) (table column row : ℕ) where
   module _ (t : Table) (is : table_at db block table ≡ Some t) where
     pub value_is : value_there db block table column row ≡ get_or (get_or t.rows row []) column Null
     value_is = ap (λ rows. get_or (get_or rows row []) column Null) (rows_are db block table t is)
+
+    -- a column of the table has the row's value in its place
+    pub column_is : (values : List Value) → values ≡ map (λ r. get_or r column Null) t.rows → get_or values row Null ≡ value_there db block table column row
+    column_is values same = ap (λ vs. get_or vs row Null) same ∙ mapped_row column t.rows row ∙ sym value_is
 
     pub none_without_row : length t.rows ≤ row → value_there db block table column row ≡ Null
     none_without_row h = value_is ∙ ap (λ (r : Row). get_or r column Null) (past t.rows row [] h)

@@ -1,6 +1,6 @@
 //! A block whose rows are read.
 
-ghost use Rattle.std.specs.Prelude.{◌≡◌, ◌≤◌, ◌<◌, [], IfOk, Some, get_or, length, map};
+ghost use Rattle.std.specs.Prelude.{ℕ, ◌≡◌, ◌≤◌, ◌<◌, [], IfOk, IfSome, Some, get_or, length, map};
 ghost use Rattle.std.specs.List.{AllByRecursion};
 ghost use Rattle.definitions.specs.Limits.{most_from_tables};
 ghost use Rattle.definitions.specs.Value.{Null};
@@ -9,6 +9,7 @@ ghost use Rattle.definitions.specs.Binding.Formed.{IsFormedSomewhere};
 ghost use Rattle.definitions.specs.Estimates.BlockTables.{index_columns, table_at};
 ghost use Rattle.definitions.specs.Queries.Conjuncts as queries;
 ghost use Rattle.sqlvalue.specs.Meaning.{value_of};
+ghost use Rattle.columns.specs.Starts.{value_in};
 ghost use Rattle.query_tree.specs.Bound.{block_of};
 ghost use Rattle.predicates.specs.Parts.{condition_in, AreConjunctsOf};
 ghost use Rattle.definitions_execution.specs.OfBlock.{index_run, rows_in};
@@ -16,6 +17,7 @@ ghost use Rattle.filters.specs.Inside.{AreTablesOf, tables_of};
 ghost use Rattle.filters.specs.Sources.{block_in, IsIndexOf};
 
 use catalog::{Database, Index, Table};
+use columns::{Column, NumberColumn};
 use definitions::indexes::run_is_one;
 use predicates::Conjunct;
 use query_tree::{Block, BlockColumn};
@@ -105,6 +107,24 @@ impl<'a> BlockSource<'a> {
         ensures { map condition_in result.now ≡ queries.conjuncts (block_in self.now) }
     {
         self.conjuncts.as_slice()
+    }
+
+    /// A column of numbers, in which each row has its value at its own place.
+    pub fn numbers(&self, column: BlockColumn) -> Option<&NumberColumn>
+        ensures { IfSome result (λ numbers. (row : ℕ) → value_in numbers.now row ≡ get_or (get_or (rows_in
+            self.now.database (block_in self.now) column.table) row []) column.number Null) }
+    {
+        if column.table >= self.table_count() {
+            return None;
+        }
+        let table = self.table(column.table);
+        if column.number >= table.width() {
+            return None;
+        }
+        match table.cells(column.number) {
+            Column::Numbers(numbers) => Some(numbers),
+            Column::Texts(_) => None,
+        }
     }
 
     /// The value of a row, by its number, in a column. Where there is none, it is null (own).

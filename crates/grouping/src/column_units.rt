@@ -1,14 +1,17 @@
 //! The units of a column's numbers in a batch of rows.
 
-ghost use Rattle.std.specs.Prelude.{◌≡◌, ◌≤◌, ◌<◌, true, false, All, FitsSigned, IfOk, IfSome, OnOk, Some, None, length, map};
+ghost use Rattle.std.specs.Prelude.{◌≡◌, ◌≤◌, ◌<◌, [], true, false, All, FitsSigned, IfOk, IfSome, OnOk, Some, None, length, map};
 ghost use Rattle.std.specs.Int.{w64};
 ghost use Rattle.definitions.specs.Limits.{greatest_scale};
+ghost use Rattle.definitions.specs.Value.{scale_of};
+ghost use Rattle.columns.specs.Starts.{value_in};
 ghost use Rattle.definitions.specs.Queries.Grouping.{taken};
 ghost use Rattle.query_tree.specs.Bound.{column_of};
 ghost use Rattle.grouping.specs.Batches.{AreHeld, AreUnitsOf};
 ghost use Rattle.grouping.specs.Units.{numbers_at};
 
 use crate::accumulator::is_null;
+use columns::NumberColumn;
 use query_tree::BlockColumn;
 use result_rows::{RowBatch, unit_of};
 use std::alloc::{AllocError, Global};
@@ -117,6 +120,45 @@ fn read_units<B: RowBatch>(
 {
     units.clear();
     units.reserve(rows.len())?;
+    match batch.numbers(column) {
+        Some(numbers) => {
+            add_numbers(numbers, rows, units)?;
+            Ok(numbers.scale() == scale)
+        }
+        None => add_cells(batch, column, scale, rows, units),
+    }
+}
+
+/// Adds the units of the numbers that some rows have in a column of numbers, nulls left out.
+fn add_numbers(numbers: &NumberColumn, rows: &[u32], units: &mut Vec<i64>) -> Result<(), AllocError>
+    requires empty { units.old.items ≡ [] }
+    ensures numbers { OnOk result (numbers_at (scale_of numbers.now.type) units.new.items
+        ≡ taken false (map (value_in numbers.now) rows.now)) }
+    ensures few { OnOk result (length units.new.items ≤ length rows.now) }
+    ensures ranged { OnOk result (All (FitsSigned w64) units.new.items) }
+{
+    'rows: for row in rows {
+        if let Some(unit) = numbers.units_in(*row as usize) {
+            units.push(unit)?;
+        }
+    }
+    Ok(())
+}
+
+/// Adds the same of any column, one value after another.
+fn add_cells<B: RowBatch>(
+    batch: &B,
+    column: BlockColumn,
+    scale: u8,
+    rows: &[u32],
+    units: &mut Vec<i64>,
+) -> Result<bool, AllocError>
+    requires empty { units.old.items ≡ [] }
+    ensures numbers { IfOk result (λ all. all ≡ true → numbers_at scale units.new.items
+        ≡ taken false (map (B.value_in batch.now (column_of column)) rows.now)) }
+    ensures few { OnOk result (length units.new.items ≤ length rows.now) }
+    ensures ranged { OnOk result (All (FitsSigned w64) units.new.items) }
+{
     'rows: for row in rows {
         let value = batch.cell(column, *row as usize);
         if !is_null(&value) {

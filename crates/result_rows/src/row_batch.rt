@@ -1,13 +1,15 @@
 //! The trait of rows that come many at a time.
 
-ghost use Rattle.std.specs.Prelude.{ℕ, List, ◌≡◌, ◌≤◌, ◌<◌, length, map};
+ghost use Rattle.std.specs.Prelude.{ℕ, List, ◌≡◌, ◌≤◌, ◌<◌, IfSome, length, map};
 ghost use Rattle.definitions.specs.Value.{Value};
 ghost use Rattle.definitions.specs.Plans.Order as order;
 ghost use Rattle.definitions.specs.Queries.Evaluation.{Environment};
 ghost use Rattle.query_tree.specs.Bound.{column_of};
 ghost use Rattle.sqlvalue.specs.Meaning.{value_of};
+ghost use Rattle.columns.specs.Starts.{value_in as number_in};
 ghost use Rattle.result_rows.specs.Batches.{column_values};
 
+use columns::NumberColumn;
 use query_tree::BlockColumn;
 use sqlvalue::Value;
 
@@ -33,6 +35,12 @@ pub trait RowBatch {
         ensures values { (column : order.BlockColumn) → column.table ≡ table →
             map (value_in self.now column) result.now ≡ column_values (environments self.now) column }
         ensures few { length result.now ≤ 1024 };
+
+    /// The column of numbers in which each of a table's rows has its value at its own place, where there is one: so many of them are read at
+    /// a time (own).
+    fn numbers(&self, column: BlockColumn) -> Option<&NumberColumn>
+        ensures { IfSome result (λ numbers. (row : ℕ) →
+            number_in numbers.now row ≡ value_in self.now (column_of column) row) };
 
     /// The value in a column of a table's row.
     fn cell(&self, column: BlockColumn, row: usize) -> Value<'_>

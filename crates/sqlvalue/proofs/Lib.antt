@@ -3,4 +3,5 @@ mod Calculating
 pub mod Likeness
 mod LikePatterns
 pub mod NumberKeys
+mod Operators
 mod Quotes

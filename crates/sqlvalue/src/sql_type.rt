@@ -107,9 +107,8 @@ impl SqlType {
 
     /// How many digits of its numbers stand behind the point; 0 for texts.
     pub fn scale(self) -> u8
-        requires { IsType (type_of self) }
         ensures value { result ≡ spec.scale_of (type_of self) }
-        ensures bound { result ≤ greatest_precision }
+        ensures bound { IsType (type_of self) → result ≤ greatest_precision }
     {
         match self {
             SqlType::Numeric { scale, .. } => scale,

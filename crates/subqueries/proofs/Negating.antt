@@ -3,7 +3,6 @@ use Rattle.std.proofs.Common.{◌≡◌, ◌∙◌, refl, ap, sym, List, [], ◌
 use Rattle.definitions.specs.Statement.{ComparisonOperator}
 use Rattle.definitions.specs.Truth.{Truth, False, Unknown, True, and, compared, compared_with_all, compared_with_any, opposite, or}
 use Rattle.definitions.specs.Value.{Value}
-use Rattle.subqueries.specs.Comparing.{IsNegated}
 
 both_or_either : (a b : Truth) → and a (opposite b) ≡ opposite (or (opposite a) b)
 both_or_either False False = refl
@@ -16,7 +15,7 @@ both_or_either True False = refl
 both_or_either True Unknown = refl
 both_or_either True True = refl
 
-pub all_by_any : (op other : ComparisonOperator) (v : Value) (ws : List Value) → IsNegated op other → opposite (compared_with_any other v ws) ≡ compared_with_all op v ws
+pub all_by_any : (op other : ComparisonOperator) (v : Value) (ws : List Value) → ((a b : Value) → compared other a b ≡ opposite (compared op a b)) → opposite (compared_with_any other v ws) ≡ compared_with_all op v ws
 all_by_any op other v [] negated = refl
 all_by_any op other v (w ∷ ws) negated =
     ap (λ t. opposite (or t (compared_with_any other v ws))) (negated v w) ∙ sym (both_or_either (compared op v w) (compared_with_any other v ws))

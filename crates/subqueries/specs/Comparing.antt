@@ -2,7 +2,7 @@
 use Rattle.std.specs.Prelude.{ℕ, ◌≡◌, List, Option, Some, Contains, map, slice_get, true}
 use Rattle.std.specs.declared.cmp.Ordering.{Ordering}
 use Rattle.definitions.specs.Statement.{ComparisonOperator}
-use Rattle.definitions.specs.Truth.{agrees, compared, opposite}
+use Rattle.definitions.specs.Truth.{agrees}
 use Rattle.definitions.specs.Value.{Value, compare}
 
 -- how it compares with each
@@ -19,7 +19,3 @@ HasOrderAt place order v values = slice_get (orders v values) place ≡ Some (So
 -- an operator asks for an order, and it compares so with one of them
 abbrev pub HasAgreeing : ComparisonOperator → Ordering → Value → List Value → Type 0
 HasAgreeing op order v values = (agrees op order ≡ true) × HasOrder order v values
-
--- a comparison by one operator is as true as that by the other is false
-abbrev pub IsNegated : ComparisonOperator → ComparisonOperator → Type 0
-IsNegated op other = (v w : Value) → compared other v w ≡ opposite (compared op v w)

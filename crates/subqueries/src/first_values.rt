@@ -12,7 +12,7 @@ ghost use Rattle.sqlvalue.specs.Meaning.{op_of, value_of};
 ghost use Rattle.sqlvalue.specs.Owned.{owned_value};
 ghost use Rattle.sqlvalue.specs.Truths.{truth_of};
 ghost use Rattle.parse_tree.specs.Trees.{quantifier_of};
-ghost use Rattle.subqueries.specs.Comparing.{HasAgreeing, HasOrder, HasOrderAt, IsNegated};
+ghost use Rattle.subqueries.specs.Comparing.{HasAgreeing, HasOrder, HasOrderAt};
 ghost use Rattle.subqueries.specs.NumberKeys.{AreKeys};
 
 use crate::memory::{bytes_of, bytes_of_values};
@@ -80,7 +80,7 @@ impl FirstValues {
             (values_in self.now) }
     {
         match quantifier {
-            Quantifier::All => self.with_any(negated(op), value).not(),
+            Quantifier::All => self.with_any(op.negated(), value).not(),
             Quantifier::Any => self.with_any(op, value),
         }
     }
@@ -209,18 +209,4 @@ fn is_comparable(own: &OwnedValue, value: &Value) -> bool
     ensures { result ≡ is_some (spec.compare (value_of value.now) (owned_value own.now)) }
 {
     compare(value, &own.value()).is_some()
-}
-
-/// The operator that is true where another is false (ISO/IEC 9075:1992, 8.2).
-fn negated(op: ComparisonOperator) -> ComparisonOperator
-    ensures { IsNegated (op_of op) (op_of result) }
-{
-    match op {
-        ComparisonOperator::Equals => ComparisonOperator::NotEquals,
-        ComparisonOperator::NotEquals => ComparisonOperator::Equals,
-        ComparisonOperator::LessThan => ComparisonOperator::GreaterOrEquals,
-        ComparisonOperator::GreaterThan => ComparisonOperator::LessOrEquals,
-        ComparisonOperator::LessOrEquals => ComparisonOperator::GreaterThan,
-        ComparisonOperator::GreaterOrEquals => ComparisonOperator::LessThan,
-    }
 }

@@ -31,7 +31,7 @@ use Rattle.filters.specs.Sources.{block_in, context_in, BlockSource}
 use Rattle.subqueries.specs.Keeping.{told_by}
 use Rattle.subqueries.specs.declared.kept_results.KeptResults.{KeptResults}
 use Rattle.told_tests.specs.LateTests.{are_true_at, raised_at}
-use Rattle.told_tests.specs.ToldTests.{is_unless, passes, ComparesWith, IsComparedWith, IsTestOf, IsTestOfAll, IsTestedAs, ListsValues}
+use Rattle.told_tests.specs.ToldTests.{is_unless, passes, ComparesWith, IsTestOf, IsTestOfAll, IsTestedAs, ListsValues}
 use Rattle.told_tests.specs.declared.told_test.ToldTest.{ToldTest}
 
 -- ---- what was told
@@ -75,10 +75,6 @@ pub compares_at : (op : ComparisonOperator) (factor units own : ℤ) (m n : ℕ)
     → (unit : ℤ) → agrees op (int_cmp (unit *ℤ factor) units) ≡ agrees op (number_cmp unit m own n)
 compares_at op factor units own m n f u unit = ap (agrees op) (ap₂ (λ x y. int_cmp (unit *ℤ x) y) f u ∙ common_scale unit own m n)
 
-pub turned_at : (op : ComparisonOperator) (factor units own : ℤ) (m n : ℕ) → factor ≡ pos (10 ^ (n - m)) → units ≡ own *ℤ pos (10 ^ (m - n))
-    → (unit : ℤ) → agrees op (int_cmp units (unit *ℤ factor)) ≡ agrees op (number_cmp own n unit m)
-turned_at op factor units own m n f u unit = ap (agrees op) (ap₂ (λ x y. int_cmp y (unit *ℤ x)) f u ∙ common_scale own unit n m)
-
 module _ (told : ℕ → Result (List Value) Raise) (block : ℕ) where
   -- a condition compares what is in the test's column with a number
   abbrev Means : Condition → ToldTest → (code.ComparisonOperator × Num) → Type 0
@@ -106,18 +102,21 @@ module _ (told : ℕ → Result (List Value) Raise) (block : ℕ) where
       → truth (told_environment env told) (Compare op (Subquery block type) (Column column own)) ≡ Is (compared op v (cell env.combination column))
   turned_means type env op column own v e = ap (λ (r : Result (List Value) Raise). on_two (compared op) (and_then only_value (meaning_told r)) (Is (cell env.combination column))) e
 
-  pub is_turned_test : (type : ValueType) (test : ToldTest) (column : BlockColumn) (own : SqlType) (digits : ℕ) (op : code.ComparisonOperator) (number : Num) → told block ≡ Ok (number_of number ∷ []) → IsComparedWith column digits op number test
-      → IsTestOf told test (Compare (op_of op) (Subquery block type) (Column (column_of column) own))
-  is_turned_test type test column own digits op number e h = record {
-    number = λ env unit there.
-        let value_is : cell env.combination (column_of column) ≡ Number unit digits = ap (λ c. cell env.combination (column_of c)) (sym h.column) ∙ there ∙ ap (Number unit) h.scale in
-        turned_means type env (op_of op) (column_of column) own (number_of number) e ∙ ap (λ v. Is (compared (op_of op) (number_of number) v)) value_is
-        ∙ ap (λ b. Is (known b)) (sym (h.compares unit));
-    null = λ env there.
-        let value_is : cell env.combination (column_of column) ≡ Null = ap (λ c. cell env.combination (column_of c)) (sym h.column) ∙ there in
-        turned_means type env (op_of op) (column_of column) own (number_of number) e ∙ ap (λ v. Is (compared (op_of op) (number_of number) v)) value_is;
-    compares = subst (λ asked. IfSome asked (Means (Compare (op_of op) (Subquery block type) (Column (column_of column) own)) test)) (sym h.comparison) tt;
-  }
+  pub is_turned_test : (type : ValueType) (test : ToldTest) (column : BlockColumn) (own : SqlType) (digits : ℕ) (op turned : code.ComparisonOperator) (number : Num) → told block ≡ Ok (number_of number ∷ [])
+      → ((a b : Value) → compared (op_of turned) a b ≡ compared (op_of op) b a) → ComparesWith column digits turned number test → IsTestOf told test (Compare (op_of op) (Subquery block type) (Column (column_of column) own))
+  is_turned_test type test column own digits op turned number e law h =
+      let is = is_test type test column own digits turned number e h in
+      let asked : Condition = Compare (op_of op) (Subquery block type) (Column (column_of column) own) in
+      let other : Condition = Compare (op_of turned) (Column (column_of column) own) (Subquery block type) in
+      let alike : (env : Environment) → truth (told_environment env told) asked ≡ truth (told_environment env told) other = λ env.
+      turned_means type env (op_of op) (column_of column) own (number_of number) e ∙ ap Is (sym (law (cell env.combination (column_of column)) (number_of number)))
+      ∙ sym (compare_means type env (op_of turned) (column_of column) own (number_of number) e) in
+      let compares : Means other test (turned, number) = subst (λ found. IfSome found (Means other test)) h.comparison is.compares in
+      record {
+        number = λ env unit there. alike env ∙ is.number env unit there;
+        null = λ env there. alike env ∙ is.null env there;
+        compares = subst (λ found. IfSome found (Means asked test)) (sym h.comparison) (λ env. alike env ∙ compares env);
+      }
 
   in_means : (env : Environment) (negated : Bool) (column : order.BlockColumn) (own : SqlType) (values : List Value) → told block ≡ Ok values
       → truth (told_environment env told) (InQuery negated (Column column own) block) ≡ Is (unless negated (compared_with_any Equals (cell env.combination column) values))

@@ -32,7 +32,6 @@ is_unless false b = b
 
 abbrev pub meets : Asked → ℤ → Bool
 meets (a.Compared op factor units number) unit = agrees (op_of op) (int_cmp (unit *ℤ factor) units)
-meets (a.Turned op factor units) unit = agrees (op_of op) (int_cmp units (unit *ℤ factor))
 meets (a.Listed negated units) unit = is_unless negated (has units unit)
 
 -- a number of so many units, at the test's scale, passes it
@@ -42,7 +41,6 @@ passes test unit = meets test.asked unit
 -- the operator and the number of a comparison that has the column on its left
 abbrev pub comparison_of : Asked → Option (ComparisonOperator × Num)
 comparison_of (a.Compared op factor units number) = Some (op, number)
-comparison_of (a.Turned op factor units) = None
 comparison_of (a.Listed negated units) = None
 
 -- where a number of the test's scale is in its column, a condition is as true as the test tells, by what was told of its
@@ -70,15 +68,6 @@ pub record ComparesWith (own : BlockColumn) (digits : ℕ) (op : ComparisonOpera
   pub compares : (unit : ℤ)
       → passes test unit ≡ agrees (op_of op) (number_cmp unit digits number.units number.scale)
   pub comparison : comparison_of test.asked ≡ Some (op, number)
-
--- or of a number with them
-pub record IsComparedWith (own : BlockColumn) (digits : ℕ) (op : ComparisonOperator) (number : Num) (test : ToldTest)
-    : Type 0 where
-  pub column : test.column ≡ own
-  pub scale : test.scale ≡ digits
-  pub compares : (unit : ℤ)
-      → passes test unit ≡ agrees (op_of op) (number_cmp number.units number.scale unit digits)
-  pub comparison : comparison_of test.asked ≡ None
 
 -- by a factor units of a scale stand for the same number at a scale that a number's units are brought to
 pub record IsScaledTo (digits : ℕ) (number : Num) (scaled : Scaled) : Type 0 where

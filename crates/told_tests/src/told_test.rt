@@ -1,21 +1,26 @@
 //! Late conjuncts that compare a column with what was told of a subquery, as tests of numbers.
 
-ghost use Rattle.std.specs.Prelude.{◌≡◌, ◌≤◌, ◌^◌, ◌<◌, ◌∷◌, [], All, IfOk, IfSome, Ok, OnSome, filter, get_or, length, map, pos, take};
+ghost use Rattle.std.specs.Prelude.{ℕ, ◌≡◌, ◌≤◌, ◌^◌, ◌<◌, ◌∷◌, [], All, IfOk, IfSome, Ok, OnSome, filter, get_or, length, map, pos, take};
 ghost use Rattle.definitions.specs.Queries.BoundBlock as spec;
-ghost use Rattle.sqlvalue.specs.Meaning.{number_of, op_of, value_of as meaning_of};
+ghost use Rattle.sqlvalue.specs.Meaning.{number_of, op_of};
 ghost use Rattle.sqlvalue.specs.Owned.{owned_value};
+ghost use Rattle.definitions.specs.Value.{scale_of, Null, SqlType};
+ghost use Rattle.definitions_execution.specs.OfBlock.{rows_in};
+ghost use Rattle.filters.specs.Sources.{block_in};
+ghost use Rattle.columns.specs.Cells.{number_or_null};
+ghost use Rattle.columns.specs.Starts.{value_in};
 ghost use Rattle.query_tree.specs.Bound.{condition_of, value_of};
 ghost use Rattle.subqueries.specs.Keeping.{told_by};
 ghost use Rattle.block_answers.specs.Views.{conditions_of};
-ghost use Rattle.told_tests.specs.ToldTests.{is_unless, passes, passes_at, AreWhereTrue, ComparesWith, IsComparedWith, IsScaledTo, IsTested, IsTestOf, IsTestOfAll, IsTestedAs, ListsValues, RaisesOnNone, TellsOf};
+ghost use Rattle.told_tests.specs.ToldTests.{is_unless, passes, passes_at, AreWhereTrue, ComparesWith, IsScaledTo, IsTested, IsTestOf, IsTestOfAll, IsTestedAs, ListsValues, RaisesOnNone, TellsOf};
 
 use crate::run_scan::scan_places;
 use crate::unit_set::UnitSet;
+use columns::NumberColumn;
 use filters::BlockSource;
 use query_tree::{BlockColumn, Condition, ValueExpr};
-use result_rows::unit_of;
 use scans::Batch;
-use sqlvalue::{ComparisonOperator, Num, OwnedValue, SqlType, Value};
+use sqlvalue::{ComparisonOperator, Num, OwnedValue};
 use std::alloc::Global;
 use subqueries::KeptResults;
 
@@ -27,8 +32,8 @@ pub struct ToldTest {
     asked: Asked,
 }
 
-/// What is asked of the units of a number: that by a factor they compare with others, which are those of a number; or others with them; or that
-/// they are among others, or not (own).
+/// What is asked of the units of a number: that by a factor they compare with others, which are those of a number; or that they are
+/// among others, or not (own).
 #[derive(Drop)]
 enum Asked {
     Compared {
@@ -36,11 +41,6 @@ enum Asked {
         factor: i64,
         units: i64,
         number: Num,
-    },
-    Turned {
-        op: ComparisonOperator,
-        factor: i64,
-        units: i64,
     },
     Listed {
         negated: bool,
@@ -87,11 +87,11 @@ fn comparison_test(
     match (left, right) {
         (ValueExpr::Column { column, sql_type }, ValueExpr::Subquery { block, .. }) => {
             let number = told_number(results, *block)?;
-            number_test(*column, scale_of(*sql_type), op, number)
+            number_test(*column, sql_type.scale(), op, number)
         }
         (ValueExpr::Subquery { block, .. }, ValueExpr::Column { column, sql_type }) => {
             let number = told_number(results, *block)?;
-            turned_test(*column, scale_of(*sql_type), op, number)
+            number_test(*column, sql_type.scale(), op.turned(), number)
         }
         _ => None,
     }
@@ -110,7 +110,7 @@ fn membership_test(
 {
     match (value, told_values(results, block)) {
         (ValueExpr::Column { column, sql_type }, Some(values)) => {
-            list_test(alloc, *column, scale_of(*sql_type), negated, values)
+            list_test(alloc, *column, sql_type.scale(), negated, values)
         }
         _ => None,
     }
@@ -153,23 +153,6 @@ fn number_test(
             units,
             number,
         },
-    })
-}
-
-/// The test of a comparison of a number with a column's numbers of a scale, if all that it takes fits 64 bits.
-fn turned_test(
-    column: BlockColumn,
-    scale: u8,
-    op: ComparisonOperator,
-    number: Num,
-) -> Option<ToldTest>
-    ensures { IfSome result (IsComparedWith column scale op number) }
-{
-    let Scaled { factor, units } = to_common_scale(scale, number)?;
-    Some(ToldTest {
-        column,
-        scale,
-        asked: Asked::Turned { op, factor, units },
     })
 }
 
@@ -237,14 +220,6 @@ fn only_number(values: &[OwnedValue]) -> Option<Num>
     }
 }
 
-/// How many digits of a type's numbers stand behind the point.
-fn scale_of(sql_type: SqlType) -> u8 {
-    match sql_type {
-        SqlType::Numeric { scale, .. } => scale,
-        SqlType::Smallint | SqlType::Integer | SqlType::Char { .. } => 0,
-    }
-}
-
 impl ToldTest {
     /// Writes the places of those composites of a batch that pass to the beginning of a slice, and tells how many, where that is found for all of
     /// them together: the conjuncts that it is a test of are true on these, and nothing is raised.
@@ -287,6 +262,7 @@ impl ToldTest {
             ≡ filter (passes_at source.now self.now) batch.now.items) }
         ensures tested { OnSome result (All (IsTested source.now self.now) batch.now.items) }
     {
+        let numbers = self.numbers(source)?;
         // It is not so, but a look is less than to carry that along.
         if self.column.table >= batch.width() {
             return None;
@@ -296,7 +272,7 @@ impl ToldTest {
         let rows = batch.column(self.column.table);
         let mut count: usize = 0;
         'rows: for place in 0..rows.len() {
-            let passed = self.tells_of(&source.cell(self.column, rows[place] as usize))?;
+            let passed = self.tells_of_units(numbers.units_in(rows[place] as usize))?;
             places[count] = place as u32;
             count += usize::from(passed);
         }
@@ -308,21 +284,38 @@ impl ToldTest {
         requires { place < length batch.now.items }
         ensures { IfSome result (IsTestedAs source.now (get_or batch.now.items place []) self.now) }
     {
+        let numbers = self.numbers(source)?;
         // It is not so, but a look is less than to carry that along.
         if self.column.table >= batch.width() {
             return None;
         }
         let row = batch.column(self.column.table)[place];
-        self.tells_of(&source.cell(self.column, row as usize))
+        self.tells_of_units(numbers.units_in(row as usize))
     }
 
-    /// Whether a value passes, where that is a number of the test's scale, which is not too great, or null, which doesn't.
-    fn tells_of(&self, value: &Value) -> Option<bool>
-        ensures { IfSome result (TellsOf self.now (meaning_of value.now)) }
+    /// The column that is asked, where it has numbers of the test's scale.
+    fn numbers<'b>(&self, source: &'b BlockSource<'_>) -> Option<&'b NumberColumn>
+        ensures scale { IfSome result (λ numbers. scale_of numbers.now.type ≡ self.now.scale) }
+        ensures values { IfSome result (λ numbers. (row : ℕ) → value_in numbers.now row ≡ get_or (get_or (rows_in
+            source.now.database (block_in source.now) self.now.column.table) row []) self.now.column.number Null) }
     {
-        match value {
-            Value::Null => Some(false),
-            _ => self.passes(unit_of(value, self.scale)?),
+        let numbers = source.numbers(self.column)?;
+        if numbers.scale() == self.scale {
+            Some(numbers)
+        } else {
+            None
+        }
+    }
+
+    /// Whether a number of so many units passes, if that is not too great; none stands for null, which doesn't.
+    #[inline]
+    fn tells_of_units(&self, units: Option<i64>) -> Option<bool>
+        ensures { (sql_type : SqlType) → scale_of sql_type ≡ self.now.scale →
+            IfSome result (TellsOf self.now (number_or_null sql_type units)) }
+    {
+        match units {
+            None => Some(false),
+            Some(unit) => self.passes(unit),
         }
     }
 
@@ -337,9 +330,6 @@ impl ToldTest {
                 units,
                 ..
             } => Some(op.agrees(unit.checked_mul(*factor)?.cmp(units))),
-            Asked::Turned { op, factor, units } => {
-                Some(op.agrees(units.cmp(&unit.checked_mul(*factor)?)))
-            }
             Asked::Listed { negated, units } => Some(is_unless(*negated, units.has(unit))),
         }
     }

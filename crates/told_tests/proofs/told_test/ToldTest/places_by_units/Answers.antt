@@ -6,7 +6,8 @@ use Rattle.definitions.specs.Queries.Evaluation.{cell}
 use Rattle.definitions_execution.specs.OfBlock.{combination_of}
 use Rattle.definitions_execution.specs.Stored.{row_number, Composite}
 use Rattle.filters.specs.Sources.{block_in}
-use Rattle.sqlvalue.specs.Meaning.{value_of}
+use Rattle.definitions.specs.Value.{Value}
+use Rattle.columns.specs.Cells.{number_or_null}
 use Rattle.query_tree.specs.Bound.{column_of}
 use Rattle.told_tests.specs.ToldTests.{passes_at, IsTested, IsTestedAs, TellsOf}
 use Rattle.told_tests.proofs.PassingPlaces.{at_most_one, holds_more, inside_more, passing_more}
@@ -28,8 +29,11 @@ rows-preserved c =
     let long : length c.column-rows.result.now ≡ length items = ap length c.column-rows.ensures ∙ length-map items (λ (k : Composite). row_number k column.table) in
     let within : place < length items = omega (arith, c.rows-test.true, long) in
     let room : count < length places = omega (arith, c.rows.invariant.few, c.rows.invariant.room, within, c.len-len.ensures.exact, c.len-len.ensures.few) in
-    let value = value_at_place source column items place within c.column-rows.result.now c.column-rows.ensures (value_of c.cell.result) c.cell.ensures in
-    let told : IsTestedAs source composite test passed = subst (λ v. TellsOf test v passed) (sym value) c.in_ok-passed.ensures in
+    let numbers = c.in_ok-numbers.numbers.now in
+    let row = get_or c.column-rows.result.now place 0 in
+    let own : Value = number_or_null numbers.type c.units_in.result in
+    let value = value_at_place source column items place within c.column-rows.result.now c.column-rows.ensures own (c.units_in.ensures.value ∙ c.in_ok-numbers.ensures.values row) in
+    let told : IsTestedAs source composite test passed = subst (λ v. TellsOf test v passed) (sym value) (c.in_ok-passed.ensures numbers.type c.in_ok-numbers.ensures.scale) in
     let truth : passed ≡ passes_at source test composite = told_value test (cell (combination_of source.database (block_in source) composite) column) passed told in
     let is : c.from-count.result ≡ from_bool passed = c.from-count.ensures in
     let one = at_most_one passed in

@@ -4,7 +4,7 @@ use Rattle.definitions.specs.Value.{rank, Null}
 use Rattle.definitions_execution.specs.OfBlock.{rows_in}
 use Rattle.sqlvalue.specs.Meaning.{value_of}
 use Rattle.filters.specs.Sources.{block_in}
-use Rattle.block_answers.proofs.run_end.value_end.Given as goal
+use Rattle.block_answers.proofs.run_end.cell_end.Given as goal
 
 -- those so far have it
 abbrev pub invariant-places : goal.invariant-places

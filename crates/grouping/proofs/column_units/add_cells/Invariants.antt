@@ -4,7 +4,7 @@ use Rattle.std.specs.Int.{w64}
 use Rattle.definitions.specs.Queries.Grouping.{taken}
 use Rattle.query_tree.specs.Bound.{column_of}
 use Rattle.grouping.specs.Units.{numbers_at}
-use Rattle.grouping.proofs.column_units.read_units.Given as goal
+use Rattle.grouping.proofs.column_units.add_cells.Given as goal
 
 -- the numbers so far, and those to come, are all
 abbrev pub invariant-rows : goal.invariant-rows

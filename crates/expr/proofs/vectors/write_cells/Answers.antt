@@ -5,7 +5,7 @@ use Rattle.definitions.specs.Queries.Evaluation as meaning
 use Rattle.query_tree.specs.Bound.{column_of}
 use Rattle.expr.specs.Vectors.{of_units}
 use Rattle.expr.proofs.Places.{one_more_place}
-use Rattle.expr.proofs.vectors.write_column.Goals as goal
+use Rattle.expr.proofs.vectors.write_cells.Goals as goal
 
 pub loop-place-preserved : goal.loop-place-preserved
 loop-place-preserved g c =

@@ -2,7 +2,7 @@ use Rattle.std.proofs.Common.{ℕ, ◌≡◌, ◌+◌, ◌<◌, length}
 use Rattle.definitions.specs.Queries.Evaluation as meaning
 use Rattle.query_tree.specs.Bound.{column_of}
 use Rattle.expr.specs.Vectors.{value_at}
-use Rattle.expr.proofs.vectors.write_column.Given as goal
+use Rattle.expr.proofs.vectors.write_cells.Given as goal
 
 -- the places before one have their values
 abbrev pub invariant-loop-place : goal.invariant-loop-place
