@@ -8,5 +8,6 @@ mod Columns
 mod RowsOneByOne
 pub mod Faults
 mod Batches
+mod UnitLines
 pub mod Repeats
 mod DistinctOnce

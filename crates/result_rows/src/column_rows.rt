@@ -10,11 +10,13 @@ ghost use Rattle.definitions.specs.Arithmetic.{Is};
 ghost use Rattle.query_tree.specs.Bound.{value_of};
 ghost use Rattle.sqlvalue.specs.Meaning as sql;
 ghost use Rattle.definitions_answers.specs.Lines.{IsInBounds};
-ghost use Rattle.result_rows.specs.Batches.{rows_in, GivesColumnOf, IsColumnOf};
+ghost use Rattle.result_rows.specs.Batches.{rows_in, rows_of_column, GivesColumnOf, IsColumnOf};
 ghost use Rattle.result_rows.specs.RowAt.{items_of, row_in};
 
 use crate::row_batch::RowBatch;
 use crate::seen_units::unit_of;
+use crate::unit_lines;
+use columns::NumberColumn;
 use query_tree::{Item, ValueExpr};
 use sqlvalue::{Value, write_value};
 use std::alloc::AllocError;
@@ -51,10 +53,32 @@ pub(crate) fn write_rows<B: RowBatch>(
     ensures { OnOk result (out.new.items
         ≡ out.old.items ++ flat_map row_line (rows_in (items_of items.now) (B.environments batch.now))) }
 {
+    if let Some((numbers, rows)) = only_numbers(items, batch) {
+        return unit_lines::write_column(out, numbers, rows);
+    }
     'places: for place in 0..batch.len() {
         write_columns(out, items, batch, place)?;
     }
     Ok(())
+}
+
+/// The column of numbers that alone is printed, where a batch lends it, and which of its rows are.
+fn only_numbers<'a, B: RowBatch>(
+    items: &[Item],
+    batch: &'a B,
+) -> Option<(&'a NumberColumn, &'a [u32])>
+    requires { AllByRecursion (GivesColumnOf (B.width batch.now)) (items_of items.now) }
+    ensures { IfSome result (λ lent. rows_of_column lent.0.now lent.1.now
+        ≡ rows_in (items_of items.now) (B.environments batch.now)) }
+{
+    let [item] = items else {
+        return None;
+    };
+    let ValueExpr::Column { column, .. } = &item.value else {
+        return None;
+    };
+    let numbers = batch.numbers(*column)?;
+    Some((numbers, batch.rows(column.table)))
 }
 
 /// The row at a place of a batch.

@@ -3,7 +3,7 @@
 //!
 //! In reading order: `fault`; `row`, the values of a row, and `lines`, each once; `seen_units`, numbers that came before;
 //! `printed_rows`, `distinct_rows`, `ordered_rows`, `first_value_rows` and `any_row`, what is kept; `row_batch`, rows that come many at a
-//! time, and `column_rows`, where their columns are columns of tables; `row_store`, any of them; `result_rows`, rows until one raises.
+//! time, and `column_rows`, where their columns are columns of tables, and `unit_lines`, where one is all; `row_store`, any of them; `result_rows`, rows until one raises.
 #![tactic(auto)]
 
 mod any_row;
@@ -20,6 +20,7 @@ mod row;
 mod row_batch;
 mod row_store;
 mod seen_units;
+mod unit_lines;
 
 pub use any_row::AnyRow;
 pub use column_rows::are_columns_of;

@@ -1,0 +1,99 @@
+//! Lines of rows that have only the number of a column.
+
+ghost use Rattle.std.specs.Prelude.{◌≡◌, ◌≤◌, ◌∷◌, [], ◌++◌, OnOk, flat_map, length, map};
+ghost use Rattle.definitions.specs.Limits.{greatest_scale};
+ghost use Rattle.definitions.specs.Printing.{row_line};
+ghost use Rattle.definitions.specs.Value.{IsType, Number};
+ghost use Rattle.sqlvalue.specs.Meaning.{type_of};
+ghost use Rattle.columns.specs.Cells.{number_or_null};
+ghost use Rattle.columns.specs.Starts.{value_in};
+ghost use Rattle.result_rows.specs.Batches.{rows_of_column, rows_of_units};
+
+use columns::NumberColumn;
+use itoa::Buffer;
+use sqlvalue::{Num, SqlType, Value, write_value};
+use std::alloc::AllocError;
+
+/// How many rows' numbers are read before the first of them is printed: so many reads wait for memory side by side (own).
+const PART_ROWS: usize = 64;
+
+/// A line for each of some rows of a column.
+pub(crate) fn write_column(
+    out: &mut Vec<u8>,
+    numbers: &NumberColumn,
+    rows: &[u32],
+) -> Result<(), AllocError>
+    ensures { OnOk result (out.new.items ≡ out.old.items ++ flat_map row_line (rows_of_column numbers.now rows.now)) }
+{
+    let mut rest = rows;
+    'parts: while !rest.is_empty() {
+        let (part, behind) = rest.split_at(rest.len().min(PART_ROWS));
+        write_part(out, numbers, part)?;
+        rest = behind;
+    }
+    Ok(())
+}
+
+/// The same for no more rows than are read at a time.
+fn write_part(out: &mut Vec<u8>, numbers: &NumberColumn, rows: &[u32]) -> Result<(), AllocError>
+    requires { length rows.now ≤ 64 }
+    ensures { OnOk result (out.new.items ≡ out.old.items ++ flat_map row_line (rows_of_column numbers.now rows.now)) }
+{
+    let mut room = [None; PART_ROWS];
+    let units = &mut room[..rows.len()];
+    read_units(units, numbers, rows);
+    write_lines(out, units, numbers.sql_type())
+}
+
+/// Reads the units in some rows of a column.
+fn read_units(units: &mut [Option<i64>], numbers: &NumberColumn, rows: &[u32])
+    requires { length units.old ≡ length rows.now }
+    ensures { map (number_or_null numbers.now.type) units.new ≡ map (value_in numbers.now) rows.now }
+{
+    'rows: for i in 0..rows.len() {
+        units[i] = numbers.units_in(rows[i] as usize);
+    }
+}
+
+/// A line for each of some units of a type.
+fn write_lines(
+    out: &mut Vec<u8>,
+    units: &[Option<i64>],
+    sql_type: SqlType,
+) -> Result<(), AllocError>
+    requires { IsType (type_of sql_type) }
+    ensures { OnOk result (out.new.items
+        ≡ out.old.items ++ flat_map row_line (rows_of_units (type_of sql_type) units.now)) }
+{
+    'units: for unit in units {
+        write_line(out, *unit, sql_type)?;
+    }
+    Ok(())
+}
+
+/// The line of units of a type, or of null.
+fn write_line(out: &mut Vec<u8>, units: Option<i64>, sql_type: SqlType) -> Result<(), AllocError>
+    requires { IsType (type_of sql_type) }
+    ensures { OnOk result (out.new.items ≡ out.old.items ++ row_line (number_or_null (type_of sql_type) units ∷ [])) }
+{
+    match units {
+        Some(units) => write_number(out, units, sql_type.scale()),
+        None => out.extend_from_slice(b"NULL\n"),
+    }
+}
+
+/// The line of a number of 64 bits. One without digits behind the point is printed at once.
+fn write_number(out: &mut Vec<u8>, units: i64, scale: u8) -> Result<(), AllocError>
+    requires { scale ≤ greatest_scale }
+    ensures { OnOk result (out.new.items ≡ out.old.items ++ row_line (Number units scale ∷ [])) }
+{
+    if scale == 0 {
+        let mut buffer = Buffer::new();
+        out.extend_from_slice(buffer.format(units).as_bytes())?;
+    } else {
+        let units = i128::from(units);
+        write_value(out, &Value::Num(Num { units, scale }))?;
+    }
+    out.push(b'\n')?;
+    Ok(())
+}
