@@ -1,9 +1,8 @@
 //! Lines of rows that have only the number of a column.
 
-ghost use Rattle.std.specs.Prelude.{◌≡◌, ◌≤◌, ◌∷◌, [], ◌++◌, OnOk, flat_map, length, map};
-ghost use Rattle.definitions.specs.Limits.{greatest_scale};
-ghost use Rattle.definitions.specs.Printing.{row_line};
-ghost use Rattle.definitions.specs.Value.{IsType, Number};
+ghost use Rattle.std.specs.Prelude.{◌≡◌, ◌≤◌, ◌<◌, ◌^◌, ◌∷◌, [], ◌++◌, OnOk, flat_map, length, map};
+ghost use Rattle.definitions.specs.Printing.{fraction_text, number_text, row_line};
+ghost use Rattle.definitions.specs.Value.{IsType, scale_of};
 ghost use Rattle.sqlvalue.specs.Meaning.{type_of};
 ghost use Rattle.columns.specs.Cells.{number_or_null};
 ghost use Rattle.columns.specs.Starts.{value_in};
@@ -11,7 +10,7 @@ ghost use Rattle.result_rows.specs.Batches.{rows_of_column, rows_of_units};
 
 use columns::NumberColumn;
 use itoa::Buffer;
-use sqlvalue::{Num, SqlType, Value, write_value};
+use sqlvalue::SqlType;
 use std::alloc::AllocError;
 
 /// How many rows' numbers are read before the first of them is printed: so many reads wait for memory side by side (own).
@@ -65,35 +64,58 @@ fn write_lines(
     ensures { OnOk result (out.new.items
         ≡ out.old.items ++ flat_map row_line (rows_of_units (type_of sql_type) units.now)) }
 {
+    let one = 10u64.pow(u32::from(sql_type.scale()));
     'units: for unit in units {
-        write_line(out, *unit, sql_type)?;
+        write_line(out, *unit, sql_type, one)?;
     }
     Ok(())
 }
 
-/// The line of units of a type, or of null.
-fn write_line(out: &mut Vec<u8>, units: Option<i64>, sql_type: SqlType) -> Result<(), AllocError>
-    requires { IsType (type_of sql_type) }
+/// The line of units of a type, of which so many are one, or of null.
+fn write_line(
+    out: &mut Vec<u8>,
+    units: Option<i64>,
+    sql_type: SqlType,
+    one: u64,
+) -> Result<(), AllocError>
+    requires { one ≡ 10 ^ scale_of (type_of sql_type) }
     ensures { OnOk result (out.new.items ≡ out.old.items ++ row_line (number_or_null (type_of sql_type) units ∷ [])) }
 {
     match units {
-        Some(units) => write_number(out, units, sql_type.scale()),
-        None => out.extend_from_slice(b"NULL\n"),
-    }
-}
-
-/// The line of a number of 64 bits. One without digits behind the point is printed at once.
-fn write_number(out: &mut Vec<u8>, units: i64, scale: u8) -> Result<(), AllocError>
-    requires { scale ≤ greatest_scale }
-    ensures { OnOk result (out.new.items ≡ out.old.items ++ row_line (Number units scale ∷ [])) }
-{
-    if scale == 0 {
-        let mut buffer = Buffer::new();
-        out.extend_from_slice(buffer.format(units).as_bytes())?;
-    } else {
-        let units = i128::from(units);
-        write_value(out, &Value::Num(Num { units, scale }))?;
+        Some(units) => write_number(out, units, sql_type.scale(), one)?,
+        None => out.extend_from_slice(b"NULL")?,
     }
     out.push(b'\n')?;
     Ok(())
+}
+
+/// A number of 64 bits, at a scale of which so many units are one.
+fn write_number(out: &mut Vec<u8>, units: i64, scale: u8, one: u64) -> Result<(), AllocError>
+    requires { one ≡ 10 ^ scale }
+    ensures { OnOk result (out.new.items ≡ out.old.items ++ number_text units scale) }
+{
+    let mut buffer = Buffer::new();
+    if scale == 0 {
+        return out.extend_from_slice(buffer.format(units).as_bytes());
+    }
+    if units < 0 {
+        out.extend_from_slice(b"-")?;
+    }
+    let size = units.unsigned_abs();
+    out.extend_from_slice(buffer.format(size / one).as_bytes())?;
+    write_fraction(out, size % one, scale)
+}
+
+/// The digits behind the point, of which there are some.
+fn write_fraction(out: &mut Vec<u8>, rest: u64, scale: u8) -> Result<(), AllocError>
+    requires { 0 < scale }
+    ensures { OnOk result (out.new.items ≡ out.old.items ++ fraction_text scale rest) }
+{
+    let mut buffer = Buffer::new();
+    let digits = buffer.format(rest).as_bytes();
+    out.extend_from_slice(b".")?;
+    'zeros: for _zero in 0..usize::from(scale).saturating_sub(digits.len()) {
+        out.extend_from_slice(b"0")?;
+    }
+    out.extend_from_slice(digits)
 }
