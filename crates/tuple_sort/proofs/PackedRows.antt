@@ -1,8 +1,8 @@
 -- Composites packed and unpacked.
-use Rattle.std.proofs.Common.{◌≡◌, ◌∙◌, refl, sym, ap, ap₂, subst, ◌⊎◌, inl, inr, ℕ, zero, suc, ◌+◌, ◌-◌, ◌<◌, ◌≤◌, List, [], ◌∷◌, ◌++◌, Bool, true, false, cond, filter, length, map, get_or, set, take, drop, replicate, nat_eq, nat_lt, append_assoc, arith}
-use Rattle.std.specs.List.{range_with_len}
+use Rattle.std.proofs.Common.{◌≡◌, ◌≢◌, ◌∙◌, refl, sym, ap, ap₂, subst, ◌⊎◌, inl, inr, ℕ, zero, suc, ◌+◌, ◌-◌, ◌<◌, ◌≤◌, List, [], ◌∷◌, ◌++◌, Bool, true, false, cond, filter, length, map, get_or, set, take, drop, replicate, nat_eq, nat_lt, append_assoc, arith}
+use Rattle.std.specs.List.{range_with_len, AllByRecursion}
 use Rattle.std.proofs.lemmas.Bool.Decides.{nat_tests}
-use Rattle.std.proofs.lemmas.List.{drop_more, drop-drop, get_or-drop, get_or_past, append-nil, length-map, length-take-le, map-id, map_more, set_at, take_all}
+use Rattle.std.proofs.lemmas.List.{drop_more, drop-drop, get_or-drop, get_or_past, append-nil, get_or-replicate, get_or-set_other, get_or-set_same, length-map, length-replicate, length-set, length-take-le, map-id, map_more, set_at, take_all}
 use Rattle.std.proofs.lemmas.List.FromFn.{fill_by_all, filter_of_map_range_with_len_more, get_or-map-range_with_len, length-map-range_with_len, length-range_with_len, map-range_with_len_more}
 use Rattle.definitions.specs.Plans.TableSet.{TableSet}
 use Rattle.definitions.specs.Estimates.BlockTables.{has}
@@ -10,6 +10,7 @@ use Rattle.definitions_execution.specs.Lists.{In}
 use Rattle.definitions_execution.specs.Stored.{Composite, row_number}
 use Rattle.definitions_execution.proofs.Members.{in_filter, from_filter}
 use Rattle.tuple_sort.specs.CompositeLists.{IsCompositeOf}
+use Rattle.tuple_sort.specs.Keeping.{single}
 use Rattle.tuple_sort.specs.Packing.{packed, row_in, tables_in, unpacked}
 
 -- ---- the row of a table among packed ones
@@ -125,6 +126,43 @@ module _ (tables : TableSet) (width : ℕ) where
         where
           not_in : width ≤ table → In table (range_with_len 0 width) → ⊥
           not_in h i = let k = below 0 width table i in omega (arith, h, k)
+
+-- ---- rows of a single table
+
+-- nothing but the row of a table, unpacked
+pub single_unpacked : (width table row : ℕ) → set (replicate width 0) table row ≡ unpacked width (table ∷ []) (row ∷ [])
+single_unpacked width table row =
+    fill_by_all (row_in (table ∷ []) (row ∷ [])) (set (replicate width 0) table row) width 0 (length-set (replicate width 0) table row ∙ length-replicate width 0) (λ k h. of k h (nat_eq table k) refl)
+  where
+    of : (k : ℕ) → k < width → (b : Bool) → nat_eq table k ≡ b → get_or (set (replicate width 0) table row) k 0 ≡ cond (nat_eq table k) row 0
+    of k h true e =
+        let same : table ≡ k = grind (arith, nat_tests, e) in
+        let within : k < length (replicate width 0) = omega (arith, h, length-replicate {A = ℕ} width 0) in
+        rw e (subst (λ t. get_or (set (replicate width 0) t row) k 0 ≡ row) (sym same) (get_or-set_same (replicate width 0) k row 0 within))
+    of k h false e =
+        let other : k ≢ table = λ same. absurd (grind (arith, nat_tests, e, same)) in
+        rw e (get_or-set_other (replicate width 0) table k row 0 other ∙ get_or-replicate width k 0 0 h)
+
+pub singles_unpacked : (width table : ℕ) (members rows : List ℕ) → members ≡ table ∷ [] → map (unpacked width members) (map single rows) ≡ map (λ row. set (replicate width 0) table row) rows
+singles_unpacked width table members [] one = refl
+singles_unpacked width table members (row ∷ rows) one =
+    ap₂ (λ c cs. c ∷ cs) (ap (λ ms. unpacked width ms (row ∷ [])) one ∙ sym (single_unpacked width table row)) (singles_unpacked width table members rows one)
+
+-- composites of one table are their rows
+module _ (tables : TableSet) (width table : ℕ) (one : tables_in tables width ≡ table ∷ []) where
+  single_whole : (composite : Composite) → IsCompositeOf tables width composite → set (replicate width 0) table (row_number composite table) ≡ composite
+  single_whole composite is = single_unpacked width table (row_number composite table) ∙ subst (λ ms. unpacked width ms (packed 1 ms composite) ≡ composite) one (kept_whole tables width composite 1 is)
+
+  pub single_within : table < width
+  single_within =
+      let at : In table (tables_in tables width) = subst (λ ts. In table ts) (sym one) (inl refl) in
+      let less = below 0 width table (from_filter (has tables) table (range_with_len 0 width) at).0 in
+      omega (arith, less)
+
+  pub singles_whole : (composites : List Composite) → AllByRecursion (IsCompositeOf tables width) composites
+      → map (λ row. set (replicate width 0) table row) (map (λ (composite : Composite). row_number composite table) composites) ≡ composites
+  singles_whole [] are = refl
+  singles_whole (composite ∷ composites) are = ap₂ (λ c cs. c ∷ cs) (single_whole composite are.0) (singles_whole composites are.1)
 
 -- ---- the tables of a set, one after another
 

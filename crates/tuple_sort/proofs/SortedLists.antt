@@ -1,6 +1,6 @@
 -- Lists of composites, kept packed.
-use Rattle.std.proofs.Common.{◌≡◌, refl, ◌∙◌, sym, ap, subst, inl, inr, ℕ, cond, List, [], ◌∷◌, ◌++◌, map}
-use Rattle.std.proofs.lemmas.List.{map_push}
+use Rattle.std.proofs.Common.{◌≡◌, refl, ◌∙◌, sym, ap, subst, inl, inr, ℕ, cond, List, [], ◌∷◌, ◌++◌, map, replicate, set}
+use Rattle.std.proofs.lemmas.List.{map-append, map_push}
 use Rattle.definitions.specs.Plans.TableSet.{TableSet}
 use Rattle.definitions.specs.Plans.Order.{BlockColumn, Order}
 use Rattle.std.specs.List.{range_with_len}
@@ -14,9 +14,10 @@ use Rattle.definitions_execution.proofs.Members.{rises_map}
 use Rattle.definitions_execution.proofs.RowOrders.{not_after_same}
 use Rattle.filters.specs.Sources.{BlockSource, stored_in}
 use Rattle.tuple_sort.specs.CompositeLists.{CompositeList, IsCompositeOf}
+use Rattle.tuple_sort.specs.Keeping.{single}
 use Rattle.tuple_sort.specs.Packing.{packed, tables_in, unpacked}
 use Rattle.tuple_sort.specs.Values.{value_in_composite, value_in_packed, value_in_row}
-use Rattle.tuple_sort.proofs.PackedRows.{kept_whole, row_unpacked}
+use Rattle.tuple_sort.proofs.PackedRows.{kept_whole, row_unpacked, singles_unpacked}
 
 module _ (tables : TableSet) (width : ℕ) (members : List ℕ) (are : members ≡ tables_in tables width) where
   -- what stands in order packed, stands so unpacked
@@ -53,6 +54,24 @@ module _ (tables : TableSet) (width : ℕ) (members : List ℕ) (are : members �
     where
       of_items : map (unpacked width members) new ≡ map (unpacked width members) old ++ numbers width ∷ [] → seen_as new ≡ with_one (seen_as old) numbers
       of_items k = ap {B = CompositeList} (λ xs. record { tables = tables; width = width; items = xs }) k
+
+  -- rows of a single table are added; and they are those that the list has
+  abbrev pub with_rows : CompositeList → ℕ → List ℕ → CompositeList
+  with_rows v table rows = record { tables = v.tables; width = v.width; items = v.items ++ map (λ row. set (replicate v.width 0) table row) rows }
+
+  pub rows_pushed : (v : CompositeList) (old new : List (List ℕ)) (rows : List ℕ) → seen_as old ≡ v → new ≡ old ++ map single rows → (table : ℕ) → tables_in v.tables v.width ≡ table ∷ []
+      → seen_as new ≡ with_rows v table rows
+  rows_pushed v old new rows seen e table =
+      subst (λ (w : CompositeList). tables_in w.tables w.width ≡ table ∷ [] → seen_as new ≡ with_rows w table rows) seen
+      (λ one. ap {B = CompositeList} (λ xs. record { tables = tables; width = width; items = xs })
+      (ap (map (unpacked width members)) e ∙ map-append (unpacked width members) old (map single rows)
+      ∙ ap (λ xs. map (unpacked width members) old ++ xs) (singles_unpacked width table members rows (are ∙ one))))
+
+  pub rows_seen : (v : CompositeList) (kept : List (List ℕ)) (rows : List ℕ) → seen_as kept ≡ v → kept ≡ map single rows → (table : ℕ) → tables_in v.tables v.width ≡ table ∷ []
+      → v.items ≡ map (λ row. set (replicate v.width 0) table row) rows
+  rows_seen v kept rows seen e table =
+      subst (λ (w : CompositeList). tables_in w.tables w.width ≡ table ∷ [] → w.items ≡ map (λ row. set (replicate w.width 0) table row) rows) seen
+      (λ one. ap (map (unpacked width members)) e ∙ singles_unpacked width table members rows (are ∙ one))
 
 -- the values are those that are stored, whatever the surroundings
 pub stored_in_rows : (source : BlockSource) (outer : List Combination) → (stored_in source outer).value_in ≡ value_in_row source

@@ -20,3 +20,4 @@ pub record IsKept (s : Inside) : Type 0 where
   pub few : s.width ≤ 14
   pub members : s.members.items ≡ tables_in (set_of s.tables) s.width
   pub room : length s.members.items ≤ room_of s.kept
+  pub single : length s.members.items ≡ 1 → room_of s.kept ≡ 1

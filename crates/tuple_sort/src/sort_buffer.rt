@@ -1,10 +1,10 @@
 //! Packed rows, in the least room that holds them.
 
-ghost use Rattle.std.specs.Prelude.{◌≡◌, ◌<◌, ◌≤◌, [], ◌∷◌, ◌++◌, IsPermutation, OnErr, OnOk, get_or, length};
+ghost use Rattle.std.specs.Prelude.{◌≡◌, ◌<◌, ◌≤◌, [], ◌∷◌, ◌++◌, IsPermutation, OnErr, OnOk, get_or, length, map};
 ghost use Rattle.definitions_execution.specs.Lists.{Rises};
 ghost use Rattle.definitions_execution.specs.RowOrder.{NotAfter};
 ghost use Rattle.plan_tree.specs.Plans.{order_of};
-ghost use Rattle.tuple_sort.specs.Keeping.{room_of, rows_of};
+ghost use Rattle.tuple_sort.specs.Keeping.{room_of, rows_of, single};
 ghost use Rattle.tuple_sort.specs.Packing.{packed};
 ghost use Rattle.tuple_sort.specs.Values.{value_in_packed};
 
@@ -32,6 +32,7 @@ impl SortBuffer {
         requires { tables ≤ 14 }
         ensures rows { rows_of result ≡ [] }
         ensures room { tables ≤ room_of result }
+        ensures single { tables ≡ 1 → room_of result ≡ 1 }
     {
         match tables {
             0 | 1 => SortBuffer::One(Vec::new(alloc)),
@@ -83,6 +84,30 @@ impl SortBuffer {
             SortBuffer::All(rows) => rows.push(SortTuple::new(pack(members, composite)))?,
         }
         Ok(())
+    }
+
+    /// The rows, where there is room for those of one table.
+    pub(crate) fn single_rows(&self) -> &[u32]
+        requires { room_of self.now ≡ 1 }
+        ensures { rows_of self.now ≡ map single result.now }
+    {
+        match self {
+            SortBuffer::One(rows) => rows,
+            _ => unreachable!(),
+        }
+    }
+
+    /// Adds rows, where there is room for those of one table.
+    pub(crate) fn push_rows(&mut self, added: &[u32]) -> Result<(), AllocError>
+        requires { room_of self.old ≡ 1 }
+        ensures room { room_of self.new ≡ room_of self.old }
+        ensures ok { OnOk result (rows_of self.new ≡ rows_of self.old ++ map single added.now) }
+        ensures err { OnErr result (rows_of self.new ≡ rows_of self.old) }
+    {
+        match self {
+            SortBuffer::One(rows) => rows.extend_from_slice(added),
+            _ => unreachable!(),
+        }
     }
 
     /// Puts them in an order, in place.
