@@ -13,12 +13,13 @@ ghost use Rattle.definitions_answers.specs.Lines.{IsInBounds};
 ghost use Rattle.result_rows.specs.Batches.{rows_in, rows_of_column, GivesColumnOf, IsColumnOf};
 ghost use Rattle.result_rows.specs.RowAt.{items_of, row_in};
 
+use crate::printed_field::write_field;
 use crate::row_batch::RowBatch;
 use crate::seen_units::unit_of;
 use crate::unit_lines;
 use columns::NumberColumn;
 use query_tree::{Item, ValueExpr};
-use sqlvalue::{Value, write_value};
+use sqlvalue::Value;
 use std::alloc::AllocError;
 
 /// Whether each result column is a column of one of so many tables.
@@ -119,7 +120,7 @@ fn write_column<B: RowBatch>(
         (v : ValueOf) × (meaning.value env (value_of value.now) ≡ Is v) × IsInBounds v
         × (out.new.items ≡ out.old.items ++ value_text v)) }
 {
-    write_value(out, &value_at(value, batch, place))
+    write_field(out, &value_at(value, batch, place))
 }
 
 /// The units of the number that is alone in the row at a place of a batch, where it has a scale, and they no more than 64 bits.

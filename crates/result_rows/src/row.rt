@@ -13,10 +13,11 @@ ghost use Rattle.result_rows.specs.Rows.{row_of};
 ghost use Rattle.sqlvalue.specs.Owned.{owned_value};
 
 use crate::fault::AnswerFault;
+use crate::printed_field::write_field;
 use crate::result_row::ResultRow;
 use expr::{Environment, value};
 use query_tree::Item;
-use sqlvalue::{OwnedValue, write_decimal, write_value};
+use sqlvalue::{OwnedValue, write_decimal};
 use std::alloc::{AllocError, Global};
 
 /// The names of the result columns.
@@ -52,7 +53,7 @@ pub(crate) fn write_row<S: Environment>(
         if i > 0 {
             out.push(b'|')?;
         }
-        write_value(out, &value(&item.value, env)?)?;
+        write_field(out, &value(&item.value, env)?)?;
     }
     out.push(b'\n')?;
     Ok(())
@@ -124,7 +125,7 @@ pub(crate) fn write_kept(out: &mut Vec<u8>, row: &ResultRow) -> Result<(), Alloc
         if i > 0 {
             out.push(b'|')?;
         }
-        write_value(out, &kept.value())?;
+        write_field(out, &kept.value())?;
     }
     out.push(b'\n')?;
     Ok(())

@@ -1,15 +1,15 @@
 //! Lines of rows that have only the number of a column.
 
-ghost use Rattle.std.specs.Prelude.{◌≡◌, ◌≤◌, ◌<◌, ◌^◌, ◌∷◌, [], ◌++◌, OnOk, flat_map, length, map};
-ghost use Rattle.definitions.specs.Printing.{fraction_text, number_text, row_line};
+ghost use Rattle.std.specs.Prelude.{◌≡◌, ◌≤◌, ◌^◌, ◌∷◌, [], ◌++◌, OnOk, flat_map, length, map};
+ghost use Rattle.definitions.specs.Printing.{row_line};
 ghost use Rattle.definitions.specs.Value.{IsType, scale_of};
 ghost use Rattle.sqlvalue.specs.Meaning.{type_of};
 ghost use Rattle.columns.specs.Cells.{number_or_null};
 ghost use Rattle.columns.specs.Starts.{value_in};
 ghost use Rattle.result_rows.specs.Batches.{rows_of_column, rows_of_units};
 
+use crate::printed_field::write_number;
 use columns::NumberColumn;
-use itoa::Buffer;
 use sqlvalue::SqlType;
 use std::alloc::AllocError;
 
@@ -87,35 +87,4 @@ fn write_line(
     }
     out.push(b'\n')?;
     Ok(())
-}
-
-/// A number of 64 bits, at a scale of which so many units are one.
-fn write_number(out: &mut Vec<u8>, units: i64, scale: u8, one: u64) -> Result<(), AllocError>
-    requires { one ≡ 10 ^ scale }
-    ensures { OnOk result (out.new.items ≡ out.old.items ++ number_text units scale) }
-{
-    let mut buffer = Buffer::new();
-    if scale == 0 {
-        return out.extend_from_slice(buffer.format(units).as_bytes());
-    }
-    if units < 0 {
-        out.extend_from_slice(b"-")?;
-    }
-    let size = units.unsigned_abs();
-    out.extend_from_slice(buffer.format(size / one).as_bytes())?;
-    write_fraction(out, size % one, scale)
-}
-
-/// The digits behind the point, of which there are some.
-fn write_fraction(out: &mut Vec<u8>, rest: u64, scale: u8) -> Result<(), AllocError>
-    requires { 0 < scale }
-    ensures { OnOk result (out.new.items ≡ out.old.items ++ fraction_text scale rest) }
-{
-    let mut buffer = Buffer::new();
-    let digits = buffer.format(rest).as_bytes();
-    out.extend_from_slice(b".")?;
-    'zeros: for _zero in 0..usize::from(scale).saturating_sub(digits.len()) {
-        out.extend_from_slice(b"0")?;
-    }
-    out.extend_from_slice(digits)
 }

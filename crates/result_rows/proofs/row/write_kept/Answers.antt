@@ -15,8 +15,8 @@ values-preserved c =
     elim c.if-i-gt0.branch [
       | then-i-gt0+in_ok-push w ↦
           let out : c.if-i-gt0.out.items ≡ c.values.out.items ++ 124 ∷ [] = ap (λ o. o.items) w.out-is ∙ w.in_ok-push.ensures.items in
-          rw (c.in_ok-write_value.ensures, out, c.value.ensures) (later_field c.values.i _ _ _ _ rest here w.if-i-gt0.true c.values.invariant)
+          rw (c.in_ok-write_field.ensures, out, c.value.ensures) (later_field c.values.i _ _ _ _ rest here w.if-i-gt0.true c.values.invariant)
       | else-i-gt0 w ↦
           let out : c.if-i-gt0.out.items ≡ c.values.out.items = ap (λ o. o.items) w.out-is in
-          rw (c.in_ok-write_value.ensures, out, c.value.ensures) (first_field c.values.i _ _ _ _ rest here (omega (arith, w.if-i-gt0.false)) c.values.invariant)
+          rw (c.in_ok-write_field.ensures, out, c.value.ensures) (first_field c.values.i _ _ _ _ rest here (omega (arith, w.if-i-gt0.false)) c.values.invariant)
     ]

@@ -36,10 +36,10 @@ items-preserved g c =
       text = elim c.if-i-gt0.branch [
         | then-i-gt0+in_ok-push w ↦
             let out : c.if-i-gt0.out.items ≡ c.items.out.items ++ 124 ∷ [] = ap (λ o. o.items) w.out-is ∙ w.in_ok-push.ensures.items in
-            rw (c.in_ok-write_value.ensures, out) (later_field c.items.i _ _ _ _ rest here w.if-i-gt0.true c.items.invariant.text)
+            rw (c.in_ok-write_field.ensures, out) (later_field c.items.i _ _ _ _ rest here w.if-i-gt0.true c.items.invariant.text)
         | else-i-gt0 w ↦
             let out : c.if-i-gt0.out.items ≡ c.items.out.items = ap (λ o. o.items) w.out-is in
-            rw (c.in_ok-write_value.ensures, out) (first_field c.items.i _ _ _ _ rest here (omega (arith, w.if-i-gt0.false)) c.items.invariant.text)
+            rw (c.in_ok-write_field.ensures, out) (first_field c.items.i _ _ _ _ rest here (omega (arith, w.if-i-gt0.false)) c.items.invariant.text)
       ];
       raises = next_quiet env items c.items.i c.index-items-i.result c.items-test.true c.index-items-i.is _ _ c.in_ok-value.ensures c.items.invariant.raises;
       bounded = λ rest. c.items.invariant.bounded (subst (AllByRecursion IsInBounds) (sym (next_value env items c.items.i c.index-items-i.result c.items-test.true c.index-items-i.is _ c.in_ok-value.ensures)) (is_in_bounds c.in_ok-value.field-0, rest));

@@ -1,5 +1,5 @@
 use Rattle.std.proofs.Common.{◌≡◌, ◌++◌, ◌∷◌, [], replicate}
-use Rattle.result_rows.proofs.unit_lines.write_fraction.Given as goal
+use Rattle.result_rows.proofs.printed_field.write_fraction.Given as goal
 
 -- the point and the zeros so far
 abbrev pub invariant-zeros : goal.invariant-zeros
