@@ -4,5 +4,6 @@ pub mod RunPlaces
 pub mod Scales
 pub mod ToldNumbers
 pub mod ToldPlaces
+pub mod Turned
 pub mod UnitFlags
 pub mod WordPlaces

@@ -1,5 +1,5 @@
 use Rattle.std.proofs.Common.{◌≡◌, ◌∙◌, refl, sym, ap, ap₂, subst, ℕ, ◌-◌, ◌^◌, ◌<◌, ◌≤◌, List, [], ◌∷◌, ◌++◌, Bool, true, false, length, map, get_or, arith, inl, inr}
-use Rattle.std.specs.Prelude.{ℤ, pos, ◌*ℤ◌, ◌&&◌, IfSome, Option, None, Some, slice_get, Ok, Err, Result}
+use Rattle.std.specs.Prelude.{ℤ, pos, ◌*ℤ◌, ◌&&◌, IfSome, Option, None, Some, option_map, slice_get, Ok, Err, Result}
 use Rattle.std.specs.Ordering.{int_cmp}
 use Rattle.definitions.specs.Arithmetic.{Is, Raise}
 use Rattle.definitions.specs.Statement.{ComparisonOperator, Equals}
@@ -8,7 +8,10 @@ use Rattle.definitions.specs.Value.{number_cmp, Null, Number, SqlType, Value}
 use Rattle.definitions.specs.Table.{Row}
 use Rattle.definitions.specs.ValueType.{ValueType}
 use Rattle.definitions.specs.Plans.Order as order
-use Rattle.definitions.specs.Queries.BoundBlock.{Column, Compare, Condition, InQuery, Subquery}
+use Rattle.definitions.specs.Estimates.Paths.{turned, ByBounds, ByComparison, ColumnTerm}
+use Rattle.predicates.specs.Terms.{first_of, listed, side_term, terms_of, SidedTerm}
+use Rattle.told_tests.proofs.Turned.{compared_turned}
+use Rattle.definitions.specs.Queries.BoundBlock.{Between, Column, Compare, Condition, InQuery, Subquery, ValueExpr}
 use Rattle.definitions.specs.Queries.Combinations.{at, is_surely_true, raises_of}
 use Rattle.definitions.specs.Queries.Evaluation.{and_then, cell, column_values, on_one, on_two, only_value, truth, Environment}
 use Rattle.definitions.specs.Queries.Telling.{MayAnswer}
@@ -75,6 +78,10 @@ pub compares_at : (op : ComparisonOperator) (factor units own : ℤ) (m n : ℕ)
     → (unit : ℤ) → agrees op (int_cmp (unit *ℤ factor) units) ≡ agrees op (number_cmp unit m own n)
 compares_at op factor units own m n f u unit = ap (agrees op) (ap₂ (λ x y. int_cmp (unit *ℤ x) y) f u ∙ common_scale unit own m n)
 
+-- what is said first of a column
+abbrev pub said : List SidedTerm → Option (order.BlockColumn × ColumnTerm)
+said terms = option_map (λ (sided : SidedTerm). (sided.column, sided.term)) (first_of terms)
+
 module _ (told : ℕ → Result (List Value) Raise) (block : ℕ) where
   -- a condition compares what is in the test's column with a number
   abbrev Means : Condition → ToldTest → (code.ComparisonOperator × Num) → Type 0
@@ -84,39 +91,62 @@ module _ (told : ℕ → Result (List Value) Raise) (block : ℕ) where
       → truth (told_environment env told) (Compare op (Column column own) (Subquery block type)) ≡ Is (compared op (cell env.combination column) v)
   compare_means type env op column own v e = ap (λ (r : Result (List Value) Raise). on_two (compared op) (Is (cell env.combination column)) (and_then only_value (meaning_told r))) e
 
-  pub is_test : (type : ValueType) (test : ToldTest) (column : BlockColumn) (own : SqlType) (digits : ℕ) (op : code.ComparisonOperator) (number : Num) → told block ≡ Ok (number_of number ∷ []) → ComparesWith column digits op number test
-      → IsTestOf told test (Compare (op_of op) (Column (column_of column) own) (Subquery block type))
-  is_test type test column own digits op number e h = record {
+  turned_means : (type : ValueType) (env : Environment) (op : ComparisonOperator) (column : order.BlockColumn) (own : SqlType) (v : Value) → told block ≡ Ok (v ∷ [])
+      → truth (told_environment env told) (Compare op (Subquery block type) (Column column own)) ≡ Is (compared (turned op) (cell env.combination column) v)
+  turned_means type env op column own v e =
+      ap (λ (r : Result (List Value) Raise). on_two (compared op) (and_then only_value (meaning_told r)) (Is (cell env.combination column))) e
+      ∙ ap Is (sym (compared_turned op (cell env.combination column) v))
+
+  -- a condition that says of a column that it compares with a subquery is as true as the comparison with what that gave
+  pub as_it_says : (type : ValueType) (op : ComparisonOperator) (column : order.BlockColumn) (v : Value) → told block ≡ Ok (v ∷ [])
+      → (condition : Condition) → said (terms_of condition) ≡ Some (column, ByComparison op (Subquery block type))
+      → (env : Environment) → truth (told_environment env told) condition ≡ Is (compared op (cell env.combination column) v)
+  as_it_says type op column v e (Compare own (Column c t) b) h env =
+      let own_pair : order.BlockColumn × ColumnTerm = (c, ByComparison own b) in
+      let asked : order.BlockColumn × ColumnTerm = (column, ByComparison op (Subquery block type)) in
+      let pairs : own_pair ≡ asked = cc in
+      let columns : c ≡ column = ap (λ p. p.0) pairs in
+      let terms : ByComparison own b ≡ ByComparison op (Subquery block type) = ap (λ p. p.1) pairs in
+      let ops : own ≡ op = cc in
+      let others : b ≡ Subquery block type = cc in
+      ap₂ (λ o x. truth (told_environment env told) (Compare o (Column x t) b)) ops columns
+      ∙ ap (λ y. truth (told_environment env told) (Compare op (Column column t) y)) others ∙ compare_means type env op column t v e
+  as_it_says type op column v e (Compare own a (Column c t)) h env =
+      let own_pair : order.BlockColumn × ColumnTerm = (c, ByComparison (turned own) a) in
+      let asked : order.BlockColumn × ColumnTerm = (column, ByComparison op (Subquery block type)) in
+      let pairs : own_pair ≡ asked = cc in
+      let columns : c ≡ column = ap (λ p. p.0) pairs in
+      let terms : ByComparison (turned own) a ≡ ByComparison op (Subquery block type) = ap (λ p. p.1) pairs in
+      let ops : turned own ≡ op = cc in
+      let others : a ≡ Subquery block type = cc in
+      ap₂ (λ x y. truth (told_environment env told) (Compare own x (Column y t))) others columns ∙ turned_means type env own column t v e
+      ∙ ap (λ o. Is (compared o (cell env.combination column) v)) ops
+  as_it_says type op column v e (Between false a low high) h env = absurd (by_bounds a low high h)
+    where
+      by_bounds : (a low high : ValueExpr) → said (listed (side_term a (ByBounds low high))) ≡ Some (column, ByComparison op (Subquery block type)) → ⊥
+      by_bounds (Column c t) low high h =
+          let own_pair : order.BlockColumn × ColumnTerm = (c, ByBounds low high) in
+          let asked : order.BlockColumn × ColumnTerm = (column, ByComparison op (Subquery block type)) in
+          let pairs : own_pair ≡ asked = cc in
+          let terms : ByBounds low high ≡ ByComparison op (Subquery block type) = ap (λ p. p.1) pairs in
+          cc
+      by_bounds _ low high h = cc
+  as_it_says type op column v e _ h env = cc
+
+  pub is_test : (test : ToldTest) (column : BlockColumn) (digits : ℕ) (op : code.ComparisonOperator) (number : Num) (condition : Condition)
+      → ((env : Environment) → truth (told_environment env told) condition ≡ Is (compared (op_of op) (cell env.combination (column_of column)) (number_of number))) → ComparesWith column digits op number test
+      → IsTestOf told test condition
+  is_test test column digits op number condition means h = record {
     number = λ env unit there.
         let value_is : cell env.combination (column_of column) ≡ Number unit digits = ap (λ c. cell env.combination (column_of c)) (sym h.column) ∙ there ∙ ap (Number unit) h.scale in
-        compare_means type env (op_of op) (column_of column) own (number_of number) e ∙ ap (λ v. Is (compared (op_of op) v (number_of number))) value_is
+        means env ∙ ap (λ v. Is (compared (op_of op) v (number_of number))) value_is
         ∙ ap (λ b. Is (known b)) (sym (h.compares unit));
     null = λ env there.
         let value_is : cell env.combination (column_of column) ≡ Null = ap (λ c. cell env.combination (column_of c)) (sym h.column) ∙ there in
-        compare_means type env (op_of op) (column_of column) own (number_of number) e ∙ ap (λ v. Is (compared (op_of op) v (number_of number))) value_is;
-    compares = subst (λ asked. IfSome asked (Means (Compare (op_of op) (Column (column_of column) own) (Subquery block type)) test)) (sym h.comparison)
-        (λ env. compare_means type env (op_of op) (column_of column) own (number_of number) e ∙ ap (λ c. Is (compared (op_of op) (cell env.combination (column_of c)) (number_of number))) (sym h.column));
+        means env ∙ ap (λ v. Is (compared (op_of op) v (number_of number))) value_is;
+    compares = subst (λ asked. IfSome asked (Means condition test)) (sym h.comparison)
+        (λ env. means env ∙ ap (λ c. Is (compared (op_of op) (cell env.combination (column_of c)) (number_of number))) (sym h.column));
   }
-
-  turned_means : (type : ValueType) (env : Environment) (op : ComparisonOperator) (column : order.BlockColumn) (own : SqlType) (v : Value) → told block ≡ Ok (v ∷ [])
-      → truth (told_environment env told) (Compare op (Subquery block type) (Column column own)) ≡ Is (compared op v (cell env.combination column))
-  turned_means type env op column own v e = ap (λ (r : Result (List Value) Raise). on_two (compared op) (and_then only_value (meaning_told r)) (Is (cell env.combination column))) e
-
-  pub is_turned_test : (type : ValueType) (test : ToldTest) (column : BlockColumn) (own : SqlType) (digits : ℕ) (op turned : code.ComparisonOperator) (number : Num) → told block ≡ Ok (number_of number ∷ [])
-      → ((a b : Value) → compared (op_of turned) a b ≡ compared (op_of op) b a) → ComparesWith column digits turned number test → IsTestOf told test (Compare (op_of op) (Subquery block type) (Column (column_of column) own))
-  is_turned_test type test column own digits op turned number e law h =
-      let is = is_test type test column own digits turned number e h in
-      let asked : Condition = Compare (op_of op) (Subquery block type) (Column (column_of column) own) in
-      let other : Condition = Compare (op_of turned) (Column (column_of column) own) (Subquery block type) in
-      let alike : (env : Environment) → truth (told_environment env told) asked ≡ truth (told_environment env told) other = λ env.
-      turned_means type env (op_of op) (column_of column) own (number_of number) e ∙ ap Is (sym (law (cell env.combination (column_of column)) (number_of number)))
-      ∙ sym (compare_means type env (op_of turned) (column_of column) own (number_of number) e) in
-      let compares : Means other test (turned, number) = subst (λ found. IfSome found (Means other test)) h.comparison is.compares in
-      record {
-        number = λ env unit there. alike env ∙ is.number env unit there;
-        null = λ env there. alike env ∙ is.null env there;
-        compares = subst (λ found. IfSome found (Means asked test)) (sym h.comparison) (λ env. alike env ∙ compares env);
-      }
 
   in_means : (env : Environment) (negated : Bool) (column : order.BlockColumn) (own : SqlType) (values : List Value) → told block ≡ Ok values
       → truth (told_environment env told) (InQuery negated (Column column own) block) ≡ Is (unless negated (compared_with_any Equals (cell env.combination column) values))

@@ -2,22 +2,24 @@
 
 ghost use Rattle.std.specs.Prelude.{ℕ, ◌≡◌, ◌≤◌, ◌^◌, ◌<◌, ◌∷◌, [], All, IfOk, IfSome, Ok, OnSome, filter, get_or, length, map, pos, take};
 ghost use Rattle.definitions.specs.Queries.BoundBlock as spec;
-ghost use Rattle.sqlvalue.specs.Meaning.{number_of, op_of};
+ghost use Rattle.definitions.specs.Queries.Conjuncts.{is_late, late_conjuncts};
+ghost use Rattle.sqlvalue.specs.Meaning.{number_of};
 ghost use Rattle.sqlvalue.specs.Owned.{owned_value};
 ghost use Rattle.definitions.specs.Value.{scale_of, Null, SqlType};
 ghost use Rattle.definitions_execution.specs.OfBlock.{rows_in};
 ghost use Rattle.filters.specs.Sources.{block_in};
 ghost use Rattle.columns.specs.Cells.{number_or_null};
 ghost use Rattle.columns.specs.Starts.{value_in};
-ghost use Rattle.query_tree.specs.Bound.{condition_of, value_of};
+ghost use Rattle.query_tree.specs.Bound.{value_of};
+ghost use Rattle.predicates.specs.Parts.{condition_in};
 ghost use Rattle.subqueries.specs.Keeping.{told_by};
-ghost use Rattle.block_answers.specs.Views.{conditions_of};
 ghost use Rattle.told_tests.specs.ToldTests.{is_unless, passes, passes_at, AreWhereTrue, ComparesWith, IsScaledTo, IsTested, IsTestOf, IsTestOfAll, IsTestedAs, ListsValues, RaisesOnNone, TellsOf};
 
 use crate::run_scan::scan_places;
 use crate::unit_set::UnitSet;
 use columns::NumberColumn;
 use filters::BlockSource;
+use predicates::{ColumnTerm, Conjunct};
 use query_tree::{BlockColumn, Condition, ValueExpr};
 use scans::Batch;
 use sqlvalue::{ComparisonOperator, Num, OwnedValue};
@@ -48,53 +50,62 @@ enum Asked {
     },
 }
 
-/// The test that late conjuncts come to by what was told last of their subqueries, where there is one conjunct and it has a test, for which
-/// there is memory.
-pub fn test_of(alloc: Global, late: &[&Condition], results: &[KeptResults]) -> Option<ToldTest>
-    ensures { IfSome result (λ test. IsTestOfAll (told_by results.now) test (conditions_of late.now)) }
+/// The test that the late conjuncts of a block come to by what was told last of their subqueries, where there is one conjunct and it has a
+/// test, for which there is memory.
+pub fn test_of(alloc: Global, source: &BlockSource<'_>, results: &[KeptResults]) -> Option<ToldTest>
+    ensures { IfSome result (λ test. IsTestOfAll (told_by results.now) test (late_conjuncts (block_in source.now))) }
 {
-    match late {
-        [condition] => condition_test(alloc, condition, results),
-        _ => None,
-    }
+    let conjunct = only_late(source.conjuncts())?;
+    conjunct_test(alloc, &conjunct, results)
 }
 
-/// The test that a condition comes to, where it compares a column with a subquery, or is IN or NOT IN of one.
-fn condition_test(alloc: Global, condition: &Condition, results: &[KeptResults]) -> Option<ToldTest>
-    ensures { IfSome result (λ test. IsTestOf (told_by results.now) test (condition_of condition.now)) }
+/// The conjunct that is late, where there is only one.
+fn only_late<'a>(conjuncts: &[Conjunct<'a>]) -> Option<Conjunct<'a>>
+    ensures { IfSome result (λ only. filter is_late (map condition_in conjuncts.now) ≡ condition_in only ∷ []) }
 {
-    match condition {
-        Condition::Compare { op, left, right } => comparison_test(*op, left, right, results),
+    let mut only = None;
+    'conjuncts: for conjunct in conjuncts {
+        if conjunct.late {
+            if only.is_some() {
+                return None;
+            }
+            only = Some(*conjunct);
+        }
+    }
+    only
+}
+
+/// The test that a conjunct comes to, where it compares a column with a subquery, or is IN or NOT IN of one.
+fn conjunct_test(
+    alloc: Global,
+    conjunct: &Conjunct<'_>,
+    results: &[KeptResults],
+) -> Option<ToldTest>
+    ensures { IfSome result (λ test. IsTestOf (told_by results.now) test (condition_in conjunct.now)) }
+{
+    match conjunct.condition {
         Condition::InQuery {
             negated,
             value,
             block,
         } => membership_test(alloc, *negated, value, *block, results),
-        _ => None,
+        _ => comparison_test(conjunct, results),
     }
 }
 
-/// The test of a comparison of a column with a subquery that gave one number, or of such a subquery with a column.
-fn comparison_test(
-    op: ComparisonOperator,
-    left: &ValueExpr,
-    right: &ValueExpr,
-    results: &[KeptResults],
-) -> Option<ToldTest>
-    ensures { IfSome result (λ test. IsTestOf (told_by results.now) test
-        (spec.Compare (op_of op) (value_of left.now) (value_of right.now))) }
+/// The test of a comparison of a column with a subquery that gave one number, whichever of the two stands on the left.
+fn comparison_test(conjunct: &Conjunct<'_>, results: &[KeptResults]) -> Option<ToldTest>
+    ensures { IfSome result (λ test. IsTestOf (told_by results.now) test (condition_in conjunct.now)) }
 {
-    match (left, right) {
-        (ValueExpr::Column { column, sql_type }, ValueExpr::Subquery { block, .. }) => {
-            let number = told_number(results, *block)?;
-            number_test(*column, sql_type.scale(), op, number)
-        }
-        (ValueExpr::Subquery { block, .. }, ValueExpr::Column { column, sql_type }) => {
-            let number = told_number(results, *block)?;
-            number_test(*column, sql_type.scale(), op.turned(), number)
-        }
-        _ => None,
-    }
+    let sided = conjunct.terms.first()?;
+    let ColumnTerm::Comparison { op, value } = sided.term else {
+        return None;
+    };
+    let ValueExpr::Subquery { block, .. } = value else {
+        return None;
+    };
+    let number = told_number(results, *block)?;
+    number_test(sided.column, sided.scale, op, number)
 }
 
 /// The test of IN or NOT IN of a column and a subquery.
