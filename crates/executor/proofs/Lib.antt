@@ -10,3 +10,4 @@ mod ToldBatches
 mod ToldRuns
 mod WholeQuery
 mod GivenPlans
+mod SortedBlocks

@@ -6,6 +6,7 @@ mod answer;
 mod nested;
 mod ready_block;
 mod running;
+mod sorted_columns;
 mod taking;
 mod told_batches;
 mod watch;

@@ -21,10 +21,12 @@ ghost use Rattle.subqueries.specs.Framed.{combination_in, combinations_in};
 ghost use Rattle.subqueries.specs.Telling.{told_in};
 ghost use Rattle.definitions_execution.specs.Total.{subqueries};
 ghost use Rattle.executor.specs.ReadyBlocks.{blocks_in, database_in, seen_at, subqueries_at, total_at, AreLeft, AreReady, AreRight, IsToldLast, OfBlock};
+ghost use Rattle.executor.specs.SortedColumns.{AreSorted};
 
 use crate::alone::evaluate_alone;
 use crate::ready_block::ReadyBlock;
-use crate::running::run_plan;
+use crate::running::run_sorted;
+use crate::sorted_columns::sorted_column;
 use block_answers::{KeptRows, row_at, try_all};
 use filters::{BlockSource, Composite, OuterRows};
 use plan_tree::saturating_sum;
@@ -33,6 +35,7 @@ use scans::TupleSource;
 use sqlvalue::Raise;
 use std::alloc::{AllocError, Global};
 use subqueries::{Frames, KeptResults, Late, Told, WorkWatch, bound_memory, key_of};
+use tuple_sort::SortedColumn;
 
 /// Has a block told what it may tell in the rows of the blocks around it, or whether it has a row, if that is all that is asked, which
 /// is then what it told last, and gives its total there. A result that is kept for the values of its parameters is told again
@@ -45,11 +48,13 @@ pub(crate) fn ask_block<'s, W: WorkWatch>(
     existence: bool,
     frames: &mut Frames<'s, W>,
     results: &mut [KeptResults],
+    sorted: &[Option<SortedColumn>],
 ) -> Result<u64, AllocError>
     requires query { AreReady query.now }
     requires number { number < length query.now }
     requires stands { Stands (database_in query.now) (blocks_in query.now) number (combinations_in frames.old) }
     requires right { AreRight query.now results.old }
+    requires sorted { AreSorted query.now sorted.now }
     ensures told { OnOk result (Tells existence (meanings (database_in query.now) 0 (blocks_in query.now) number
         (combinations_in frames.old)) (told_by results.new number)) }
     ensures total { IfOk result (λ total. total ≡ total_at query.now (combinations_in frames.old) number) }
@@ -61,7 +66,7 @@ pub(crate) fn ask_block<'s, W: WorkWatch>(
     if let Some(total) = results[number].find(existence, parameters, &*frames) {
         return Ok(total);
     }
-    let (told, total) = evaluate_block(alloc, query, number, existence, frames, results)?;
+    let (told, total) = evaluate_block(alloc, query, number, existence, frames, results, sorted)?;
     let key = key_of(alloc, parameters, &*frames, results);
     results[number].keep(key, existence, told, total);
     bound_memory(results);
@@ -80,11 +85,13 @@ fn evaluate_block<'s, W: WorkWatch>(
     existence: bool,
     frames: &mut Frames<'s, W>,
     results: &mut [KeptResults],
+    sorted: &[Option<SortedColumn>],
 ) -> Result<(Told, u64), AllocError>
     requires query { AreReady query.now }
     requires number { number < length query.now }
     requires stands { Stands (database_in query.now) (blocks_in query.now) number (combinations_in frames.old) }
     requires right { AreRight query.now results.old }
+    requires sorted { AreSorted query.now sorted.now }
     ensures told { IfOk result (λ r. Tells existence (meanings (database_in query.now) 0 (blocks_in query.now) number
         (combinations_in frames.old)) (told_in r.0)) }
     ensures total { IfOk result (λ r. r.1 ≡ total_at query.now (combinations_in frames.old) number) }
@@ -96,17 +103,18 @@ fn evaluate_block<'s, W: WorkWatch>(
     if ready.late.is_empty() && ready.parameters.is_empty() {
         return evaluate_alone(alloc, ready, existence, &*frames);
     }
-    let mut pipeline = run_plan(
+    let mut pipeline = run_sorted(
         alloc,
         &ready.source,
         ready.space.orders(),
         &ready.plan,
+        sorted_column(sorted, number),
         &*frames,
     )?;
     let mut rows = KeptRows::new(alloc, ready.block, existence)?;
     let mut inner = 0;
     'composites: while let Some(composite) = pipeline.next(&*frames) {
-        let (late, work) = try_late(alloc, query, number, &composite, frames, results)?;
+        let (late, work) = try_late(alloc, query, number, &composite, frames, results, sorted)?;
         inner = saturating_sum(inner, work);
         rows.take(
             alloc,
@@ -130,11 +138,13 @@ pub(crate) fn try_late<'s, W: WorkWatch>(
     composite: &Composite,
     frames: &mut Frames<'s, W>,
     results: &mut [KeptResults],
+    sorted: &[Option<SortedColumn>],
 ) -> Result<(Result<bool, Raise>, u64), AllocError>
     requires query { AreReady query.now }
     requires number { number < length query.now }
     requires stands { Stands (database_in query.now) (blocks_in query.now) number (combinations_in frames.old) }
     requires right { AreRight query.now results.old }
+    requires sorted { AreSorted query.now sorted.now }
     ensures says { IfOk result (λ said. OfBlock query.now number (λ r. Says
         (context_among (database_in query.now) (blocks_in query.now) (combinations_in frames.old)) (block_in r.source)
         (combination_in r.source composite.now) (said_in said.0))) }
@@ -148,7 +158,7 @@ pub(crate) fn try_late<'s, W: WorkWatch>(
     if ready.late.is_empty() {
         return Ok((Ok(true), 0));
     }
-    let work = ask_at(alloc, query, number, composite, frames, results)?;
+    let work = ask_at(alloc, query, number, composite, frames, results, sorted)?;
     let late = try_conjuncts(&ready.late, &ready.source, composite, &*frames, &*results);
     Ok((late, work))
 }
@@ -162,11 +172,13 @@ pub(crate) fn ask_at<'s, W: WorkWatch>(
     composite: &Composite,
     frames: &mut Frames<'s, W>,
     results: &mut [KeptResults],
+    sorted: &[Option<SortedColumn>],
 ) -> Result<u64, AllocError>
     requires query { AreReady query.now }
     requires number { number < length query.now }
     requires stands { Stands (database_in query.now) (blocks_in query.now) number (combinations_in frames.old) }
     requires right { AreRight query.now results.old }
+    requires sorted { AreSorted query.now sorted.now }
     ensures told { OnOk result (OfBlock query.now number (λ r. AllByRecursion (IsToldLast query.now r.seen.items
         (combination_in r.source composite.now ∷ combinations_in frames.old) results.new) r.subqueries.items)) }
     ensures total { IfOk result (λ work. OfBlock query.now number (λ r. work ≡ saturated (sum_by (total_at query.now
@@ -179,7 +191,7 @@ pub(crate) fn ask_at<'s, W: WorkWatch>(
     // A look at the first table tells what holds of the database.
     let _table = ready.source.table(0);
     frames.enter(&ready.source, *composite)?;
-    let work = ask_subqueries(alloc, query, number, frames, results)?;
+    let work = ask_subqueries(alloc, query, number, frames, results, sorted)?;
     frames.leave();
     Ok(work)
 }
@@ -193,12 +205,14 @@ fn ask_subqueries<'s, W: WorkWatch>(
     number: usize,
     frames: &mut Frames<'s, W>,
     results: &mut [KeptResults],
+    sorted: &[Option<SortedColumn>],
 ) -> Result<u64, AllocError>
     requires query { AreReady query.now }
     requires number { number < length query.now }
     requires inside { AllByRecursion (StandsInside (database_in query.now) (blocks_in query.now) number
         (combinations_in frames.old)) (subqueries_at query.now number) }
     requires right { AreRight query.now results.old }
+    requires sorted { AreSorted query.now sorted.now }
     ensures told { OnOk result (AllByRecursion (IsToldLast query.now (seen_at query.now number)
         (combinations_in frames.old) results.new) (subqueries_at query.now number)) }
     ensures total { IfOk result (λ work. work ≡ saturated (sum_by (total_at query.now (combinations_in frames.old))
@@ -211,7 +225,7 @@ fn ask_subqueries<'s, W: WorkWatch>(
     let mut work = 0;
     'blocks: for block in &ready.subqueries {
         let existence = !ready.sees(*block);
-        let own = ask_block(alloc, query, *block, existence, frames, results)?;
+        let own = ask_block(alloc, query, *block, existence, frames, results, sorted)?;
         work = saturating_sum(work, own);
     }
     Ok(work)

@@ -33,12 +33,13 @@ struct KeptResult {
 
 /// The results of a block that are kept: each has its place by the hash of its key, and a later one takes the place of an earlier
 /// one. One place is the latest (own; Selinger et al. 1979, section 6, use a result again where the referenced value is the same).
-/// How many bytes they take together is counted as they come and go.
+/// How many bytes they take together is counted as they come and go, and how many have come.
 #[derive(Drop)]
 pub struct KeptResults {
     places: Vec<Option<KeptResult>>,
     latest: usize,
     bytes: u64,
+    evaluations: u32,
     ghost within: { latest < length places.items },
 }
 
@@ -67,6 +68,7 @@ impl KeptResults {
             places,
             latest: 0,
             bytes: 0,
+            evaluations: 0,
         })
     }
 
@@ -143,6 +145,12 @@ impl KeptResults {
             bytes,
         });
         self.latest = place;
+        self.evaluations = self.evaluations.saturating_add(1);
+    }
+
+    /// How many results have come to be kept, so how often the block was evaluated.
+    pub fn evaluations(&self) -> u32 {
+        self.evaluations
     }
 
     /// Where a result is kept: by the hash of its key, or else where the latest one was.

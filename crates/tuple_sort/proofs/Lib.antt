@@ -12,3 +12,4 @@ pub mod BucketRows
 pub mod Matches
 pub mod CleanRows
 pub mod Chains
+pub mod RisingKeys

@@ -17,6 +17,7 @@ mod rows;
 mod single;
 mod sort_buffer;
 mod sort_tuple;
+mod sorted_column;
 mod sorting;
 
 pub use automatic_index::{AutomaticIndex, Chain};
@@ -25,3 +26,4 @@ pub use implied::{SoughtColumns, outer_filter, sought_columns};
 pub use list::Composites;
 pub use row_keys::{RowKeys, keys_of_rows};
 pub use rows::{sort_rows, sort_rows_with_keys};
+pub use sorted_column::SortedColumn;

@@ -44,6 +44,7 @@ use Rattle.subqueries.specs.declared.kept_results.KeptResults.{KeptResults}
 use Rattle.sqlvalue.specs.Owned.{owned_value}
 use Rattle.subqueries.proofs.KeptPlaces.{latest_is_told, latest_is_total, left_out_told}
 use Rattle.filters.specs.Sources.{block_in, context_in, stored_in}
+use Rattle.executor.proofs.SortedBlocks.{sorted_for}
 use Rattle.executor.specs.ReadyBlocks.{blocks_in, database_in, meanings_in, plans_in, totals_in, seen_at, seen_of, subqueries_at, subqueries_of, total_at, IsReady, IsReadyIn, IsToldLast}
 use Rattle.executor.specs.declared.ready_block.ReadyBlock.{ReadyBlock}
 use Rattle.executor.proofs.InnerBlocks.{as_much_as_asked, at_index, index_is, kept_same, left_below, left_less, left_out_left, left_out_right, left_twice, one_later, right_same, right_with, rising_before, stays_all, sum_later, sum_stops, told_here}
@@ -453,8 +454,8 @@ evaluate_block-returns-then-is_empty-2-clause-total g t c =
 
 -- ---- the rows of a block
 
-pub evaluate_block-run_plan-requires-clause-surrounded : goal.evaluate_block-run_plan-requires-clause-surrounded
-evaluate_block-run_plan-requires-clause-surrounded g t c =
+pub evaluate_block-run_sorted-requires-clause-surrounded : goal.evaluate_block-run_sorted-requires-clause-surrounded
+evaluate_block-run_sorted-requires-clause-surrounded g t c =
     let query = c.args.query.now in
     let number = c.args.number in
     let outer = combinations_in c.args.frames.now in
@@ -462,8 +463,8 @@ evaluate_block-run_plan-requires-clause-surrounded g t c =
     let at_block : slice_get query number ≡ Some r = slice_get-get_or query number r c.requires.number ∙ ap Some (sym c.index-query-number.is) in
     surrounded query c.requires.query number r at_block outer c.requires.stands
 
-pub evaluate_block-run_plan-requires-clause-orders : goal.evaluate_block-run_plan-requires-clause-orders
-evaluate_block-run_plan-requires-clause-orders g t c =
+pub evaluate_block-run_sorted-requires-clause-orders : goal.evaluate_block-run_sorted-requires-clause-orders
+evaluate_block-run_sorted-requires-clause-orders g t c =
     let query = c.args.query.now in
     let number = c.args.number in
     let outer = combinations_in c.args.frames.now in
@@ -472,8 +473,8 @@ evaluate_block-run_plan-requires-clause-orders g t c =
     let ready : IsReady query number r = c.requires.query number r at_block in
     c.orders.ensures.exact ∙ ap (λ (s : Space). s.orders) ready.space
 
-pub evaluate_block-run_plan-requires-clause-within : goal.evaluate_block-run_plan-requires-clause-within
-evaluate_block-run_plan-requires-clause-within g t c =
+pub evaluate_block-run_sorted-requires-clause-within : goal.evaluate_block-run_sorted-requires-clause-within
+evaluate_block-run_sorted-requires-clause-within g t c =
     let query = c.args.query.now in
     let number = c.args.number in
     let outer = combinations_in c.args.frames.now in
@@ -481,6 +482,14 @@ evaluate_block-run_plan-requires-clause-within g t c =
     let at_block : slice_get query number ≡ Some r = slice_get-get_or query number r c.requires.number ∙ ap Some (sym c.index-query-number.is) in
     let ready : IsReady query number r = c.requires.query number r at_block in
     ready.within
+
+pub evaluate_block-run_sorted-requires-clause-sorted : goal.evaluate_block-run_sorted-requires-clause-sorted
+evaluate_block-run_sorted-requires-clause-sorted g t c =
+    let query = c.args.query.now in
+    let number = c.args.number in
+    let r : ReadyBlock = c.index-query-number.result in
+    let at_block : slice_get query number ≡ Some r = slice_get-get_or query number r c.requires.number ∙ ap Some (sym c.index-query-number.is) in
+    sorted_for query c.args.sorted.now number r at_block c.requires.sorted c.sorted_column.result c.sorted_column.ensures
 
 pub evaluate_block-composites-init : goal.evaluate_block-composites-init
 evaluate_block-composites-init g t c =
