@@ -9,7 +9,7 @@ use Rattle.definitions.specs.Queries.Combinations.{Context, at, raises_of}
 use Rattle.definitions.specs.Queries.Evaluation.{Combination, Environment}
 use Rattle.definitions_answers.specs.PlainRows.{plain_raises, plain_row, values_at}
 use Rattle.filters.specs.Sources.{BlockSource, block_in, context_in}
-use Rattle.result_rows.specs.RowAt.{row_in, row_raises_in}
+use Rattle.result_lines.specs.RowAt.{row_in, row_raises_in}
 use Rattle.result_rows.specs.Stores.{Tells, TellsOneMore}
 use Rattle.block_answers.specs.Telling.{names_of}
 use Rattle.result_rows.specs.declared.result_rows.ResultRows.{ResultRows}

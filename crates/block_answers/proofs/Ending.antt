@@ -26,9 +26,9 @@ use Rattle.definitions_execution.specs.Stored.{Composite}
 use Rattle.filters.specs.Composites.{numbers_in}
 use Rattle.filters.specs.declared.composite.Composite as code
 use Rattle.filters.specs.Sources.{BlockSource, block_in, context_in}
-use Rattle.result_rows.specs.Faults.{IfRaised}
-use Rattle.result_rows.specs.declared.fault.AnswerFault.{AnswerFault}
-use Rattle.result_rows.proofs.Faults.{raised_weaker}
+use Rattle.result_lines.specs.Faults.{IfRaised}
+use Rattle.result_lines.specs.declared.fault.AnswerFault.{AnswerFault}
+use Rattle.result_lines.proofs.Faults.{raised_weaker}
 use Rattle.block_answers.specs.BlockRows.{comes_in_order, comes_in_order_by, AreRowsBy, HasRowsOf, HaveTaken, MayRaiseBy, MayRaiseOn, TellsOf}
 use Rattle.block_answers.specs.Groups.{AreTyped}
 use Rattle.block_answers.specs.Ready.{AreReady}

@@ -27,7 +27,7 @@ use Rattle.definitions_execution.proofs.TypedRows.{rows_typed, column_type, comp
 use Rattle.filters.specs.Evaluable.{CanEvaluate}
 use Rattle.filters.specs.Sources.{BlockSource, block_in, context_in, environment_at, IsSurrounded}
 use Rattle.definitions_answers.proofs.ValueShapes.{function_values_have_their_types}
-use Rattle.result_rows.specs.RowAt.{CanGive}
+use Rattle.result_lines.specs.RowAt.{CanGive}
 use Rattle.grouping.specs.Functions.{CanTake}
 use Rattle.block_answers.specs.Having.{CanHave}
 

@@ -10,8 +10,8 @@ use Rattle.definitions.specs.Queries.Combinations.{Context, at, raises_of}
 use Rattle.definitions.specs.Queries.Evaluation.{Combination, Environment, value}
 use Rattle.definitions_answers.specs.PlainRows.{plain_raises, plain_row, values_at}
 use Rattle.filters.specs.Sources.{BlockSource, block_in, context_in}
-use Rattle.result_rows.specs.Batches.{rows_in, GivesColumnOf, IsColumnOf}
-use Rattle.result_rows.specs.RowAt.{row_in, row_raises_in}
+use Rattle.result_lines.specs.Batches.{rows_in, GivesColumnOf, IsColumnOf}
+use Rattle.result_lines.specs.RowAt.{row_in, row_raises_in}
 use Rattle.result_rows.specs.Stores.{Tells, TellsMore}
 use Rattle.result_rows.specs.declared.result_rows.ResultRows.{ResultRows}
 use Rattle.block_answers.specs.Groups.{environments}

@@ -12,7 +12,7 @@ use Rattle.query_tree.specs.Bound.{column_of}
 use Rattle.query_tree.specs.declared.leaf.BlockColumn as bound
 use Rattle.definitions_execution.specs.Stored.{row_number}
 use Rattle.filters.proofs.Cells.{cell_there, value_there}
-use Rattle.result_rows.specs.Batches.{column_values}
+use Rattle.result_lines.specs.Batches.{column_values}
 use Rattle.definitions.specs.Plans.Order.{BlockColumn}
 use Rattle.definitions.specs.Queries.BoundBlock.{Block}
 use Rattle.definitions.specs.Queries.Combinations.{at}

@@ -19,8 +19,8 @@ use Rattle.predicates.specs.declared.conjunct.Conjunct.{Conjunct}
 use Rattle.filters.specs.Evaluable.{CanEvaluate}
 use Rattle.block_answers.specs.OneComposite.{are_true_in, raised_in}
 use Rattle.block_answers.specs.Views.{conditions_of}
-use Rattle.result_rows.proofs.Answering.{told_raise, told_result}
-use Rattle.result_rows.proofs.Lists.{at_place, next}
+use Rattle.result_lines.proofs.Answering.{told_raise, told_result}
+use Rattle.result_lines.proofs.Lists.{at_place, next}
 
 -- ---- which they are
 

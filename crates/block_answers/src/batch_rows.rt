@@ -10,7 +10,7 @@ ghost use Rattle.block_answers.specs.Runs.{between, combinations_at};
 use columns::NumberColumn;
 use filters::{BlockSource, OuterRows};
 use query_tree::BlockColumn;
-use result_rows::RowBatch;
+use result_lines::RowBatch;
 use scans::Batch;
 use sqlvalue::Value;
 

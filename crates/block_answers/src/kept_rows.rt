@@ -24,7 +24,7 @@ ghost use Rattle.block_answers.specs.Telling.{context_with};
 use crate::block_rows::BlockRows;
 use filters::{BlockSource, Composite, OuterRows};
 use query_tree::Block;
-use result_rows::AnswerFault;
+use result_lines::AnswerFault;
 use scans::Batch;
 use sqlvalue::Raise;
 use std::alloc::{AllocError, Global};

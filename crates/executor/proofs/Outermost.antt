@@ -24,9 +24,9 @@ use Rattle.filters.specs.declared.composite.Composite as code
 use Rattle.filters.specs.Sources.{block_in}
 use Rattle.sqlvalue.specs.Raises.{raise_of}
 use Rattle.sqlvalue.specs.declared.raise.Raise.{Raise}
-use Rattle.result_rows.specs.Faults.{IfRaised}
-use Rattle.result_rows.specs.declared.fault.AnswerFault.{AnswerFault}
-use Rattle.result_rows.proofs.Faults.{raised_weaker}
+use Rattle.result_lines.specs.Faults.{IfRaised}
+use Rattle.result_lines.specs.declared.fault.AnswerFault.{AnswerFault}
+use Rattle.result_lines.proofs.Faults.{raised_weaker}
 use Rattle.subqueries.specs.Found.{said_in}
 use Rattle.subqueries.specs.Framed.{combination_in}
 use Rattle.block_answers.specs.BlockRows.{comes_in_order, HasRowsOf, HaveTaken, MayRaiseOn, TellsOf}

@@ -3,8 +3,8 @@ use Rattle.std.proofs.Common.{◌≡◌, refl, subst, ℕ, zero, suc, List, [], 
 use Rattle.std.specs.Prelude.{IfSome, Option, None, Some, slice_get}
 use Rattle.std.specs.List.{AllByRecursion}
 use Rattle.std.specs.Borrow.{Bor}
-use Rattle.tuple_sort.specs.SortedColumns.{IsSortedColumn}
-use Rattle.tuple_sort.specs.declared.sorted_column.SortedColumn.{SortedColumn}
+use Rattle.automatic_indexes.specs.SortedColumns.{IsSortedColumn}
+use Rattle.automatic_indexes.specs.declared.sorted_column.SortedColumn.{SortedColumn}
 use Rattle.executor.specs.ReadyBlocks.{OfBlock}
 use Rattle.executor.specs.SortedColumns.{AreSorted}
 use Rattle.executor.specs.declared.ready_block.ReadyBlock.{ReadyBlock}

@@ -1,7 +1,7 @@
 -- Columns that are sorted for the blocks of a query.
 use Rattle.std.specs.Prelude.{ℕ, ◌≡◌, List, Option, Some, slice_get}
-use Rattle.tuple_sort.specs.SortedColumns.{IsSortedColumn}
-use Rattle.tuple_sort.specs.declared.sorted_column.SortedColumn.{SortedColumn}
+use Rattle.automatic_indexes.specs.SortedColumns.{IsSortedColumn}
+use Rattle.automatic_indexes.specs.declared.sorted_column.SortedColumn.{SortedColumn}
 use Rattle.executor.specs.ReadyBlocks.{OfBlock}
 use Rattle.executor.specs.declared.ready_block.ReadyBlock.{ReadyBlock}
 

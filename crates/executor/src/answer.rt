@@ -10,7 +10,7 @@ ghost use Rattle.definitions.specs.Queries.Outcomes.{names_of, shown, AllowedOf,
 ghost use Rattle.definitions.specs.Table.{Row};
 ghost use Rattle.definitions_answers.specs.Standing.{Stands};
 ghost use Rattle.definitions_execution.specs.Total.{AreCertified, IsTotal};
-ghost use Rattle.result_rows.specs.Faults.{IfRaised};
+ghost use Rattle.result_lines.specs.Faults.{IfRaised};
 ghost use Rattle.query_tree.specs.Bound.{block_of};
 ghost use Rattle.plan_space.specs.BlockPlans.{AreLeastOf};
 ghost use Rattle.executor.specs.ReadyBlocks.{blocks_in, database_in, total_at, AreReady, AreRight};
@@ -24,7 +24,7 @@ use catalog::Database;
 use plan_space::BlockPlan;
 use plan_tree::saturating_sum;
 use query_tree::Block;
-use result_rows::AnswerFault;
+use result_lines::AnswerFault;
 use std::alloc::{AllocError, Global};
 use subqueries::{Frames, KeptResults};
 

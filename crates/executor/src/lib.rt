@@ -13,6 +13,6 @@ mod watch;
 
 pub use answer::{answer_text, run_select};
 pub use ready_block::{ReadyBlock, ready_blocks};
-pub use result_rows::AnswerFault;
+pub use result_lines::AnswerFault;
 pub use running::run_plan;
 pub use watch::QueryWatch;

@@ -27,6 +27,7 @@ use crate::alone::evaluate_alone;
 use crate::ready_block::ReadyBlock;
 use crate::running::run_sorted;
 use crate::sorted_columns::sorted_column;
+use automatic_indexes::SortedColumn;
 use block_answers::{KeptRows, row_at, try_all};
 use filters::{BlockSource, Composite, OuterRows};
 use plan_tree::saturating_sum;
@@ -35,7 +36,6 @@ use scans::TupleSource;
 use sqlvalue::Raise;
 use std::alloc::{AllocError, Global};
 use subqueries::{Frames, KeptResults, Late, Told, WorkWatch, bound_memory, key_of};
-use tuple_sort::SortedColumn;
 
 /// Has a block told what it may tell in the rows of the blocks around it, or whether it has a row, if that is all that is asked, which
 /// is then what it told last, and gives its total there. A result that is kept for the values of its parameters is told again

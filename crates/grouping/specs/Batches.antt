@@ -7,7 +7,7 @@ use Rattle.definitions.specs.Queries.BoundBlock as b
 use Rattle.definitions.specs.Queries.Evaluation.{Environment, cell}
 use Rattle.definitions.specs.Queries.Grouping.{taken}
 use Rattle.query_tree.specs.Bound.{column_of}
-use Rattle.result_rows.specs.Batches.{column_values}
+use Rattle.result_lines.specs.Batches.{column_values}
 use Rattle.grouping.specs.Units.{numbers_at}
 use Rattle.grouping.specs.declared.column_units.ColumnUnits.{ColumnUnits}
 

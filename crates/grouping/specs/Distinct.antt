@@ -6,7 +6,7 @@ use Rattle.std.specs.List.{list_any}
 use Rattle.definitions.specs.Value.{Value, Null, Number, Text}
 use Rattle.definitions.specs.Printing.{row_line}
 use Rattle.definitions_answers.specs.Lines.{with_line}
-use Rattle.result_rows.specs.Lines.{lines_of}
+use Rattle.result_lines.specs.Lines.{lines_of}
 use Rattle.grouping.specs.declared.distinct_values.DistinctValues.{DistinctValues}
 
 -- a value as it is printed in a row of its own

@@ -8,7 +8,7 @@ ghost use Rattle.definitions.specs.Queries.Grouping.{aggregate, taken};
 ghost use Rattle.sqlvalue.specs.Meaning.{value_of};
 ghost use Rattle.parse_tree.specs.Trees.{function_of};
 ghost use Rattle.query_tree.specs.Bound.{column_of};
-ghost use Rattle.result_rows.specs.Batches.{column_values};
+ghost use Rattle.result_lines.specs.Batches.{column_values};
 ghost use Rattle.grouping.specs.Batches.{AreHeld};
 ghost use Rattle.definitions_answers.specs.Lines.{IsInBounds};
 ghost use Rattle.definitions_answers.specs.Shapes.{HasShape, IsThere, Shape, Sums};
@@ -20,7 +20,7 @@ use crate::column_units::ColumnUnits;
 use crate::distinct_values::DistinctValues;
 use parse_tree::SetFunction;
 use query_tree::BlockColumn;
-use result_rows::RowBatch;
+use result_lines::RowBatch;
 use sqlvalue::{Raise, Value};
 use std::alloc::{AllocError, Global};
 

@@ -13,7 +13,7 @@ ghost use Rattle.grouping.specs.Units.{numbers_at};
 use crate::accumulator::is_null;
 use columns::NumberColumn;
 use query_tree::BlockColumn;
-use result_rows::{RowBatch, unit_of};
+use result_lines::{RowBatch, unit_of};
 use std::alloc::{AllocError, Global};
 
 /// The greatest scale of numbers (own).

@@ -1,10 +1,10 @@
 //! Values that came before, each once.
 
 ghost use Rattle.std.specs.Prelude.{ℤ, ◌≡◌, true};
-ghost use Rattle.result_rows.specs.SeenUnits.{has_unit};
+ghost use Rattle.result_lines.specs.SeenUnits.{has_unit};
 
 use indexmap::IndexSet;
-use result_rows::{DistinctLines, SeenUnits};
+use result_lines::{DistinctLines, SeenUnits};
 use sqlvalue::{Value, write_value};
 use std::alloc::{AllocError, Global};
 
@@ -23,8 +23,8 @@ pub struct DistinctValues {
 impl DistinctValues {
     ghost use Rattle.std.specs.Prelude.{◌≡◌, is_some, not, IfOk, IfSome, OnOk};
     ghost use Rattle.sqlvalue.specs.Meaning.{value_of};
-    ghost use Rattle.result_rows.specs.Lines.{lines_of};
-    ghost use Rattle.result_rows.specs.SeenUnits.{has_unit};
+    ghost use Rattle.result_lines.specs.Lines.{lines_of};
+    ghost use Rattle.result_lines.specs.SeenUnits.{has_unit};
     ghost use Rattle.grouping.specs.Distinct.{with_unit, IsNoted, IsOfNothing};
 
     /// Values of which none has come yet, if repeats are to be left out.

@@ -7,11 +7,11 @@ use Rattle.definitions.specs.Printing.{row_line}
 use Rattle.definitions.specs.Table.{Row}
 use Rattle.definitions.specs.Value.{Number}
 use Rattle.definitions_answers.specs.Lines.{with_line, IsInBounds}
-use Rattle.result_rows.specs.Lines.{has_line, lines_of, number_line}
+use Rattle.result_lines.specs.Lines.{has_line, lines_of, number_line}
 use Rattle.result_rows.specs.ResultRows.{HasDistinct}
-use Rattle.result_rows.specs.SeenUnits.{has_unit}
+use Rattle.result_lines.specs.SeenUnits.{has_unit}
 use Rattle.result_rows.specs.declared.distinct_rows.DistinctRows.{DistinctRows}
-use Rattle.result_rows.proofs.Repeats.{all_noted, in_bounds, line_added, line_repeats, line_stays}
+use Rattle.result_lines.proofs.Repeats.{all_noted, in_bounds, line_added, line_repeats, line_stays}
 use Rattle.result_rows.proofs.RowsOneByOne.{lines_more}
 
 module _ (names : List (List ℕ)) (rows : List Row) (row : Row) (d d' : DistinctRows) (h : HasDistinct names rows d) where

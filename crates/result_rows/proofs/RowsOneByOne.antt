@@ -15,9 +15,9 @@ use Rattle.definitions_answers.specs.Shapes.{Shape, HasShapes}
 use Rattle.definitions_answers.proofs.Left.{repeats_one_by_one}
 use Rattle.definitions_answers.proofs.LinesBack.{any_line, lines_one_by_one}
 use Rattle.definitions_answers.proofs.Taken.{all_left}
-use Rattle.result_rows.specs.Lines.{lines_of, IsNotedLine}
+use Rattle.result_lines.specs.Lines.{lines_of, IsNotedLine}
 use Rattle.result_rows.specs.ResultRows.{AreLinesOf}
-use Rattle.result_rows.specs.declared.lines.DistinctLines.{DistinctLines}
+use Rattle.result_lines.specs.declared.lines.DistinctLines.{DistinctLines}
 
 -- ---- of all rows and one more
 

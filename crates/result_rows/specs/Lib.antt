@@ -1,8 +1,2 @@
-pub mod Lines
-pub mod Rows
-pub mod Faults
-pub mod RowAt
-pub mod Batches
-pub mod SeenUnits
 pub mod ResultRows
 pub mod Stores

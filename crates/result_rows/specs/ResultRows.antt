@@ -13,11 +13,11 @@ use Rattle.definitions_answers.specs.Told.{values_asked}
 use Rattle.definitions_answers.specs.Lines.{IsInBounds}
 use Rattle.definitions_answers.specs.Shapes.{Shape, HasShapes}
 use Rattle.sqlvalue.specs.Owned.{owned_value}
-use Rattle.result_rows.specs.Lines.{has_line, lines_of, number_line}
-use Rattle.result_rows.specs.Rows.{rows_of}
-use Rattle.result_rows.specs.SeenUnits.{has_unit}
+use Rattle.result_lines.specs.Lines.{has_line, lines_of, number_line}
+use Rattle.result_lines.specs.Rows.{rows_of}
+use Rattle.result_lines.specs.SeenUnits.{has_unit}
 use Rattle.result_rows.specs.declared.any_row.AnyRow.{AnyRow}
-use Rattle.result_rows.specs.declared.lines.DistinctLines.{DistinctLines}
+use Rattle.result_lines.specs.declared.lines.DistinctLines.{DistinctLines}
 use Rattle.result_rows.specs.declared.printed_rows.PrintedRows.{PrintedRows}
 use Rattle.result_rows.specs.declared.distinct_rows.DistinctRows.{DistinctRows}
 use Rattle.result_rows.specs.declared.ordered_rows.OrderedRows.{OrderedRows}

@@ -10,8 +10,8 @@ use Rattle.definitions_answers.specs.Told.{values_asked}
 use Rattle.sqlvalue.specs.Raises.{raise_of}
 use Rattle.sqlvalue.specs.declared.raise.Raise.{Raise}
 use Rattle.result_rows.specs.ResultRows.{AreArranged, HasAnyRow, HasDistinct, HasFirstValues, HasOrdered, HasPrinted}
-use Rattle.result_rows.specs.Batches.{rows_in}
-use Rattle.result_rows.specs.RowAt.{row_in, row_raises_in}
+use Rattle.result_lines.specs.Batches.{rows_in}
+use Rattle.result_lines.specs.RowAt.{row_in, row_raises_in}
 use Rattle.result_rows.specs.declared.result_rows.ResultRows.{ResultRows}
 use Rattle.result_rows.specs.declared.row_store.RowStore.{RowStore}
 use Rattle.result_rows.specs.declared.row_store.RowStore.TheVariants as store

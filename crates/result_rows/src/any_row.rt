@@ -5,14 +5,13 @@ ghost use Rattle.std.specs.List.{AllByRecursion};
 ghost use Rattle.definitions.specs.Table.{Row};
 ghost use Rattle.definitions_answers.specs.Told.{values_asked};
 ghost use Rattle.sqlvalue.specs.Owned.{owned_value};
-ghost use Rattle.result_rows.specs.Faults.{IfRaised};
+ghost use Rattle.result_lines.specs.Faults.{IfRaised};
 ghost use Rattle.result_rows.specs.ResultRows.{HasAnyRow};
-ghost use Rattle.result_rows.specs.RowAt.{items_of, row_in, row_raises_in, CanGive};
+ghost use Rattle.result_lines.specs.RowAt.{items_of, row_in, row_raises_in, CanGive};
 
-use crate::fault::AnswerFault;
-use crate::row::evaluate_row;
 use expr::Environment;
 use query_tree::Item;
+use result_lines::{AnswerFault, evaluate_row};
 use sqlvalue::OwnedValue;
 use std::alloc::Global;
 

@@ -10,20 +10,18 @@ ghost use Rattle.definitions.specs.Lists.{without_repeats};
 ghost use Rattle.definitions.specs.Queries.Grouping.{same_values};
 ghost use Rattle.definitions_answers.specs.Lines.{with_line, IsInBounds};
 ghost use Rattle.definitions_answers.specs.Shapes.{HasShapes, Shape};
-ghost use Rattle.result_rows.specs.Batches.{rows_in, GivesColumnOf};
-ghost use Rattle.result_rows.specs.Faults.{IfRaised};
-ghost use Rattle.result_rows.specs.Lines.{lines_of};
+ghost use Rattle.result_lines.specs.Batches.{rows_in, GivesColumnOf};
+ghost use Rattle.result_lines.specs.Faults.{IfRaised};
+ghost use Rattle.result_lines.specs.Lines.{lines_of};
 ghost use Rattle.result_rows.specs.ResultRows.{HasDistinct};
-ghost use Rattle.result_rows.specs.RowAt.{items_of, row_in, row_raises_in, CanGive};
+ghost use Rattle.result_lines.specs.RowAt.{items_of, row_in, row_raises_in, CanGive};
 
-use crate::column_rows::{only_unit, write_columns};
-use crate::fault::AnswerFault;
-use crate::lines::DistinctLines;
-use crate::row::{write_count, write_header, write_row};
-use crate::row_batch::RowBatch;
-use crate::seen_units::SeenUnits;
 use expr::Environment;
 use query_tree::{Item, ValueExpr};
+use result_lines::{
+    AnswerFault, DistinctLines, RowBatch, SeenUnits, only_unit, write_columns, write_count,
+    write_header, write_row,
+};
 use sqlvalue::SqlType;
 use std::alloc::{AllocError, Global};
 

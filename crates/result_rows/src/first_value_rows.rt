@@ -8,16 +8,14 @@ ghost use Rattle.definitions.specs.Queries.Evaluation.{column_values};
 ghost use Rattle.definitions_answers.specs.Lines.{IsInBounds};
 ghost use Rattle.definitions_answers.specs.Shapes.{HasShapes, Shape};
 ghost use Rattle.sqlvalue.specs.Owned.{owned_value};
-ghost use Rattle.result_rows.specs.Faults.{IfRaised};
-ghost use Rattle.result_rows.specs.Lines.{IsNotedLine};
+ghost use Rattle.result_lines.specs.Faults.{IfRaised};
+ghost use Rattle.result_lines.specs.Lines.{IsNotedLine};
 ghost use Rattle.result_rows.specs.ResultRows.{HasFirstValues};
-ghost use Rattle.result_rows.specs.RowAt.{items_of, row_in, row_raises_in, CanGive};
+ghost use Rattle.result_lines.specs.RowAt.{items_of, row_in, row_raises_in, CanGive};
 
-use crate::fault::AnswerFault;
-use crate::lines::DistinctLines;
-use crate::row::{keep_first, write_row};
 use expr::Environment;
 use query_tree::Item;
+use result_lines::{AnswerFault, DistinctLines, keep_first, write_row};
 use sqlvalue::OwnedValue;
 use std::alloc::Global;
 

@@ -7,18 +7,18 @@ ghost use Rattle.definitions.specs.Printing.{fields_line, table_text};
 ghost use Rattle.definitions.specs.Queries.BoundBlock as b;
 ghost use Rattle.definitions_answers.specs.Shapes.{HasShapes, Shape};
 ghost use Rattle.query_tree.specs.Bound.{key_of};
-ghost use Rattle.result_rows.specs.Faults.{IfRaised};
-ghost use Rattle.result_rows.specs.Lines.{IsNotedLine};
+ghost use Rattle.result_lines.specs.Faults.{IfRaised};
+ghost use Rattle.result_lines.specs.Lines.{IsNotedLine};
 ghost use Rattle.result_rows.specs.ResultRows.{AreArranged, HasOrdered};
-ghost use Rattle.result_rows.specs.RowAt.{items_of, row_in, row_raises_in, CanGive};
-ghost use Rattle.result_rows.specs.Rows.{row_of, rows_of};
+ghost use Rattle.result_lines.specs.RowAt.{items_of, row_in, row_raises_in, CanGive};
+ghost use Rattle.result_lines.specs.Rows.{row_of, rows_of};
 
-use crate::fault::AnswerFault;
-use crate::lines::DistinctLines;
-use crate::result_row::{ResultRow, order_rows};
-use crate::row::{keep_row, write_count, write_header, write_kept};
 use expr::Environment;
 use query_tree::{Item, Key};
+use result_lines::{
+    AnswerFault, DistinctLines, ResultRow, keep_row, order_rows, write_count, write_header,
+    write_kept,
+};
 use std::alloc::{AllocError, Global};
 
 /// The header and the rows so far, under DISTINCT each once.

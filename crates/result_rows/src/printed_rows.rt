@@ -5,17 +5,14 @@ ghost use Rattle.std.specs.List.{AllByRecursion};
 ghost use Rattle.definitions.specs.Table.{Row};
 ghost use Rattle.definitions.specs.Printing.{table_text};
 ghost use Rattle.definitions.specs.Queries.BoundBlock as b;
-ghost use Rattle.result_rows.specs.Batches.{rows_in, GivesColumnOf};
-ghost use Rattle.result_rows.specs.Faults.{IfRaised};
+ghost use Rattle.result_lines.specs.Batches.{rows_in, GivesColumnOf};
+ghost use Rattle.result_lines.specs.Faults.{IfRaised};
 ghost use Rattle.result_rows.specs.ResultRows.{HasPrinted};
-ghost use Rattle.result_rows.specs.RowAt.{items_of, row_in, row_raises_in, CanGive};
+ghost use Rattle.result_lines.specs.RowAt.{items_of, row_in, row_raises_in, CanGive};
 
-use crate::column_rows::write_rows;
-use crate::fault::AnswerFault;
-use crate::row::{write_count, write_header, write_row};
-use crate::row_batch::RowBatch;
 use expr::Environment;
 use query_tree::Item;
+use result_lines::{AnswerFault, RowBatch, write_count, write_header, write_row, write_rows};
 use std::alloc::{AllocError, Global};
 
 /// The header and a line for each row so far, in the order in which they came.

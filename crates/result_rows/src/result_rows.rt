@@ -4,16 +4,15 @@ ghost use Rattle.std.specs.Prelude.{◌≡◌, [], List, ℕ, IfErr, IfOk, OnOk,
 ghost use Rattle.std.specs.List.{AllByRecursion};
 ghost use Rattle.definitions.specs.Table.{Row};
 ghost use Rattle.definitions.specs.Arithmetic as arithmetic;
-ghost use Rattle.result_rows.specs.Batches.{GivesColumnOf};
-ghost use Rattle.result_rows.specs.Faults.{IfRaised};
-ghost use Rattle.result_rows.specs.RowAt.{items_of, CanGive};
+ghost use Rattle.result_lines.specs.Batches.{GivesColumnOf};
+ghost use Rattle.result_lines.specs.Faults.{IfRaised};
+ghost use Rattle.result_lines.specs.RowAt.{items_of, CanGive};
 ghost use Rattle.result_rows.specs.Stores.{kind_of, Holds, IsRaiseOf, Tells, TellsMore, TellsOneMore};
 
-use crate::fault::AnswerFault;
-use crate::row_batch::RowBatch;
 use crate::row_store::RowStore;
 use expr::Environment;
 use query_tree::Item;
+use result_lines::{AnswerFault, RowBatch};
 use sqlvalue::Raise;
 use std::alloc::{AllocError, Global};
 

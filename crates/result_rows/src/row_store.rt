@@ -8,20 +8,19 @@ ghost use Rattle.definitions.specs.Queries.BoundBlock as b;
 ghost use Rattle.sqlvalue.specs.Owned.{owned_value};
 ghost use Rattle.definitions_answers.specs.Shapes.{HasShapes, Shape};
 ghost use Rattle.query_tree.specs.Bound.{key_of};
-ghost use Rattle.result_rows.specs.Batches.{rows_in, GivesColumnOf};
-ghost use Rattle.result_rows.specs.Faults.{IfRaised};
-ghost use Rattle.result_rows.specs.RowAt.{items_of, row_in, row_raises_in, CanGive};
+ghost use Rattle.result_lines.specs.Batches.{rows_in, GivesColumnOf};
+ghost use Rattle.result_lines.specs.Faults.{IfRaised};
+ghost use Rattle.result_lines.specs.RowAt.{items_of, row_in, row_raises_in, CanGive};
 ghost use Rattle.result_rows.specs.Stores.{keeping, kind_of, printing, AreAsked, AreToldAs, Holds};
 
 use crate::any_row::AnyRow;
 use crate::distinct_rows::DistinctRows;
-use crate::fault::AnswerFault;
 use crate::first_value_rows::FirstValueRows;
 use crate::ordered_rows::OrderedRows;
 use crate::printed_rows::PrintedRows;
-use crate::row_batch::RowBatch;
 use expr::Environment;
 use query_tree::{Item, Key};
+use result_lines::{AnswerFault, RowBatch};
 use sqlvalue::OwnedValue;
 use std::alloc::{AllocError, Global};
 

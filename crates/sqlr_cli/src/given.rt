@@ -1,7 +1,7 @@
 //! What the command line names, read.
 
-use command_line::requests::{Request, RunOptions, Source};
-use program_devices::{BROKEN_OFF, Input, source_name};
+use programs::requests::{Request, RunOptions, Source};
+use programs::{BROKEN_OFF, Input, source_name};
 use std::rt::Runtime;
 
 /// A script, and certificates if they are to be checked.

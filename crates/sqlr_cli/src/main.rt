@@ -1,19 +1,22 @@
 //! The program `sqlr`: files, standard output and the exit status.
 #![tactic(auto)]
 
+mod aligned;
+mod answer;
+mod comma_separated;
 mod given;
+mod objects;
 mod output;
 
 ghost use Rattle.std.specs.Prelude.{◌≡◌, ◌<◌};
 
-use command_line::request;
-use command_line::requests::Request;
 use given::Given;
 use messages_statements::Reporter;
 use output::Output;
-use program_devices::{
+use programs::requests::Request;
+use programs::{
     BROKEN_OFF, Folder, Input, StandardError, broken_off, is_enough, line_words, print_line_fault,
-    tell_broken_off,
+    request, tell_broken_off,
 };
 use sqlr::{Failures, Session, status};
 use std::alloc::AllocError;

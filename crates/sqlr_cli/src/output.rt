@@ -1,10 +1,13 @@
 //! Standard output as a sink.
 
-use answer_forms::{Answer, csv_text, json_text, table_text};
+use crate::aligned::table_text;
+use crate::answer::Answer;
+use crate::comma_separated::csv_text;
+use crate::objects::json_text;
 use catalog::Database;
-use command_line::requests::{AnswerForm, RunOptions};
 use messages_statements::Reporter;
-use program_devices::{StandardError, tell_beside};
+use programs::requests::{AnswerForm, RunOptions};
+use programs::{StandardError, tell_beside};
 use sqlr::{
     CheckedFile, Failures, LoadProgress, LongList, Name, Planned, Progress, Refused, Sink,
     SinkFault,

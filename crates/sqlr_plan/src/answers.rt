@@ -3,11 +3,11 @@
 use crate::asking::SessionPlanner;
 use crate::printing::{Form, drawing_of, out_of_memory, print};
 use crate::reading::{Certificates, REFUSED, Reading, read_query, with_proposals};
-use command_line::questions::{Asked, AskedView, Options, Question};
-use command_line::requests::Source;
 use plan_pages::{Page, Part, Section};
 use plan_questions::{PlanningScript, View, ViewFault, difference, page};
-use program_devices::{BROKEN_OFF, Input, source_name};
+use programs::questions::{Asked, AskedView, Options, Question};
+use programs::requests::Source;
+use programs::{BROKEN_OFF, Input, source_name};
 use sqlr::Failures;
 use std::alloc::{AllocError, Global};
 use std::rt::Runtime;

@@ -5,7 +5,7 @@ ghost use Rattle.std.specs.Prelude.{None};
 use catalog::Database;
 use messages_statements::Reporter;
 use plan_questions::PlanningScript;
-use program_devices::{StandardError, tell_beside};
+use programs::{StandardError, tell_beside};
 use sqlr::{
     CheckedFile, LoadProgress, LongList, Name, Planned, Progress, Refused, Sink, SinkFault,
 };

@@ -11,9 +11,10 @@ mod reading;
 ghost use Rattle.std.specs.Prelude.{◌≡◌, ◌<◌};
 
 use answers::answer;
-use command_line::asked_question;
-use command_line::questions::Asked;
-use program_devices::{BROKEN_OFF, Input, StandardError, is_enough, line_words, print_line_fault};
+use programs::questions::Asked;
+use programs::{
+    BROKEN_OFF, Input, StandardError, asked_question, is_enough, line_words, print_line_fault,
+};
 use sqlr::Failures;
 use std::io::{self, IsTerminal};
 use std::marker::Brand;

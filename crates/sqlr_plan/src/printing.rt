@@ -2,7 +2,7 @@
 
 use page_forms::{Drawing, page_html, page_json, page_text};
 use plan_pages::Page;
-use program_devices::{BROKEN_OFF, Input, StandardError, tell_output};
+use programs::{BROKEN_OFF, Input, StandardError, tell_output};
 use std::alloc::{AllocError, Global};
 use std::env;
 use std::io::{self, Write};

@@ -4,7 +4,7 @@ ghost use Rattle.std.specs.Prelude.{ℕ, ◌≡◌, ◌-ℤ◌, ◌<◌, IfOk, I
 ghost use Rattle.sqlvalue.specs.Owned.{owned_value};
 ghost use Rattle.told_tests.specs.UnitSets.{has, HasUnitsOf, IsPlaceOf};
 
-use result_rows::unit_of;
+use result_lines::unit_of;
 use sqlvalue::OwnedValue;
 use std::alloc::{AllocError, Global};
 

@@ -8,8 +8,3 @@ pub mod PutBack
 pub mod Bits
 pub mod KeyRanks
 pub mod SortedPlaces
-pub mod BucketRows
-pub mod Matches
-pub mod CleanRows
-pub mod Chains
-pub mod RisingKeys

@@ -5,11 +5,6 @@ pub mod Packing
 pub mod Keeping
 pub mod Keys
 pub mod RowKeys
-pub mod RisingKeys
-pub mod Buckets
-pub mod Equating
-pub mod AutomaticIndexes
 pub mod KeyRanges
 pub mod PlaceKeys
-pub mod SortedColumns
 pub mod Inside

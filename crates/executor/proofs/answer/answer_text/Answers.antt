@@ -1,6 +1,6 @@
 use Rattle.std.proofs.Common.{map}
 use Rattle.std.proofs.lemmas.Result.{IfErr-weaker, IfOk-weaker}
-use Rattle.result_rows.proofs.Faults.{raised_weaker}
+use Rattle.result_lines.proofs.Faults.{raised_weaker}
 use Rattle.query_tree.specs.Bound.{block_of}
 use Rattle.executor.specs.ReadyBlocks.{plans_in}
 use Rattle.executor.proofs.WholeQuery.{all_ready, database_is, is_total, outermost, plans_certified, stands}

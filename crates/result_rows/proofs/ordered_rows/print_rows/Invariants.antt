@@ -1,7 +1,7 @@
 use Rattle.std.proofs.Common.{◌≡◌, ◌++◌, drop}
 use Rattle.std.specs.Prelude.{flat_map}
 use Rattle.definitions.specs.Printing.{row_line}
-use Rattle.result_rows.specs.Rows.{rows_of}
+use Rattle.result_lines.specs.Rows.{rows_of}
 use Rattle.result_rows.proofs.ordered_rows.print_rows.Given as goal
 
 -- what is printed, and what is left, is the whole

@@ -4,7 +4,7 @@ use Rattle.std.proofs.lemmas.Result.{on_ok_weaker}
 use Rattle.query_tree.specs.Bound.{block_of}
 use Rattle.filters.specs.Composites.{numbers_in}
 use Rattle.filters.specs.Sources.{block_in, environment_at}
-use Rattle.result_rows.specs.RowAt.{items_of, CanGive}
+use Rattle.result_lines.specs.RowAt.{items_of, CanGive}
 use Rattle.block_answers.specs.Groups.{seen}
 use Rattle.block_answers.proofs.BlockTaking.{plain_more}
 use Rattle.block_answers.proofs.Formed.{items_can}

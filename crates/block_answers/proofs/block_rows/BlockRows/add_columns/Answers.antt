@@ -3,8 +3,8 @@ use Rattle.std.specs.List.{AllByRecursion}
 use Rattle.std.proofs.lemmas.Result.{IfOk-weaker}
 use Rattle.query_tree.specs.Bound.{block_of}
 use Rattle.filters.specs.Sources.{block_in}
-use Rattle.result_rows.specs.Batches.{GivesColumnOf}
-use Rattle.result_rows.specs.RowAt.{items_of}
+use Rattle.result_lines.specs.Batches.{GivesColumnOf}
+use Rattle.result_lines.specs.RowAt.{items_of}
 use Rattle.block_answers.specs.BlockRows.{TellsOf}
 use Rattle.block_answers.specs.Runs.{between, combinations_at}
 use Rattle.block_answers.specs.declared.block_rows.BlockRows.TheVariants as rows

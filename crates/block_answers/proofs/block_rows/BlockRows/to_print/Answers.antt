@@ -2,7 +2,7 @@ use Rattle.std.proofs.Common.{◌∙◌, sym, ap, subst, List, [], map}
 use Rattle.std.proofs.lemmas.Result.{IfOk-weaker}
 use Rattle.definitions.specs.Queries.BoundBlock as b
 use Rattle.query_tree.specs.Bound.{block_of}
-use Rattle.result_rows.specs.RowAt.{items_of}
+use Rattle.result_lines.specs.RowAt.{items_of}
 use Rattle.result_rows.specs.Stores.{Holds}
 use Rattle.block_answers.proofs.block_rows.BlockRows.to_print.Goals as goal
 

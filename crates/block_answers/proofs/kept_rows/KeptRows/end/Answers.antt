@@ -10,8 +10,8 @@ use Rattle.definitions_answers.specs.Told.{values_asked, Tells}
 use Rattle.definitions_execution.specs.OfBlock.{combination_of}
 use Rattle.sqlvalue.specs.Owned.{owned_value}
 use Rattle.sqlvalue.specs.Raises.{raise_of}
-use Rattle.result_rows.specs.Faults.{IfRaised}
-use Rattle.result_rows.specs.declared.fault.AnswerFault.TheVariants as f
+use Rattle.result_lines.specs.Faults.{IfRaised}
+use Rattle.result_lines.specs.declared.fault.AnswerFault.TheVariants as f
 use Rattle.filters.specs.Sources.{block_in}
 use Rattle.subqueries.specs.FirstValues.{values_in}
 use Rattle.block_answers.specs.BlockRows.{MayRaiseOn, TellsOf}

@@ -1,7 +1,7 @@
 use Rattle.std.proofs.Common.{◌∙◌, sym, subst, Bool}
 use Rattle.sqlvalue.specs.Meaning.{value_of}
 use Rattle.grouping.specs.Aggregating.{MayBeNoted}
-use Rattle.result_rows.proofs.Bounded.{is_in_bounds}
+use Rattle.result_lines.proofs.Bounded.{is_in_bounds}
 use Rattle.grouping.proofs.Distinct.{one_new, one_old}
 use Rattle.grouping.proofs.aggregation.Aggregation.take.Goals as goal
 

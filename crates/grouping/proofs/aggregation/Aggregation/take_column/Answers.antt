@@ -9,7 +9,7 @@ use Rattle.definitions_answers.specs.Shapes.{IsThere}
 use Rattle.definitions_answers.proofs.Taken.{taken_there}
 use Rattle.query_tree.specs.Bound.{column_of}
 use Rattle.grouping.specs.Accumulating.{Accumulates}
-use Rattle.result_rows.specs.Batches.{column_values}
+use Rattle.result_lines.specs.Batches.{column_values}
 use Rattle.grouping.specs.Units.{numbers_at}
 use Rattle.grouping.proofs.Cells.{numbers_bounded}
 use Rattle.grouping.proofs.Counted.{more_counted}

@@ -1,6 +1,6 @@
 use Rattle.std.proofs.Common.{map}
 use Rattle.sqlvalue.specs.Owned.{owned_value}
-use Rattle.result_rows.proofs.Answering.{told_at}
+use Rattle.result_lines.proofs.Answering.{told_at}
 use Rattle.grouping.proofs.group_context.GroupContextEnvironment.aggregate_value.Goals as goal
 
 pub returns : goal.returns

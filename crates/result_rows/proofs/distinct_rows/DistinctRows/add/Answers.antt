@@ -1,8 +1,8 @@
 use Rattle.std.proofs.Common.{◌≡◌, ◌∙◌, refl, ap}
 use Rattle.definitions.specs.Printing.{row_line}
 use Rattle.definitions_answers.specs.Lines.{with_line}
-use Rattle.result_rows.specs.Lines.{lines_of}
-use Rattle.result_rows.specs.RowAt.{items_of, row_in}
+use Rattle.result_lines.specs.Lines.{lines_of}
+use Rattle.result_lines.specs.RowAt.{items_of, row_in}
 use Rattle.result_rows.proofs.DistinctOnce.{row_added}
 use Rattle.result_rows.proofs.distinct_rows.DistinctRows.add.Goals as goal
 

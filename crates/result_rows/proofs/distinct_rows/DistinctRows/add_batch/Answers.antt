@@ -1,10 +1,10 @@
 use Rattle.std.proofs.Common.{◌∙◌, ◌++◌, ◌∷◌, [], sym, ap, subst, take, append_assoc, arith, List}
 use Rattle.std.proofs.lemmas.List.{append-nil, take_all}
 use Rattle.definitions.specs.Queries.Evaluation.{Environment}
-use Rattle.result_rows.specs.Batches.{rows_in}
+use Rattle.result_lines.specs.Batches.{rows_in}
 use Rattle.result_rows.specs.ResultRows.{HasDistinct}
-use Rattle.result_rows.specs.RowAt.{items_of, row_in}
-use Rattle.result_rows.proofs.Batches.{one_more, there}
+use Rattle.result_lines.specs.RowAt.{items_of, row_in}
+use Rattle.result_lines.proofs.Batches.{one_more, there}
 use Rattle.result_rows.proofs.distinct_rows.DistinctRows.add_batch.Goals as goal
 
 pub places-init : goal.places-init

@@ -1,8 +1,8 @@
 use Rattle.std.proofs.Common.{ℕ, List, ◌++◌, take}
 use Rattle.definitions.specs.Table.{Row}
-use Rattle.result_rows.specs.Batches.{rows_in}
+use Rattle.result_lines.specs.Batches.{rows_in}
 use Rattle.result_rows.specs.ResultRows.{HasDistinct}
-use Rattle.result_rows.specs.RowAt.{items_of}
+use Rattle.result_lines.specs.RowAt.{items_of}
 use Rattle.result_rows.proofs.distinct_rows.DistinctRows.add_batch.Given as goal
 
 -- the rows before a place are there

@@ -1,10 +1,10 @@
 use Rattle.std.proofs.Common.{◌≡◌, ◌∷◌, true, subst, ℤ}
 use Rattle.std.specs.Int.{w64}
 use Rattle.std.proofs.lemmas.Int.{to_z-of_z}
-use Rattle.result_rows.specs.RowAt.{items_of, row_in}
-use Rattle.result_rows.specs.SeenUnits.{has_unit}
+use Rattle.result_lines.specs.RowAt.{items_of, row_in}
+use Rattle.result_lines.specs.SeenUnits.{has_unit}
 use Rattle.result_rows.proofs.DistinctOnce.{number_added, number_repeats, row_added}
-use Rattle.result_rows.proofs.Repeats.{always, both}
+use Rattle.result_lines.proofs.Repeats.{always, both}
 use Rattle.result_rows.proofs.distinct_rows.DistinctRows.add_row.Goals as goal
 
 pub returns-in_default : goal.returns-in_default

@@ -4,7 +4,7 @@ use Rattle.std.proofs.lemmas.List.{length-map}
 use Rattle.definitions.specs.Printing.{line, row_line}
 use Rattle.definitions.specs.Lists.{without_repeats}
 use Rattle.definitions.specs.Queries.Grouping.{same_values}
-use Rattle.result_rows.specs.Lines.{joined_lines}
+use Rattle.result_lines.specs.Lines.{joined_lines}
 use Rattle.result_rows.proofs.RowsOneByOne.{joined_rows}
 use Rattle.result_rows.proofs.distinct_rows.DistinctRows.end.Goals as goal
 

@@ -4,7 +4,7 @@ use Rattle.definitions.specs.Table.{Row}
 use Rattle.definitions.specs.Value.{Null}
 use Rattle.definitions.specs.Queries.Evaluation.{column_values}
 use Rattle.sqlvalue.specs.Owned.{owned_value}
-use Rattle.result_rows.specs.RowAt.{items_of, row_in}
+use Rattle.result_lines.specs.RowAt.{items_of, row_in}
 use Rattle.result_rows.proofs.RowsOneByOne.{kept_new, kept_old, seen_more}
 use Rattle.result_rows.proofs.first_value_rows.FirstValueRows.add.Goals as goal
 

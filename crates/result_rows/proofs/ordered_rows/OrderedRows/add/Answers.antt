@@ -1,8 +1,8 @@
 use Rattle.std.proofs.Common.{◌∙◌, ◌∷◌, ◌++◌, [], List, ap, refl}
 use Rattle.std.proofs.lemmas.List.{map-append}
 use Rattle.definitions.specs.Table.{Row}
-use Rattle.result_rows.specs.RowAt.{items_of, row_in}
-use Rattle.result_rows.specs.Rows.{row_of, rows_of}
+use Rattle.result_lines.specs.RowAt.{items_of, row_in}
+use Rattle.result_lines.specs.Rows.{row_of, rows_of}
 use Rattle.result_rows.proofs.RowsOneByOne.{kept_new, kept_old, seen_more}
 use Rattle.result_rows.proofs.ordered_rows.OrderedRows.add.Goals as goal
 

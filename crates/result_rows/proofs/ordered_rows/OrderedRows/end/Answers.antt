@@ -2,7 +2,7 @@ use Rattle.std.proofs.Common.{◌∙◌, subst, ap}
 use Rattle.std.specs.Prelude.{IsPermutation}
 use Rattle.std.proofs.lemmas.Result.{IfOk-weaker}
 use Rattle.definitions.specs.Printing.{table_text}
-use Rattle.result_rows.specs.Rows.{rows_of}
+use Rattle.result_lines.specs.Rows.{rows_of}
 use Rattle.result_rows.proofs.ordered_rows.OrderedRows.end.Goals as goal
 
 pub returns : goal.returns

@@ -1,6 +1,0 @@
-use Rattle.std.proofs.Common.{◌≡◌, ◌++◌, map, take}
-use Rattle.result_rows.specs.Lines.{joined_lines}
-use Rattle.result_rows.proofs.lines.DistinctLines.write.Given as goal
-
-abbrev pub invariant-places : goal.invariant-places
-invariant-places l = l.out.items ≡ l.fn.out.items ++ joined_lines (map (λ line. line.items) (take l.place l.self.set.keys))
