@@ -31,7 +31,7 @@ HEAD = """# Wrong bodies
 
 Each was put in the place of the code, and the prover refused it where the third column says; a *right* body is one of the same shape as the
 wrong one above it, and was proved. `tools/wrong_bodies.py` makes this page, and `./test` tells how many rows are stale: those whose crate, or one
-below it, has changed since. The gate tries three more in each run (`crates/*/must-fail`).
+below it, has changed since. The gate tries two more in each run (`crates/*/must-fail`).
 
 | body | what it does | refused at | sum |
 | --- | --- | --- | --- |

@@ -31,7 +31,7 @@ comes_in_order b = comes_in_order_by (is_grouped b) b
 
 abbrev pub store_in : BlockRows → RowStore
 store_in (rows.Plain told) = told.store
-store_in (rows.Grouped told) = told.groups.rows
+store_in (rows.Grouped told) = told.value.groups.rows
 
 module _ (source : BlockSource) (outer : List Combination) where
   -- they tell of combinations
@@ -39,12 +39,12 @@ module _ (source : BlockSource) (outer : List Combination) where
   TellsOf cs (rows.Plain told) =
       Tells (names_of source) (map (plain_row (context_in source outer) (block_in source)) cs)
       (plain_raises (context_in source outer) (block_in source) cs) told
-  TellsOf cs (rows.Grouped told) = TellGroups source outer cs told
+  TellsOf cs (rows.Grouped told) = TellGroups source outer cs told.value
 
   -- they are of the block's kind, and what is kept of an open group is right
   abbrev pub IsWellFor : BlockRows → Type 0
   IsWellFor (rows.Plain told) = is_grouped (block_in source) ≡ false
-  IsWellFor (rows.Grouped told) = (is_grouped (block_in source) ≡ true) × AreWell source outer told
+  IsWellFor (rows.Grouped told) = (is_grouped (block_in source) ≡ true) × AreWell source outer told.value
 
   -- the rows of all combinations, or of all groups of them, where nothing raises
   abbrev pub AreRowsBy : (grouped : Bool) → List Combination → List Row → Type 0

@@ -32,7 +32,7 @@ use std::alloc::{AllocError, Global};
 #[derive(Drop)]
 pub enum BlockRows<'s> {
     Plain(ResultRows),
-    Grouped(GroupRows<'s>),
+    Grouped(Box<GroupRows<'s>>),
 }
 
 impl<'s> BlockRows<'s> {
@@ -75,7 +75,8 @@ impl<'s> BlockRows<'s> {
         ensures store { IfOk result (λ rows. store_in rows ≡ store) }
     {
         if is_grouped(block) {
-            Ok(BlockRows::Grouped(GroupRows::new(alloc, block, store)?))
+            let rows = GroupRows::new(alloc, block, store)?;
+            Ok(BlockRows::Grouped(Box::new(alloc, rows)?))
         } else {
             Ok(BlockRows::Plain(ResultRows::new(store)))
         }
@@ -223,7 +224,9 @@ impl<'s> BlockRows<'s> {
     {
         match self {
             BlockRows::Plain(rows) => rows.finish(),
-            BlockRows::Grouped(groups) => groups.finish(alloc, source, block, around),
+            BlockRows::Grouped(groups) => {
+                Box::into_inner(groups).finish(alloc, source, block, around)
+            }
         }
     }
 }

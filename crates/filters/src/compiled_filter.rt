@@ -5,10 +5,11 @@ ghost use Rattle.predicates.specs.Parts.{condition_in};
 ghost use Rattle.filters.specs.Comparisons.{is_kind, AreComparisonsOf};
 ghost use Rattle.filters.specs.Compiled.{condition_of_filter, IsCompiled};
 
-use crate::comparison::{Comparisons, comparisons_of};
-use crate::compiled_part::Scan;
+use crate::comparison::{Comparisons, is_compared};
+use crate::compiled_part::{Scan, part_by_terms};
 use crate::row_test::{RowTest, test_of};
 use predicates::Conjunct;
+use query_tree::Condition;
 use std::alloc::{AllocError, Global};
 
 /// A conjunct, and how rows of a table are tested by it.
@@ -27,7 +28,13 @@ pub(crate) fn compiled<'s>(
     ensures condition { IfOk result (λ filter. condition_of_filter filter ≡ condition_in conjunct.now) }
     ensures compiled { IfOk result (IsCompiled table) }
 {
-    let test = test_of(alloc, conjunct.condition, table)?;
+    let test = match conjunct.condition {
+        Condition::And(_) | Condition::Or(_) => test_of(alloc, conjunct.condition, table)?,
+        _ => {
+            let part = part_by_terms(alloc, conjunct.condition, conjunct.terms, table)?;
+            RowTest::Part(part)
+        }
+    };
     Ok(CompiledFilter { conjunct, test })
 }
 
@@ -35,12 +42,7 @@ pub(crate) fn compiled<'s>(
 pub(crate) fn is_of_kind(conjunct: &Conjunct<'_>, table: usize, compared: bool) -> bool
     ensures { result ≡ is_kind table compared (condition_in conjunct.now) }
 {
-    let comparisons = comparisons_of(conjunct.terms, table);
-    if compared {
-        comparisons.is_some()
-    } else {
-        comparisons.is_none()
-    }
+    is_compared(conjunct.terms, table) == compared
 }
 
 impl<'s> CompiledFilter<'s> {

@@ -4,12 +4,14 @@ ghost use Rattle.std.specs.Prelude.{◌≡◌, IfOk};
 ghost use Rattle.definitions.specs.Queries.BoundBlock as spec;
 ghost use Rattle.query_tree.specs.Bound.{condition_of, value_of as tree_of};
 ghost use Rattle.predicates.specs.Naming.{NamesFew};
+ghost use Rattle.predicates.specs.Terms.{terms_of};
+ghost use Rattle.predicates.specs.Views.{terms_in};
 ghost use Rattle.filters.specs.Comparisons.{is_null_beside, is_scanned};
 ghost use Rattle.filters.specs.Compiled.{is_scan, IsPart, IsScanOf};
 
 use crate::comparison::{Comparisons, comparisons_of};
 use crate::member_list::{MemberList, list_of};
-use predicates::column_terms;
+use predicates::{ColumnTerms, column_terms};
 use query_tree::{Condition, ValueExpr};
 use std::alloc::{AllocError, Global};
 
@@ -43,17 +45,38 @@ pub(crate) fn part_of(
     ensures condition { IfOk result (λ part. condition_of part.condition.now ≡ condition_of condition.now) }
     ensures part { IfOk result (IsPart table) }
 {
-    let scan = scan_of(alloc, condition, table)?;
+    part_by_terms(alloc, condition, column_terms(condition), table)
+}
+
+/// The same, where what the part says of columns is known.
+pub(crate) fn part_by_terms<'s>(
+    alloc: Global,
+    condition: &'s Condition,
+    terms: ColumnTerms<'s>,
+    table: usize,
+) -> Result<CompiledPart<'s>, AllocError>
+    requires few { NamesFew (condition_of condition.now) }
+    requires said { terms_in terms ≡ terms_of (condition_of condition.now) }
+    ensures condition { IfOk result (λ part. condition_of part.condition.now ≡ condition_of condition.now) }
+    ensures part { IfOk result (IsPart table) }
+{
+    let scan = scan_of(alloc, condition, terms, table)?;
     Ok(CompiledPart { condition, scan })
 }
 
 /// The scan that answers a part, where one does.
-fn scan_of(alloc: Global, condition: &Condition, table: usize) -> Result<Scan<'_>, AllocError>
+fn scan_of<'s>(
+    alloc: Global,
+    condition: &'s Condition,
+    terms: ColumnTerms<'s>,
+    table: usize,
+) -> Result<Scan<'s>, AllocError>
     requires few { NamesFew (condition_of condition.now) }
+    requires said { terms_in terms ≡ terms_of (condition_of condition.now) }
     ensures same { IfOk result (IsScanOf table (condition_of condition.now)) }
     ensures some { IfOk result (λ scan. is_scan scan ≡ is_scanned table (condition_of condition.now)) }
 {
-    if let Some(comparisons) = comparisons_of(column_terms(condition), table) {
+    if let Some(comparisons) = comparisons_of(terms, table) {
         return Ok(Scan::Compared(comparisons));
     }
     if let Condition::IsNull { negated, value } = condition {

@@ -1,5 +1,5 @@
 -- What has been settled when a search ends.
-use Rattle.std.proofs.Common.{zero, suc, ◌≡◌, ◌∙◌, ℕ, ◌+◌, ◌^◌, ◌<◌, ◌≤◌, ◌⊎◌, inl, inr, List, [], ◌∷◌, Option, Some, None, Bool, true, false, cond, length, get_or, nat_lt, arith, refl, sym, ap, subst}
+use Rattle.std.proofs.Common.{zero, suc, ◌≡◌, ◌∙◌, ℕ, ◌+◌, ◌^◌, ◌<◌, ◌≤◌, ◌⊎◌, inl, inr, List, [], ◌∷◌, Bool, true, false, cond, length, get_or, nat_lt, arith, refl, sym, ap, subst}
 use Rattle.std.proofs.lemmas.Bool.{cases_lt}
 use Rattle.std.proofs.lemmas.Bool.Decides.{nat_tests}
 use Rattle.std.proofs.lemmas.Nat.{le_or_r, pow_pos}
@@ -30,25 +30,35 @@ use Rattle.join_dp.specs.Listing.{states_up_to}
 use Rattle.join_dp.specs.Planned.{IsPlanAt}
 use Rattle.join_dp.specs.Searched.{LowByAccesses, IsLowFrom, IsSearched, IsSame, IsNone, IsEnd}
 use Rattle.join_dp.specs.Searching.{Search, cost_at, IsSettled, IsAt, IsOpen}
-use Rattle.join_dp.specs.StatePlans.{StatePlan, at, StepMakes, SortMakes}
-use Rattle.join_dp.specs.Steps.{Step, AccessOf, JoinOn, Loop, Merge, table_in}
-use Rattle.join_dp.specs.Words.{words_in}
+use Rattle.join_dp.specs.StatePlans.{StatePlan, at, StepMakes, AllMade}
+use Rattle.join_dp.specs.Steps.{Step, AccessOf, JoinOn, SortOn, IsUnsorted, Loop, Merge, table_in}
+use Rattle.join_dp.specs.Words.{words_in, IsPlanOf}
 use Rattle.join_dp.proofs.NextSettled.{both_flags}
 use Rattle.join_dp.proofs.Offering.{false_or_true}
-use Rattle.join_dp.proofs.Planning.{planned}
+use Rattle.join_dp.proofs.Planning.{planned, plan_of_state}
 use Rattle.join_dp.proofs.SettledStates.{IsSettledState, of_sets, in_sets, sets_rise, sets_size}
 use Rattle.join_dp.proofs.Sizes.{among_few}
 
 -- ---- states that are made
 
 -- none is of the empty set
-step_some : (space : Space) (states : List StatePlan) (first tables order cost : ℕ) (step : Step) → StepMakes space states first tables order cost step → 0 < tables
-step_some space states first tables order cost (AccessOf path) made = omega (arith, made.2, pow_pos (table_of path))
-step_some space states first tables order cost (JoinOn from join) made = omega (arith, made.2, le_or_r (at states from).tables (2 ^ table_in join), pow_pos (table_in join))
+step_some : (space : Space) (states : List StatePlan) (first tables order cost : ℕ) (step : Step) → IsUnsorted step → StepMakes space states first tables order cost step → 0 < tables
+step_some space states first tables order cost (AccessOf path) unsorted made = omega (arith, made.2, pow_pos (table_of path))
+step_some space states first tables order cost (JoinOn from join) unsorted made = omega (arith, made.2, le_or_r (at states from).tables (2 ^ table_in join), pow_pos (table_in join))
+step_some space states first tables order cost (SortOn from into) unsorted made = absurd unsorted
 
-pub sort_some : (space : Space) (states : List StatePlan) (first tables order cost : ℕ) (step : Step) (sorted : Option ℕ) → SortMakes space states first tables order cost step sorted → 0 < tables
-sort_some space states first tables order cost step None made = step_some space states first tables order cost step made
-sort_some space states first tables order cost step (Some into) (before, less, made, can, folds, is) = step_some space states first tables before less step made
+pub state_some : (space : Space) (states : List StatePlan) → AllMade space states → (place : ℕ) → place < length states → 0 < (at states place).tables
+state_some space states made place lt = of_step (at states place).found.step (made place lt).made
+  where
+    of_step : (step : Step) → StepMakes space states place (at states place).tables (at states place).order (at states place).found.cost step → 0 < (at states place).tables
+    of_step (AccessOf path) m = step_some space states place (at states place).tables (at states place).order (at states place).found.cost (AccessOf path) tt m
+    of_step (JoinOn from join) m = step_some space states place (at states place).tables (at states place).order (at states place).found.cost (JoinOn from join) tt m
+    of_step (SortOn from into) m =
+        let less = m.0 in
+        let same = m.2 in
+        let x = at states from in
+        let some = step_some space states from x.tables x.order x.found.cost x.found.step m.1 (made from (omega (arith, less, lt))).made in
+        omega (arith, same, some)
 
 -- their orders are folds
 module _ (space : Space) (complete : IsComplete space) where
@@ -67,10 +77,7 @@ module _ (space : Space) (complete : IsComplete space) where
   step_folded : (states : List StatePlan) (first tables order cost : ℕ) (step : Step) → StepMakes space states first tables order cost step → Folds space tables order order
   step_folded states first tables order cost (AccessOf path) m = fold_again tables (space.path_order path) order m.3
   step_folded states first tables order cost (JoinOn from join) m = fold_again tables (at states from).order order m.3
-
-  sort_folded : (states : List StatePlan) (first tables order cost : ℕ) (step : Step) (sorted : Option ℕ) → SortMakes space states first tables order cost step sorted → Folds space tables order order
-  sort_folded states first tables order cost step None m = step_folded states first tables order cost step m
-  sort_folded states first tables order cost step (Some into) (k, less, m, can, folds, is) = fold_again tables into order folds
+  step_folded states first tables order cost (SortOn from into) m = fold_again tables into order m.4
 
 -- ---- a filter that drops an element leaves fewer
 
@@ -125,14 +132,14 @@ module _ (space : Space) (complete : IsComplete space) (level : ℕ) (s : Search
           let et : x.tables ≡ t = ap (λ (y : StateCost). y.tables) e in
           let ek : x.order ≡ k = ap (λ (y : StateCost). y.order) e in
           let ec : x.found.cost ≡ cost_at s t k = ap (λ (y : StateCost). y.cost) e in
-          let some = sort_some space s.states place x.tables x.order x.found.cost x.found.step x.found.sorted m.made in
+          let some = state_some space s.states v.made place lt in
           let inside = v.inside place lt in
           let numbered = m.numbered in
           record {
             some = omega (arith, some, et);
             inside = omega (arith, inside, et);
             numbered = omega (arith, numbered, ek);
-            folded = rw (et, ek) at (sort_folded space complete s.states place x.tables x.order x.found.cost x.found.step x.found.sorted m.made);
+            folded = rw (et, ek) at (step_folded space complete s.states place x.tables x.order x.found.cost x.found.step m.made);
             plan = p.0;
             is_on = rw (et, ek) at p.1.is_on;
             costs = p.1.costs ∙ ec;
@@ -247,12 +254,15 @@ some_waits space complete level Listed s v all = of_found (finds space (listed s
 
 -- ---- a state that gives an answer is settled
 
-module _ (space : Space) (complete : IsComplete space) (place : ℕ) (s : Search) (e : IsEnd space place s) (p : Plan) (plan : IsPlanAt space s.states place p) where
+module _ (space : Space) (complete : IsComplete space) (place : ℕ) (s : Search) (e : IsEnd space place s) (p : Plan) (found : IsPlanAt space s.states place p) where
   abbrev target : ℕ
   target = (at s.states place).found.cost
 
   abbrev state : StatePlan
   state = at s.states place
+
+  plan : IsPlanOf space state.tables state.order target p
+  plan = plan_of_state space complete s.states place p found
 
   v : IsSearched space target (IsSame state) (λ t. ⊥) s
   v = e.searched

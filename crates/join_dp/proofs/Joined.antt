@@ -1,5 +1,5 @@
 -- Joins on top of a state's plan.
-use Rattle.std.proofs.Common.{◌≡◌, ◌∙◌, ℕ, ◌+◌, ◌<◌, ◌≤◌, ◌⊎◌, inl, inr, List, None, length, get_or, map, arith, sym, ap, subst}
+use Rattle.std.proofs.Common.{◌≡◌, ◌∙◌, ℕ, ◌+◌, ◌<◌, ◌≤◌, ◌⊎◌, inl, inr, List, length, get_or, map, arith, sym, ap, subst}
 use Rattle.std.proofs.lemmas.Bool.{cases_lt}
 use Rattle.definitions.specs.Plans.TableSet.{with_table}
 use Rattle.definitions.specs.Plans.Space.{Space}
@@ -22,7 +22,7 @@ use Rattle.join_dp.proofs.Steps.{can_join, follows, still_inside}
 module _ (space : Space) (s : Search) (place : ℕ) (lt : place < length s.states) (v : IsOpen space (at s.states place).found.cost s) where
   pub join_offer : (table : ℕ) (join : Join) (added f cost : ℕ) → IsAdded space (at s.states place).tables table join added → GoesWith space (at s.states place).tables (at s.states place).order table join
       → Folds space (with_table (at s.states place).tables table) (at s.states place).order f → f ≤ (at s.states place).order → cost ≡ saturated ((at s.states place).found.cost + added)
-      → IsOffer space (at s.states place).found.cost s (with_table (at s.states place).tables table) f (record { step = JoinOn place join; sorted = None; cost = cost })
+      → IsOffer space (at s.states place).found.cost s (with_table (at s.states place).tables table) f (record { step = JoinOn place join; cost = cost })
   join_offer table join added f cost add goes folds le is =
       let x = at s.states place in
       let m = v.made place lt in

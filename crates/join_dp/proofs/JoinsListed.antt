@@ -1,6 +1,7 @@
 -- Joins that are listed.
-use Rattle.std.proofs.Common.{◌≡◌, ◌≢◌, ◌∙◌, ℕ, ◌+◌, ◌-◌, ◌*◌, ◌^◌, ◌<◌, ◌≤◌, ◌⊎◌, inl, inr, List, [], ◌∷◌, ◌++◌, Option, Some, None, length, length-append, get_or, set, if◌then◌else◌, true, false, Bool, add-one, arith, refl, sym, ap, subst}
+use Rattle.std.proofs.Common.{Contains, ◌≡◌, ◌≢◌, ◌∙◌, ℕ, ◌+◌, ◌-◌, ◌*◌, ◌^◌, ◌<◌, ◌≤◌, ◌⊎◌, inl, inr, List, [], ◌∷◌, ◌++◌, Option, Some, None, length, length-append, get_or, set, nat_lt, if◌then◌else◌, true, false, Bool, add-one, arith, refl, sym, ap, subst}
 use Rattle.std.proofs.lemmas.Bool.{cases_lt, cases_eq}
+use Rattle.std.proofs.lemmas.Bool.Decides.{nat_tests}
 use Rattle.std.proofs.lemmas.List.{get_or_append_left, get_or-append_right, get_or-set_same, get_or-set_other, length-set}
 use Rattle.std.proofs.Math.Seq.{get_or-append_seam}
 use Rattle.std.specs.List.{AllByRecursion}
@@ -10,16 +11,17 @@ use Rattle.definitions.specs.Plans.Plan.{Inner}
 use Rattle.definitions.specs.Plans.Space.{Space}
 use Rattle.definitions.specs.Plans.PlanSpace.{MayFollow, IsPath}
 use Rattle.definitions.specs.Plans.Cost.{limit, saturated, merge_cost}
+use Rattle.definitions.proofs.PlanTheory.Elements.{first_or_rest, not_in_empty}
 use Rattle.plan_space.specs.Item.{Item}
 use Rattle.plan_space.specs.Merge.{Merge as CostedMerge, IsMergeItem, AreMerges}
 use Rattle.plan_space.specs.Relation.{IsRelation}
 use Rattle.plan_space.specs.declared.join_relation.JoinRelation.{JoinRelation}
-use Rattle.plan_space.proofs.Lists.{has_each}
+use Rattle.plan_space.proofs.Lists.{head_has}
 use Rattle.plan_tree.specs.Sets.{set_of}
 use Rattle.plan_space.proofs.PathItems.{IsPathItem}
 use Rattle.plan_tree.proofs.Tests.{has_not}
 use Rattle.join_dp.specs.Counting.{AreCounts, most_joins}
-use Rattle.join_dp.specs.JoinLists.{added_at, AreAdded, Covers, AreJoinsWith, AreLoops, AreMergesBelow, AreJoins, IsLonger, IsRelationAt, AreLists, joins_in, Stand, one_if, listed_in, IsListed}
+use Rattle.join_dp.specs.JoinLists.{added_at, AreAdded, Covers, AreJoinsWith, AreLoops, AreMergesBelow, MergesFor, IsBest, listed_merge, AreJoins, IsLonger, IsRelationAt, AreLists, joins_in, Stand, one_if, listed_in, IsListed}
 use Rattle.join_dp.specs.Joining.{CanJoin, join_cost, IsJoin, GoesWith, IsAdded}
 use Rattle.join_dp.specs.Searched.{LowBySorts, AreSortsTaken}
 use Rattle.join_dp.specs.StatePlans.{StatePlan}
@@ -59,6 +61,15 @@ not_less a b never = of_cases (cases_lt a b)
     of_cases : (a < b) ⊎ (b ≤ a) → b ≤ a
     of_cases (inl lt) = absurd (never lt)
     of_cases (inr le) = le
+
+abbrev pub one_kept : Option CostedMerge → ℕ
+one_kept None = 0
+one_kept (Some best) = 1
+
+-- with the best merge behind them, if there is one
+abbrev pub with_best : ℕ → Option CostedMerge → List Added → List Added
+with_best table None xs = xs
+with_best table (Some best) xs = xs ++ listed_merge table best ∷ []
 
 module _ (space : Space) (tables table : ℕ) where
   abbrev AddedOf : Added → Type 0
@@ -102,80 +113,193 @@ module _ (space : Space) (tables table : ℕ) where
   -- ---- merges
 
   module _ (known : ℕ) where
-    abbrev pub as_added : CostedMerge → Added
-    as_added item = record { table = table; join = Merge item.conjunct item.inner; cost = item.cost }
+    -- the best merge is one
+    abbrev pub IsKept : Option CostedMerge → Type 0
+    IsKept None = Unit {0}
+    IsKept (Some best) = IsMergeItem space tables table best
 
-    abbrev pub MergeListed : ℕ → List Added → CostedMerge → Type 0
-    MergeListed start xs item = item.cost < known → (place : ℕ) × (start ≤ place) × (place < length xs) × (added_at xs place ≡ as_added item)
+    -- and stands for those by its conjunct that add no less
+    abbrev pub StandsFor : Option CostedMerge → ℕ → ℕ → Type 0
+    StandsFor None number most = ⊥
+    StandsFor (Some best) number most = (best.conjunct ≡ number) × (best.cost ≤ most)
 
-    abbrev pub MergesListed : ℕ → List Added → Type 0
-    MergesListed start xs = (number : ℕ) (inner : Inner) → IsJoin space tables table (Merge number inner) → join_cost space tables (Merge number inner) < known
-        → (place : ℕ) × (start ≤ place) × (place < length xs) × (added_at xs place ≡ record { table = table; join = Merge number inner; cost = join_cost space tables (Merge number inner) })
+    -- a merge is seen to by one that is listed or by the best one, or is still to come
+    abbrev SeenTo : List Added → List Added → Option CostedMerge → List CostedMerge → ℕ → Inner → Type 0
+    SeenTo old xs best items number inner = MergesFor xs (length old) (length xs) table number (join_cost space tables (Merge number inner))
+        ⊎ (StandsFor best number (join_cost space tables (Merge number inner))
+        ⊎ Contains items (record { conjunct = number; inner = inner; cost = merge_cost space tables number inner }))
 
-    pub record Merged (old xs : List Added) (items : List CostedMerge) : Type 0 where
+    pub record Merged (old xs : List Added) (best : Option CostedMerge) (items : List CostedMerge) : Type 0 where
       pub longer : IsLonger old xs
       pub each : AreAdded space xs tables (length old) (length xs)
+      pub kept : IsKept best
       pub are : AllByRecursion (IsMergeItem space tables table) items
-      pub leads : (later : List Added) → IsLonger xs later → AllByRecursion (MergeListed (length old) later) items → MergesListed (length old) later
+      pub all : (number : ℕ) (inner : Inner) → IsJoin space tables table (Merge number inner) → join_cost space tables (Merge number inner) < known → SeenTo old xs best items number inner
 
-    pub merges_begin : (xs : List Added) (items : List CostedMerge) → AreMerges space tables table items → Merged xs xs items
+    pub merges_begin : (xs : List Added) (items : List CostedMerge) → AreMerges space tables table items → Merged xs xs None items
     merges_begin xs items are = record {
       longer = longer_same xs;
       each = λ place ge lt. absurd (omega (arith, ge, lt));
+      kept = tt;
       are = are.each;
-      leads = λ later longer all number inner is less. has_each (MergeListed (length xs) later) items (record { conjunct = number; inner = inner; cost = merge_cost space tables number inner }) all (are.all number inner is) less;
+      all = λ number inner is less. inr (inr (are.all number inner is));
     }
 
     -- a merge is passed over
-    pub merge_dear : (old xs : List Added) (items rest : List CostedMerge) (item : CostedMerge) → items ≡ item ∷ rest → known ≤ item.cost → Merged old xs items → Merged old xs rest
-    merge_dear old xs items rest item is dear m =
+    pub merge_dear : (old xs : List Added) (best : Option CostedMerge) (items rest : List CostedMerge) (item : CostedMerge) → items ≡ item ∷ rest → known ≤ item.cost → Merged old xs best items → Merged old xs best rest
+    merge_dear old xs best items rest item is dear m =
         let are = rw is at m.are in
-        let leads = rw is at m.leads in
-        record { longer = m.longer; each = m.each; are = are.1; leads = λ later longer all. leads later longer ((λ less. absurd (omega (arith, less, dear))), all) }
-
-    -- or listed
-    pub merge_pushed : (old xs : List Added) (items rest : List CostedMerge) (item : CostedMerge) → items ≡ item ∷ rest → MayFollow space tables table → Merged old xs items → Merged old (xs ++ as_added item ∷ []) rest
-    merge_pushed old xs items rest item is may m = record {
-      longer = longer_more old xs (xs ++ x ∷ []) m.longer (longer_push xs x);
-      each = λ place ge lt. of_cases place ge lt (cases_lt place (length xs));
-      are = are.1;
-      leads = λ later longer all. leads later (longer_more xs (xs ++ x ∷ []) later (longer_push xs x) longer) ((λ less. here later longer), all);
-    }
+        record { longer = m.longer; each = m.each; kept = m.kept; are = are.1; all = λ number inner is' less. of_seen number inner less (rw is at (m.all number inner is' less)) }
       where
-        x : Added
-        x = as_added item
+        of_rest : (number : ℕ) (inner : Inner) → join_cost space tables (Merge number inner) < known
+            → (item ≡ record { conjunct = number; inner = inner; cost = merge_cost space tables number inner }) ⊎ Contains rest (record { conjunct = number; inner = inner; cost = merge_cost space tables number inner })
+            → SeenTo old xs best rest number inner
+        of_rest number inner less (inl e) = let c = ap (λ (x : CostedMerge). x.cost) e in absurd (omega (arith, less, dear, c))
+        of_rest number inner less (inr there) = inr (inr there)
 
-        are : AllByRecursion (IsMergeItem space tables table) (item ∷ rest)
-        are = rw is at m.are
+        of_seen : (number : ℕ) (inner : Inner) → join_cost space tables (Merge number inner) < known → SeenTo old xs best (item ∷ rest) number inner → SeenTo old xs best rest number inner
+        of_seen number inner less (inl listed) = inl listed
+        of_seen number inner less (inr (inl stands)) = inr (inl stands)
+        of_seen number inner less (inr (inr there)) = of_rest number inner less (first_or_rest item rest _ there)
 
-        leads : (later : List Added) → IsLonger xs later → AllByRecursion (MergeListed (length old) later) (item ∷ rest) → MergesListed (length old) later
-        leads = rw is at m.leads
+    -- the merges that a list has seen to are so in one that a merge is put behind, and that merge's with them
+    module _ (old xs : List Added) (best : CostedMerge) (longer : IsLonger old xs) where
+      put_for : (number most : ℕ) → MergesFor xs (length old) (length xs) table number most → MergesFor (xs ++ listed_merge table best ∷ []) (length old) (length (xs ++ listed_merge table best ∷ [])) table number most
+      put_for number most f =
+          let e = get_or_append_left xs (listed_merge table best ∷ []) _ f.place f.before in
+          let lt = f.before in
+          record {
+            place = f.place;
+            from = f.from;
+            before = omega (arith, lt, push_size xs (listed_merge table best));
+            with = ap (λ (a : Added). a.table) e ∙ f.with;
+            by = (f.by.0, ap (λ (a : Added). a.join) e ∙ f.by.1);
+            least = let l = f.least in let c = ap (λ (a : Added). a.cost) e in omega (arith, l, c);
+          }
 
-        right : IsMergeItem space tables table item
-        right = are.0
+      put_itself : (number most : ℕ) → StandsFor (Some best) number most → MergesFor (xs ++ listed_merge table best ∷ []) (length old) (length (xs ++ listed_merge table best ∷ [])) table number most
+      put_itself number most (e, le) =
+          let size = push_size xs (listed_merge table best) in
+          let here = push_at xs (listed_merge table best) (length xs) (omega arith) (omega (arith, size)) in
+          let from = longer.longer in
+          record {
+            place = length xs;
+            from = from;
+            before = omega (arith, size);
+            with = ap (λ (a : Added). a.table) here;
+            by = (best.inner, ap (λ (a : Added). a.join) here ∙ ap (λ n. Merge n best.inner) e);
+            least = let c = ap (λ (a : Added). a.cost) here in omega (arith, le, c);
+          }
 
-        added : IsAdded space tables table (Merge item.conjunct item.inner) item.cost
-        added = record { follows = may; is_join = right.is_merge; cost = right.cost }
+      put_each : MayFollow space tables table → IsMergeItem space tables table best → AreAdded space xs tables (length old) (length xs) → AreAdded space (xs ++ listed_merge table best ∷ []) tables (length old) (length (xs ++ listed_merge table best ∷ []))
+      put_each may right each place ge lt = of_cases (cases_lt place (length xs))
+        where
+          added : IsAdded space tables table (Merge best.conjunct best.inner) best.cost
+          added = record { follows = may; is_join = right.is_merge; cost = right.cost }
 
-        of_cases : (place : ℕ) → length old ≤ place → place < length (xs ++ as_added item ∷ []) → (place < length xs) ⊎ (length xs ≤ place) → AddedOf (added_at (xs ++ as_added item ∷ []) place)
-        of_cases place ge lt (inl less) = subst AddedOf (sym ((longer_push xs (as_added item)).kept place less)) (m.each place ge less)
-        of_cases place ge lt (inr ge') = subst AddedOf (sym (push_at xs (as_added item) place ge' lt)) added
+          of_cases : (place < length xs) ⊎ (length xs ≤ place) → AddedOf (added_at (xs ++ listed_merge table best ∷ []) place)
+          of_cases (inl less) = subst AddedOf (sym ((longer_push xs (listed_merge table best)).kept place less)) (each place ge less)
+          of_cases (inr ge') = subst AddedOf (sym (push_at xs (listed_merge table best) place ge' lt)) added
 
-        here : (later : List Added) → IsLonger (xs ++ as_added item ∷ []) later → (place : ℕ) × (length old ≤ place) × (place < length later) × (added_at later place ≡ as_added item)
-        here later longer =
-            let size = push_size xs (as_added item) in
-            let l = longer.longer in
-            let from = m.longer.longer in
-            (length xs, from, omega (arith, size, l), longer.kept (length xs) (omega (arith, size)) ∙ push_at xs (as_added item) (length xs) (omega arith) (omega (arith, size)))
+    -- one more merge is seen to
+    module _ (old xs : List Added) (items rest : List CostedMerge) (item : CostedMerge) (is : items ≡ item ∷ rest) (may : MayFollow space tables table) where
+      -- by the best one, which goes on
+      goes_on : (best : Option CostedMerge) (next : CostedMerge) → IsKept (Some next) → ((number most : ℕ) → StandsFor best number most → StandsFor (Some next) number most) → StandsFor (Some next) item.conjunct item.cost
+          → Merged old xs best items → Merged old xs (Some next) rest
+      goes_on best next kept stands own m =
+          let are = rw is at m.are in
+          record { longer = m.longer; each = m.each; kept = kept; are = are.1; all = λ number inner is' less. of_seen number inner (rw is at (m.all number inner is' less)) }
+        where
+          of_rest : (number : ℕ) (inner : Inner)
+              → (item ≡ record { conjunct = number; inner = inner; cost = merge_cost space tables number inner }) ⊎ Contains rest (record { conjunct = number; inner = inner; cost = merge_cost space tables number inner })
+              → SeenTo old xs (Some next) rest number inner
+          of_rest number inner (inl e) = inr (inl (subst (λ (x : CostedMerge). StandsFor (Some next) x.conjunct x.cost) e own))
+          of_rest number inner (inr there) = inr (inr there)
 
-    pub merges_end : (old xs : List Added) (items merges : List CostedMerge) → items ≡ [] → AreMerges space tables table merges → length xs + length items ≤ length old + length merges → Merged old xs items
-        → AreMergesBelow space xs tables (length old) (length xs) table known
-    merges_end old xs items merges is are few m = record {
-      rising = m.longer.longer;
-      each = m.each;
-      all = let leads = rw is at m.leads in leads xs (longer_same xs) tt;
-      few = (merges, are, omega (arith, few));
-    }
+          of_seen : (number : ℕ) (inner : Inner) → SeenTo old xs best (item ∷ rest) number inner → SeenTo old xs (Some next) rest number inner
+          of_seen number inner (inl listed) = inl listed
+          of_seen number inner (inr (inl s)) = inr (inl (stands number _ s))
+          of_seen number inner (inr (inr there)) = of_rest number inner (first_or_rest item rest _ there)
+
+      right : Merged old xs None items → IsMergeItem space tables table item
+      right m = head_has (IsMergeItem space tables table) items rest item is m.are
+
+      -- of two by one conjunct the cheaper one goes on
+      less_goes : (best : CostedMerge) → best.conjunct ≡ item.conjunct → (b : Bool) → nat_lt item.cost best.cost ≡ b → Merged old xs (Some best) items → Merged old xs (Some (if b then item else best)) rest
+      less_goes best same true e m = let le : item.cost < best.cost = grind (arith, nat_tests) in
+          goes_on (Some best) item (head_has (IsMergeItem space tables table) items rest item is m.are) (λ number most s. (sym same ∙ s.0, let l = s.1 in omega (arith, l, le))) (refl, omega arith) m
+      less_goes best same false e m = let le : best.cost ≤ item.cost = grind (arith, nat_tests) in
+          goes_on (Some best) best m.kept (λ number most s. s) (same, le) m
+
+      -- the best one is listed, and the item goes on
+      listed_on : (best : CostedMerge) → Merged old xs (Some best) items → Merged old (xs ++ listed_merge table best ∷ []) (Some item) rest
+      listed_on best m =
+          let are = rw is at m.are in
+          let longer = m.longer in
+          record {
+            longer = longer_more old xs (xs ++ listed_merge table best ∷ []) longer (longer_push xs (listed_merge table best));
+            each = put_each old xs best longer may m.kept m.each;
+            kept = are.0;
+            are = are.1;
+            all = λ number inner is' less. of_seen number inner (rw is at (m.all number inner is' less));
+          }
+        where
+          of_rest : (number : ℕ) (inner : Inner)
+              → (item ≡ record { conjunct = number; inner = inner; cost = merge_cost space tables number inner }) ⊎ Contains rest (record { conjunct = number; inner = inner; cost = merge_cost space tables number inner })
+              → SeenTo old (xs ++ listed_merge table best ∷ []) (Some item) rest number inner
+          of_rest number inner (inl e) = inr (inl (ap (λ (x : CostedMerge). x.conjunct) e, let c = ap (λ (x : CostedMerge). x.cost) e in omega (arith, c)))
+          of_rest number inner (inr there) = inr (inr there)
+
+          of_seen : (number : ℕ) (inner : Inner) → SeenTo old xs (Some best) (item ∷ rest) number inner → SeenTo old (xs ++ listed_merge table best ∷ []) (Some item) rest number inner
+          of_seen number inner (inl listed) = inl (put_for old xs best m.longer number _ listed)
+          of_seen number inner (inr (inl s)) = inl (put_itself old xs best m.longer number _ s)
+          of_seen number inner (inr (inr there)) = of_rest number inner (first_or_rest item rest _ there)
+
+      pub merge_kept : (best : Option CostedMerge) (next : CostedMerge) (ys : List Added) → IsBest table best item xs next ys → Merged old xs best items → Merged old ys (Some next) rest
+      merge_kept None next ys (a, b) m = rw (a, b) (goes_on None item (right m) (λ number most s. absurd s) (refl, omega arith) m)
+      merge_kept (Some best) next ys (inl (same, a, b)) m = rw (a, b) (less_goes best same (nat_lt item.cost best.cost) refl m)
+      merge_kept (Some best) next ys (inr (other, a, b)) m = rw (a, b) (listed_on best m)
+
+      -- no more are listed than there were
+      pub merge_few : (best : Option CostedMerge) (next : CostedMerge) (ys : List Added) → IsBest table best item xs next ys → length ys + 1 ≤ length xs + one_kept best + 1
+      merge_few None next ys (a, b) = let e = ap length b in omega (arith, e)
+      merge_few (Some best) next ys (inl (same, a, b)) = let e = ap length b in omega (arith, e)
+      merge_few (Some best) next ys (inr (other, a, b)) = let e = ap length b in omega (arith, e, push_size xs (listed_merge table best))
+
+    -- at the end the best one is listed, if there is one
+    pub merges_end : (old xs : List Added) (best : Option CostedMerge) (items merges : List CostedMerge) → items ≡ [] → MayFollow space tables table → AreMerges space tables table merges → length xs + one_kept best + length items ≤ length old + length merges → Merged old xs best items
+        → IsLonger old (with_best table best xs) × AreMergesBelow space (with_best table best xs) tables (length old) (length (with_best table best xs)) table known
+    merges_end old xs None items merges is may are few m = (
+      m.longer,
+      record {
+        rising = m.longer.longer;
+        each = m.each;
+        all = λ number inner is' less. of_seen number inner (rw is at (m.all number inner is' less));
+        few = (merges, are, omega (arith, few));
+      },
+    )
+      where
+        of_seen : (number : ℕ) (inner : Inner) → SeenTo old xs None [] number inner → MergesFor xs (length old) (length xs) table number (join_cost space tables (Merge number inner))
+        of_seen number inner (inl listed) = listed
+        of_seen number inner (inr (inl s)) = absurd s
+        of_seen number inner (inr (inr there)) = absurd (not_in_empty _ there)
+    merges_end old xs (Some best) items merges is may are few m =
+        let longer = m.longer in
+        let size = push_size xs (listed_merge table best) in
+        let from = longer.longer in (
+          longer_more old xs (xs ++ listed_merge table best ∷ []) longer (longer_push xs (listed_merge table best)),
+          record {
+            rising = omega (arith, from, size);
+            each = put_each old xs best longer may m.kept m.each;
+            all = λ number inner is' less. of_seen number inner (rw is at (m.all number inner is' less));
+            few = (merges, are, omega (arith, few, size));
+          },
+        )
+      where
+        of_seen : (number : ℕ) (inner : Inner) → SeenTo old xs (Some best) [] number inner → MergesFor (xs ++ listed_merge table best ∷ []) (length old) (length (xs ++ listed_merge table best ∷ [])) table number (join_cost space tables (Merge number inner))
+        of_seen number inner (inl listed) = put_for old xs best m.longer number _ listed
+        of_seen number inner (inr (inl s)) = put_itself old xs best m.longer number _ s
+        of_seen number inner (inr (inr there)) = absurd (not_in_empty _ there)
 
   -- ---- both
 
@@ -216,12 +340,10 @@ module _ (space : Space) (tables table : ℕ) where
         of_merge order number inner at can (inl less) =
             let is = subst (λ t. IsJoin space tables t (Merge number inner)) at (is_join space tables order (Merge number inner) can) in
             let m = merges.all number inner is less in
-            let goes = subst (λ t. GoesWith space tables order t (Merge number inner)) at (goes_with space tables order (Merge number inner) can) in
+            let goes : GoesWith space tables order table (Merge number m.by.0) = subst (λ t. GoesWith space tables order t (Merge number inner)) at (goes_with space tables order (Merge number inner) can) in
             let from = before.longer in
-            let ge = m.1 in
-            let e = m.3 in
-            let c : (added_at new m.0).cost ≡ join_cost space tables (Merge number inner) = ap (λ (a : Added). a.cost) e in
-            (m.0, omega (arith, from, ge), m.2, ap (λ (a : Added). a.table) e ∙ sym at, subst (λ (a : Added). GoesWith space tables order a.table a.join) (sym e) goes, omega (arith, c))
+            let ge = m.from in
+            (m.place, omega (arith, from, ge), m.before, m.with ∙ sym at, rw (m.with, m.by.1) goes, m.least)
 
         all : (order : ℕ) (join : Join) → table_in join ≡ table → CanJoin space tables order join → Covers space new tables (length old) (length new) order join
         all order (Loop path) at can = by_loop order (Loop path) at (loops.least path (subst (λ t. IsJoin space tables t (Loop path)) at (is_join space tables order (Loop path) can)))

@@ -1,5 +1,5 @@
 -- Steps that are taken one after another.
-use Rattle.std.proofs.Common.{◌≡◌, ℕ, ◌+◌, ◌^◌, ◌<◌, ◌≤◌, List, [], ◌∷◌, Option, Some, None, length, arith, refl, sym, ap, subst}
+use Rattle.std.proofs.Common.{◌≡◌, ℕ, ◌+◌, ◌^◌, ◌<◌, ◌≤◌, List, [], ◌∷◌, length, arith, refl, sym, ap, subst}
 use Rattle.std.specs.List.{AllByRecursion}
 use Rattle.std.proofs.Math.Pow.{pow-lt}
 use Rattle.definitions.specs.Plans.TableSet.{only}
@@ -13,11 +13,10 @@ use Rattle.plan_space.specs.InterestingOrders.Sorts.{AreSorts}
 use Rattle.plan_space.specs.Item.{Item, AreItems}
 use Rattle.plan_space.proofs.Lists.{has_each, head_has, both}
 use Rattle.plan_space.proofs.PathItems.{IsPathItem, each_path, found_item}
-use Rattle.join_dp.specs.Searched.{LowByAccesses, LowBySorts, cost_sorted, cost_sorted_if}
+use Rattle.join_dp.specs.Searched.{LowByAccesses, LowBySorts, cost_sorted, cost_sorted_by, sorted_from, sorted_from_by}
 use Rattle.join_dp.specs.Searching.{Search, cost_at, IsOpen, IsOffer, AreMore}
-use Rattle.join_dp.specs.StatePlans.{StatePlan, at, StepMakes, SortMakes}
-use Rattle.join_dp.specs.Steps.{Step, AccessOf}
-use Rattle.join_dp.proofs.Growing.{step_kept}
+use Rattle.join_dp.specs.StatePlans.{StatePlan, at, StepMakes, IsMadeAt}
+use Rattle.join_dp.specs.Steps.{Step, AccessOf, JoinOn, SortOn, IsUnsorted}
 use Rattle.join_dp.proofs.Offering.{more_same, more_more}
 
 abbrev pub CostAt : Type 0
@@ -77,7 +76,7 @@ module _ (space : Space) (table : ℕ) where
     pub access_numbered : f < length space.orders
     access_numbered = let n = right.0.numbered in omega (arith, n, le)
 
-    pub access_offer : item.cost ≤ limit → IsOffer space 0 s (only table) f (record { step = AccessOf item.path; sorted = None; cost = item.cost })
+    pub access_offer : item.cost ≤ limit → IsOffer space 0 s (only table) f (record { step = AccessOf item.path; cost = item.cost })
     access_offer small = record {
       is_open = a.is_open;
       made = record { small = small; made = (rw right.0.reads lt, right.1, ap only (sym right.0.reads), rw right.0.order at folds, right.0.cost) };
@@ -96,23 +95,31 @@ module _ (space : Space) (table : ℕ) where
 
 -- ---- sorts
 
--- what a sort of a state's plan goes on from: the plan without the sort behind its last step
-pub record SortBase (space : Space) (states : List StatePlan) (tables cost : ℕ) (step : Step) : Type 0 where
-  pub before : ℕ
-  pub less : ℕ
-  pub made : StepMakes space states (length states) tables before less step
-  pub is : cost ≡ saturated (less + space.sort_cost tables)
+-- what a sort of a state's plan goes on from: a plan that no sort ends
+pub record SortBase (space : Space) (states : List StatePlan) (tables cost from : ℕ) : Type 0 where
+  pub within : from < length states
+  pub unsorted : IsUnsorted (at states from).found.step
+  pub same : tables ≡ (at states from).tables
+  pub is : cost ≡ saturated ((at states from).found.cost + space.sort_cost tables)
 
-pub sort_base : (space : Space) (states : List StatePlan) (first tables order cost : ℕ) (step : Step) (sorted : Option ℕ) → first ≤ length states → SortMakes space states first tables order cost step sorted
-    → SortBase space states tables (cost_sorted_if space sorted tables cost) step
-sort_base space states first tables order cost step None le m =
-    record { before = order; less = cost; made = step_kept space states states (λ place lt. refl) first (length states) tables order cost step le le m; is = refl }
-sort_base space states first tables order cost step (Some into) le (before, less, m, can, folds, is) =
-    record { before = before; less = less; made = step_kept space states states (λ place lt. refl) first (length states) tables before less step le le m; is = is }
+-- the plan itself, or what it sorts
+pub sort_base : (space : Space) (states : List StatePlan) (place : ℕ) → place < length states → IsMadeAt space states place
+    → SortBase space states (at states place).tables (cost_sorted space (at states place)) (sorted_from place (at states place))
+sort_base space states place lt m = of_step (at states place).found.step refl m.made
+  where
+    itself : IsUnsorted (at states place).found.step → SortBase space states (at states place).tables (saturated ((at states place).found.cost + space.sort_cost (at states place).tables)) place
+    itself unsorted = record { within = lt; unsorted = unsorted; same = refl; is = refl }
 
-sorted_bounds : (space : Space) (sorted : Option ℕ) (tables cost : ℕ) → cost ≤ limit → (cost ≤ cost_sorted_if space sorted tables cost) × (cost_sorted_if space sorted tables cost ≤ saturated (cost + space.sort_cost tables))
-sorted_bounds space None tables cost small = (omega (arith, small), omega arith)
-sorted_bounds space (Some into) tables cost small = (omega arith, omega (arith, small))
+    of_step : (step : Step) → (at states place).found.step ≡ step → StepMakes space states place (at states place).tables (at states place).order (at states place).found.cost step
+        → SortBase space states (at states place).tables (cost_sorted_by space step (at states place).tables (at states place).found.cost) (sorted_from_by place step)
+    of_step (AccessOf path) e made = itself (subst IsUnsorted (sym e) tt)
+    of_step (JoinOn from join) e made = itself (subst IsUnsorted (sym e) tt)
+    of_step (SortOn from into) e made = let less = made.0 in record { within = omega (arith, less, lt); unsorted = made.1; same = made.2; is = made.5 }
+
+sorted_bounds : (space : Space) (step : Step) (tables cost : ℕ) → cost ≤ limit → (cost ≤ cost_sorted_by space step tables cost) × (cost_sorted_by space step tables cost ≤ saturated (cost + space.sort_cost tables))
+sorted_bounds space (AccessOf path) tables cost small = (omega (arith, small), omega arith)
+sorted_bounds space (JoinOn from join) tables cost small = (omega (arith, small), omega arith)
+sorted_bounds space (SortOn from into) tables cost small = (omega arith, omega (arith, small))
 
 module _ (space : Space) (tables cost : ℕ) where
   abbrev pub SortSeen : CostAt → ℕ → Type 0
@@ -121,16 +128,16 @@ module _ (space : Space) (tables cost : ℕ) where
   abbrev pub SortsLow : CostAt → Type 0
   SortsLow costs = (into folded : ℕ) → CanSort space tables into → Folds space tables into folded → costs tables folded ≤ cost
 
-  pub record Sorted (level : ℕ) (step : Step) (old s : Search) (orders : List ℕ) : Type 0 where
+  pub record Sorted (level from : ℕ) (old s : Search) (orders : List ℕ) : Type 0 where
     pub is_open : IsOpen space level s
     pub more : AreMore old s
     pub inside : tables < 2 ^ space.table_count
     pub high : level ≤ cost
-    pub base : SortBase space old.states tables cost step
+    pub base : SortBase space old.states tables cost from
     pub leads : LeadsLow (CanSort space tables) SortSeen SortsLow (cost_at s) orders
 
-  pub sorts_begin : (level : ℕ) (step : Step) (s : Search) (orders : List ℕ) → IsOpen space level s → tables < 2 ^ space.table_count → level ≤ cost → SortBase space s.states tables cost step → AreSorts space tables orders → Sorted level step s s orders
-  sorts_begin level step s orders v inside high base are = record {
+  pub sorts_begin : (level from : ℕ) (s : Search) (orders : List ℕ) → IsOpen space level s → tables < 2 ^ space.table_count → level ≤ cost → SortBase space s.states tables cost from → AreSorts space tables orders → Sorted level from s s orders
+  sorts_begin level from s orders v inside high base are = record {
     is_open = v;
     more = more_same s;
     inside = inside;
@@ -139,30 +146,32 @@ module _ (space : Space) (tables cost : ℕ) where
     leads = (are.each, λ later below all into folded can folds. has_each (SortSeen later) orders into all (are.all into can) folded folds);
   }
 
-  module _ (level : ℕ) (step : Step) (old s : Search) (orders rest : List ℕ) (into f : ℕ) (is : orders ≡ into ∷ rest) (le : f ≤ into) (folds : Folds space tables into f) (a : Sorted level step old s orders) where
+  module _ (level from : ℕ) (old s : Search) (orders rest : List ℕ) (into f : ℕ) (is : orders ≡ into ∷ rest) (le : f ≤ into) (folds : Folds space tables into f) (a : Sorted level from old s orders) where
     can : CanSort space tables into
     can = head_has (CanSort space tables) orders rest into is a.leads.0
 
     pub sort_numbered : f < length space.orders
     sort_numbered = let n = can.1.0 in omega (arith, n, le)
 
-    pub sort_offer : IsOffer space level s tables f (record { step = step; sorted = Some into; cost = cost })
+    pub sort_offer : IsOffer space level s tables f (record { step = SortOn from into; cost = cost })
     sort_offer =
         let b = a.base in
+        let within = b.within in
         let is' = b.is in
         let longer = a.more.longer in
+        let kept : at s.states from ≡ at old.states from = a.more.kept from within in
         record {
           is_open = a.is_open;
           made = record {
             small = omega (arith, is');
-            made = (b.before, b.less, step_kept space old.states s.states a.more.kept (length old.states) (length s.states) tables b.before b.less step (omega arith) longer b.made, can, folds, is');
+            made = (omega (arith, within, longer), rw kept b.unsorted, rw kept b.same, can, folds, rw kept is');
           };
           inside = a.inside;
           numbered = sort_numbered;
           high = a.high;
         }
 
-    pub sorts_go : (new : Search) → IsOpen space level new → AreMore s new → cost_at new tables f ≤ cost → Sorted level step old new rest
+    pub sorts_go : (new : Search) → IsOpen space level new → AreMore s new → cost_at new tables f ≤ cost → Sorted level from old new rest
     sorts_go new v more here = record {
       is_open = v;
       more = more_more old s new a.more more;
@@ -175,21 +184,21 @@ module _ (space : Space) (tables cost : ℕ) where
 
 -- what the sorts of a state begin with
 pub state_sorts : (space : Space) (s : Search) (place cost : ℕ) (orders : List ℕ) → place < length s.states → IsOpen space (at s.states place).found.cost s → cost ≡ cost_sorted space (at s.states place) → AreSorts space (at s.states place).tables orders
-    → Sorted space (at s.states place).tables cost (at s.states place).found.cost (at s.states place).found.step s s orders
+    → Sorted space (at s.states place).tables cost (at s.states place).found.cost (sorted_from place (at s.states place)) s s orders
 state_sorts space s place cost orders lt v is are =
     let x = at s.states place in
     let m = v.made place lt in
-    let bounds = sorted_bounds space x.found.sorted x.tables x.found.cost m.small in
+    let bounds = sorted_bounds space x.found.step x.tables x.found.cost m.small in
     let low = bounds.0 in
-    let base = sort_base space s.states place x.tables x.order x.found.cost x.found.step x.found.sorted (omega (arith, lt)) m.made in
-    sorts_begin space x.tables cost x.found.cost x.found.step s orders v (v.inside place lt) (omega (arith, low, is)) (subst (λ n. SortBase space s.states x.tables n x.found.step) (sym is) base) are
+    let base = sort_base space s.states place lt m in
+    sorts_begin space x.tables cost x.found.cost (sorted_from place x) s orders v (v.inside place lt) (omega (arith, low, is)) (subst (λ n. SortBase space s.states x.tables n (sorted_from place x)) (sym is) base) are
 
 pub sorts_end : (space : Space) (s : Search) (place cost : ℕ) (costs : CostAt) → place < length s.states → IsOpen space (at s.states place).found.cost s → cost ≡ cost_sorted space (at s.states place) → SortsLow space (at s.states place).tables cost costs
     → LowBySorts space costs (at s.states place).tables (at s.states place).found.cost
 sorts_end space s place cost costs lt v is low into folded can folds =
     let x = at s.states place in
     let m = v.made place lt in
-    let bounds = sorted_bounds space x.found.sorted x.tables x.found.cost m.small in
+    let bounds = sorted_bounds space x.found.step x.tables x.found.cost m.small in
     let high = bounds.1 in
     let l = low into folded can folds in
     omega (arith, l, is, high)

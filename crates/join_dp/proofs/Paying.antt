@@ -6,7 +6,7 @@ use Rattle.join_dp.specs.Costs.{Costs, settled_of, settled_among, settled_count}
 use Rattle.join_dp.specs.Counting.{most_joins, most_steps}
 use Rattle.join_dp.specs.Searching.{Search, IsOpen, AreMore, IsNext}
 use Rattle.join_dp.specs.StatePlans.{at}
-use Rattle.join_dp.proofs.Ending.{sort_some}
+use Rattle.join_dp.proofs.Ending.{state_some}
 use Rattle.join_dp.proofs.NextSettled.{one_of, one_among}
 use Rattle.join_dp.proofs.Offering.{same_or_other}
 use Rattle.join_dp.proofs.Spending.{spent_in, settled_pays, spent_few}
@@ -69,9 +69,7 @@ module _ (space : Space) (level place : ℕ) (old mid new : Search) (n : IsNext 
       settled_pays space sorts joins old.costs.settled new.costs.settled listed listed' tables old.steps new.steps some inside rises (omega (arith, one)) listed_more before (let e = n.steps in omega (arith, step, e))
     where
       some : 0 < tables
-      some =
-          let x = at mid.states place in
-          sort_some space mid.states place x.tables x.order x.found.cost x.found.step x.found.sorted (n.is_open.made place n.within).made
+      some = state_some space mid.states n.is_open.made place n.within
 
       one : settled_of (new.costs.settled tables) (length space.orders) ≡ settled_of (old.costs.settled tables) (length space.orders) + 1
       one = one_of (old.costs.settled tables) (new.costs.settled tables) order (length space.orders) numbered n.was_not here (λ j ne. others tables j (inr ne))

@@ -1,6 +1,6 @@
 -- Plans of solved states.
 use Prim.Native.Nat.{zero}
-use Rattle.std.proofs.Common.{suc, ◌≡◌, ◌∙◌, ℕ, ◌+◌, ◌*◌, ◌<◌, ◌≤◌, List, Option, Some, None, length, arith, refl, sym, ap, subst}
+use Rattle.std.proofs.Common.{suc, ◌≡◌, ◌∙◌, ℕ, ◌+◌, ◌*◌, ◌<◌, ◌≤◌, List, length, arith, refl, sym, ap, subst}
 use Rattle.definitions.specs.Plans.TableSet.{only, with_table}
 use Rattle.definitions.specs.Plans.Path.{Path, table_of}
 use Rattle.definitions.specs.Plans.Plan.{Plan, Access, Sort}
@@ -11,9 +11,9 @@ use Rattle.definitions.specs.Plans.Cost.{saturated, loop_cost, merge_cost, cost_
 use Rattle.definitions.proofs.PlanTheory.Orders.{refold, merge_order}
 use Rattle.definitions.specs.Plans.Search.{IsComplete}
 use Rattle.join_dp.specs.Joining.{CanJoin, join_cost}
-use Rattle.join_dp.specs.StatePlans.{StatePlan, at, StepMakes, SortMakes, IsMadeAt, AllMade}
-use Rattle.join_dp.specs.Steps.{Join, Loop, Merge, Step, AccessOf, JoinOn, table_in, joined}
-use Rattle.join_dp.specs.Planned.{IsStepPlanAt}
+use Rattle.join_dp.specs.StatePlans.{StatePlan, at, StepMakes, IsMadeAt, AllMade}
+use Rattle.join_dp.specs.Steps.{Join, Loop, Merge, Step, AccessOf, JoinOn, SortOn, IsUnsorted, table_in, joined}
+use Rattle.join_dp.specs.Planned.{IsPlanBy, IsPlanAt}
 use Rattle.join_dp.specs.Words.{words_in, tables_among, IsPlanOf, IsStepOf}
 use Rattle.join_dp.proofs.Steps.{follows}
 use Rattle.join_dp.proofs.Sizes.{one_more_among, some_among}
@@ -65,60 +65,79 @@ module _ (space : Space) (complete : IsComplete space) where
   pub step_of_plan : (s k c : ℕ) (p : Plan) → IsStepOf space s k c p → IsPlanOf space s k c p
   step_of_plan s k c p m = let short = m.short in record { is_on = m.is_on; costs = m.costs; short = omega (arith, short) }
 
+  -- a plan that no sort ends has room for one
+  as_step : (step : Step) (s k c : ℕ) (p : Plan) → IsUnsorted step → IsPlanBy space step s k c p → IsStepOf space s k c p
+  as_step (AccessOf path) s k c p unsorted m = m
+  as_step (JoinOn from join) s k c p unsorted m = m
+  as_step (SortOn from into) s k c p unsorted m = absurd unsorted
+
+  by_step : (step : Step) (s k c : ℕ) (p : Plan) → IsPlanBy space step s k c p → IsPlanOf space s k c p
+  by_step (AccessOf path) s k c p m = step_of_plan s k c p m
+  by_step (JoinOn from join) s k c p m = step_of_plan s k c p m
+  by_step (SortOn from into) s k c p m = m
+
   -- ---- the plan of a place, from those of the places before it
 
   module _ (states : List StatePlan) where
     abbrev pub PlanAt : ℕ → Plan → Type 0
-    PlanAt place p = IsPlanOf space (at states place).tables (at states place).order (at states place).found.cost p
+    PlanAt place p = IsPlanAt space states place p
 
-    -- the plan of a step: of whatever state and cost it leads to
-    abbrev pub StepPlan : ℕ → ℕ → Step → Plan → Type 0
-    StepPlan first tables step p = (order cost : ℕ) → StepMakes space states first tables order cost step → IsStepOf space tables order cost p
+    -- a plan of the step that leads to a state
+    abbrev PlanBy : ℕ → ℕ → ℕ → ℕ → Step → Plan → Type 0
+    PlanBy first tables order cost step p = StepMakes space states first tables order cost step → IsPlanBy space step tables order cost p
 
-    pub access_step : (first tables : ℕ) (path : Path) → StepPlan first tables (AccessOf path) (Access path)
-    access_step first tables path order cost m = access_of path tables order cost m.0 m.1 m.2 m.3 m.4
+    access_step : (first tables order cost : ℕ) (path : Path) → PlanBy first tables order cost (AccessOf path) (Access path)
+    access_step first tables order cost path m = access_of path tables order cost m.0 m.1 m.2 m.3 m.4
 
-    pub join_step : (first tables from : ℕ) (join : Join) (p : Plan) → PlanAt from p → StepPlan first tables (JoinOn from join) (joined p join)
-    join_step first tables from join p before order cost m =
-        join_of_plan (at states from).tables (at states from).order (at states from).found.cost p join tables order cost before m.1 m.2 m.3 m.4
+    join_step : (first tables order cost from : ℕ) (join : Join) (p : Plan) → PlanAt from p → PlanBy first tables order cost (JoinOn from join) (joined p join)
+    join_step first tables order cost from join p before m =
+        let x = at states from in
+        join_of_plan x.tables x.order x.found.cost p join tables order cost (by_step x.found.step x.tables x.order x.found.cost p before) m.1 m.2 m.3 m.4
 
-    -- with a sort behind it, if there is one
-    abbrev pub sorted_by : Option ℕ → Plan → Plan
-    sorted_by None p = p
-    sorted_by (Some into) p = Sort p into
+    sort_step : (first tables order cost from into : ℕ) (p : Plan) → PlanAt from p → PlanBy first tables order cost (SortOn from into) (Sort p into)
+    sort_step first tables order cost from into p before m =
+        let x = at states from in
+        let base : IsStepOf space tables x.order x.found.cost p = rw m.2 (as_step x.found.step x.tables x.order x.found.cost p m.1 before) in
+        sort_of_plan tables x.order x.found.cost p into order cost base m.3 m.4 m.5
 
-    pub sorted_step : (first tables order cost : ℕ) (step : Step) (sorted : Option ℕ) (p : Plan) → SortMakes space states first tables order cost step sorted → StepPlan first tables step p → IsPlanOf space tables order cost (sorted_by sorted p)
-    sorted_step first tables order cost step None p m made = step_of_plan tables order cost p (made order cost m)
-    sorted_step first tables order cost step (Some into) p (before, less, m, can, folds, is) made = sort_of_plan tables before less p into order cost (made before less m) can folds is
+    -- ---- as the code tells a place's step
 
-    -- ---- as the code tells a place's step and its sort
+    step_as : (place : ℕ) (step : Step) (p : Plan) → (at states place).found.step ≡ step → IsMadeAt space states place → PlanBy place (at states place).tables (at states place).order (at states place).found.cost step p → PlanAt place p
+    step_as place step p e m by =
+        let x = at states place in
+        subst (λ s. IsPlanBy space s x.tables x.order x.found.cost p) (sym e) (by (subst (λ s. StepMakes space states place x.tables x.order x.found.cost s) e m.made))
 
-    pub step_as : (place : ℕ) (step : Step) (p : Plan) → (at states place).found.step ≡ step → StepPlan place (at states place).tables step p → IsStepPlanAt space states place p
-    step_as place step p e made = subst (λ x. StepPlan place (at states place).tables x p) (sym e) made
+    pub access_plan : (place : ℕ) (path : Path) → (at states place).found.step ≡ AccessOf path → IsMadeAt space states place → PlanAt place (Access path)
+    access_plan place path e m = step_as place (AccessOf path) (Access path) e m (access_step place (at states place).tables (at states place).order (at states place).found.cost path)
 
-    pub sorted_as : (place : ℕ) (sorted : Option ℕ) (p : Plan) → (at states place).found.sorted ≡ sorted → IsMadeAt space states place → IsStepPlanAt space states place p → PlanAt place (sorted_by sorted p)
-    sorted_as place sorted p e made step =
-        sorted_step place (at states place).tables (at states place).order (at states place).found.cost (at states place).found.step sorted p
-        (subst (SortMakes space states place (at states place).tables (at states place).order (at states place).found.cost (at states place).found.step) e made.made) step
+    pub join_plan : (place from : ℕ) (join : Join) (p : Plan) → (at states place).found.step ≡ JoinOn from join → IsMadeAt space states place → PlanAt from p → PlanAt place (joined p join)
+    join_plan place from join p e m before =
+        step_as place (JoinOn from join) (joined p join) e m (join_step place (at states place).tables (at states place).order (at states place).found.cost from join p before)
+
+    pub sort_plan : (place from into : ℕ) (p : Plan) → (at states place).found.step ≡ SortOn from into → IsMadeAt space states place → PlanAt from p → PlanAt place (Sort p into)
+    sort_plan place from into p e m before =
+        step_as place (SortOn from into) (Sort p into) e m (sort_step place (at states place).tables (at states place).order (at states place).found.cost from into p before)
+
+    -- a plan of the state, whatever ends it
+    pub plan_of_state : (place : ℕ) (p : Plan) → PlanAt place p → IsPlanOf space (at states place).tables (at states place).order (at states place).found.cost p
+    plan_of_state place p m = let x = at states place in by_step x.found.step x.tables x.order x.found.cost p m
 
     module _ (made : AllMade space states) where
-      some_step : (first tables order cost : ℕ) (step : Step) → StepMakes space states first tables order cost step
-          → ((from : ℕ) → from < first → (p : Plan) × PlanAt from p) → (p : Plan) × StepPlan first tables step p
-      some_step first tables order cost (AccessOf path) m before = (Access path, access_step first tables path)
-      some_step first tables order cost (JoinOn from join) m before = let b = before from m.0 in (joined b.0 join, join_step first tables from join b.0 b.1)
-
-      some_sorted : (first tables order cost : ℕ) (step : Step) (sorted : Option ℕ) → SortMakes space states first tables order cost step sorted
-          → ((from : ℕ) → from < first → (p : Plan) × PlanAt from p) → (p : Plan) × IsPlanOf space tables order cost p
-      some_sorted first tables order cost step None m before = let b = some_step first tables order cost step m before in (b.0, sorted_step first tables order cost step None b.0 m b.1)
-      some_sorted first tables order cost step (Some into) (k, less, m, can, folds, is) before =
-          let b = some_step first tables k less step m before in (Sort b.0 into, sorted_step first tables order cost step (Some into) b.0 (k, less, m, can, folds, is) b.1)
+      of_step : (place : ℕ) (step : Step) → (at states place).found.step ≡ step → IsMadeAt space states place
+          → ((from : ℕ) → from < place → (p : Plan) × PlanAt from p) → (p : Plan) × PlanAt place p
+      of_step place (AccessOf path) e m before = (Access path, access_plan place path e m)
+      of_step place (JoinOn from join) e m before =
+          let made_by = subst (λ s. StepMakes space states place (at states place).tables (at states place).order (at states place).found.cost s) e m.made in
+          let b = before from made_by.0 in (joined b.0 join, join_plan place from join b.0 e m b.1)
+      of_step place (SortOn from into) e m before =
+          let made_by = subst (λ s. StepMakes space states place (at states place).tables (at states place).order (at states place).found.cost s) e m.made in
+          let b = before from made_by.0 in (Sort b.0 into, sort_plan place from into b.0 e m b.1)
 
       planned_below : (n place : ℕ) → place < n → place < length states → (p : Plan) × PlanAt place p
       planned_below zero place lt within = absurd (omega arith)
       planned_below (suc n) place lt within =
-          some_sorted place (at states place).tables (at states place).order (at states place).found.cost (at states place).found.step (at states place).found.sorted (made place within).made
-          (λ from less. planned_below n from (omega arith) (omega (arith, less, within)))
+          of_step place (at states place).found.step refl (made place within) (λ from less. planned_below n from (omega arith) (omega (arith, less, within)))
 
       -- each place has a plan
-      pub planned : (place : ℕ) → place < length states → (p : Plan) × PlanAt place p
-      planned place within = planned_below (place + 1) place (omega arith) within
+      pub planned : (place : ℕ) → place < length states → (p : Plan) × IsPlanOf space (at states place).tables (at states place).order (at states place).found.cost p
+      planned place within = let p = planned_below (place + 1) place (omega arith) within in (p.0, plan_of_state place p.0 p.1)

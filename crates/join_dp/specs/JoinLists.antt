@@ -1,5 +1,5 @@
 -- Lists of the joins on top of plans of sets of tables.
-use Rattle.std.specs.Prelude.{ℕ, ◌+◌, ◌^◌, ◌<◌, ◌≤◌, ◌≡◌, Option, Some, None, List, length, get_or, map, if◌then◌else◌}
+use Rattle.std.specs.Prelude.{ℕ, ◌+◌, ◌^◌, ◌<◌, ◌≤◌, ◌≡◌, ◌≢◌, ◌⊎◌, Option, Some, None, List, [], ◌∷◌, ◌++◌, length, get_or, map, nat_lt, if◌then◌else◌}
 use Rattle.definitions.specs.Estimates.BlockTables.{has}
 use Rattle.definitions.specs.Plans.TableSet.{TableSet}
 use Rattle.definitions.specs.Plans.Order.{OrderNumber}
@@ -27,6 +27,15 @@ known_cost (Some cost) = cost.number
 
 abbrev pub added_at : List Added → ℕ → Added
 added_at joins place = get_or joins place (record { table = 0; join = Loop (SegmentScan 0); cost = 0 })
+
+-- one of the joins from a place to another merges the table by the conjunct, and adds so much at most
+pub record MergesFor (joins : List Added) (start end table number most : ℕ) : Type 0 where
+  pub place : ℕ
+  pub from : start ≤ place
+  pub before : place < end
+  pub with : (added_at joins place).table ≡ table
+  pub by : (inner : Inner) × ((added_at joins place).join ≡ Merge number inner)
+  pub least : (added_at joins place).cost ≤ most
 
 module _ (space : Space) (joins : List Added) (tables : TableSet) (start end : ℕ) where
   -- each of the joins from a place to another is one, with what it adds
@@ -58,14 +67,13 @@ module _ (space : Space) (joins : List Added) (tables : TableSet) (start end : �
         × ((added_at joins place).cost ≡ known)
     pub few : end ≤ start + length (space.paths tables table)
 
-  -- the merges with the table that add less
+  -- the merges with the table that add less, or one by the same conjunct that adds no more
   pub record AreMergesBelow (table known : ℕ) : Type 0 where
     pub rising : start ≤ end
     pub each : AreAdded
     pub all : (number : ℕ) (inner : Inner) → IsJoin space tables table (Merge number inner)
         → join_cost space tables (Merge number inner) < known
-        → (place : ℕ) × (start ≤ place) × (place < end)
-        × (added_at joins place ≡ record { table = table; join = Merge number inner; cost = join_cost space tables (Merge number inner) })
+        → MergesFor joins start end table number (join_cost space tables (Merge number inner))
     pub few : (merges : List CostedMerge) × AreMerges space tables table merges × (end ≤ start + length merges)
 
   -- with the first tables, so many
@@ -81,6 +89,23 @@ module _ (space : Space) (joins : List Added) (tables : TableSet) (start end : �
 pub record IsLonger (old new : List Added) : Type 0 where
   pub longer : length old ≤ length new
   pub kept : (place : ℕ) → place < length old → added_at new place ≡ added_at old place
+
+-- ---- the best merge of a conjunct
+
+abbrev pub listed_merge : ℕ → CostedMerge → Added
+listed_merge table merge =
+    record { table = table; join = Merge merge.conjunct merge.inner; cost = merge.cost }
+
+-- the one that adds less, the first where both add the same
+abbrev pub less_dear : CostedMerge → CostedMerge → CostedMerge
+less_dear best item = if nat_lt item.cost best.cost then item else best
+
+-- the best merge so far and one more: of one conjunct the cheaper one goes on, of another the best one is listed
+abbrev pub IsBest : ℕ → Option CostedMerge → CostedMerge → List Added → CostedMerge → List Added → Type 0
+IsBest table None item old next new = (next ≡ item) × (new ≡ old)
+IsBest table (Some best) item old next new =
+    ((best.conjunct ≡ item.conjunct) × (next ≡ less_dear best item) × (new ≡ old))
+    ⊎ ((best.conjunct ≢ item.conjunct) × (next ≡ item) × (new ≡ old ++ listed_merge table best ∷ []))
 
 abbrev pub joins_in : JoinLists → List Added
 joins_in lists = map added_of lists.joins.items

@@ -1,5 +1,5 @@
 -- What a search knows of the steps from the states that it has settled.
-use Rattle.std.specs.Prelude.{ℕ, ◌+◌, ◌<◌, ◌≤◌, ◌≡◌, ◌⊎◌, Option, Some, None, length}
+use Rattle.std.specs.Prelude.{ℕ, ◌+◌, ◌<◌, ◌≤◌, ◌≡◌, ◌⊎◌, length}
 use Rattle.definitions.specs.Plans.TableSet.{TableSet, no_tables, only, with_table}
 use Rattle.definitions.specs.Plans.Order.{OrderNumber}
 use Rattle.definitions.specs.Plans.Path.{Path, table_of}
@@ -11,7 +11,7 @@ use Rattle.join_dp.specs.Final.{IsFinal}
 use Rattle.join_dp.specs.Joining.{CanJoin, join_cost, GoesWith}
 use Rattle.join_dp.specs.Searching.{Search, IsSettled, cost_at, IsOpen}
 use Rattle.join_dp.specs.StatePlans.{StatePlan, at}
-use Rattle.join_dp.specs.Steps.{Join, table_in}
+use Rattle.join_dp.specs.Steps.{Join, table_in, Step, AccessOf, JoinOn, SortOn}
 use Rattle.join_dp.specs.Views.{Added}
 
 module _ (space : Space) (cost : TableSet → OrderNumber → ℕ) where
@@ -42,12 +42,22 @@ module _ (space : Space) (cost : TableSet → OrderNumber → ℕ) where
     pub sorts : LowBySorts tables from
 
 -- what a state's plan costs when it is sorted: one that is sorted already is sorted otherwise, in place of that sort
-abbrev pub cost_sorted_if : Space → Option OrderNumber → TableSet → ℕ → ℕ
-cost_sorted_if space None tables cost = saturated (cost + space.sort_cost tables)
-cost_sorted_if space (Some into) tables cost = cost
+abbrev pub cost_sorted_by : Space → Step → TableSet → ℕ → ℕ
+cost_sorted_by space (AccessOf path) tables cost = saturated (cost + space.sort_cost tables)
+cost_sorted_by space (JoinOn from join) tables cost = saturated (cost + space.sort_cost tables)
+cost_sorted_by space (SortOn from into) tables cost = cost
 
 abbrev pub cost_sorted : Space → StatePlan → ℕ
-cost_sorted space state = cost_sorted_if space state.found.sorted state.tables state.found.cost
+cost_sorted space state = cost_sorted_by space state.found.step state.tables state.found.cost
+
+-- and the place of the plan that is sorted then
+abbrev pub sorted_from_by : ℕ → Step → ℕ
+sorted_from_by place (AccessOf path) = place
+sorted_from_by place (JoinOn from join) = place
+sorted_from_by place (SortOn from into) = from
+
+abbrev pub sorted_from : ℕ → StatePlan → ℕ
+sorted_from place state = sorted_from_by place state.found.step
 
 -- of the sets that are listed now, but were not, the sorts are taken from the state
 abbrev pub AreSortsTaken : Space → StatePlan → (TableSet → Type 0) → (TableSet → Type 0) → (TableSet → OrderNumber → ℕ) → Type 0

@@ -1,5 +1,5 @@
 -- States, each with the last step of a plan.
-use Rattle.std.specs.Prelude.{ℕ, ◌+◌, ◌<◌, ◌≤◌, ◌≡◌, Option, Some, None, List, length, get_or}
+use Rattle.std.specs.Prelude.{ℕ, ◌+◌, ◌<◌, ◌≤◌, ◌≡◌, List, length, get_or}
 use Rattle.definitions.specs.Plans.TableSet.{TableSet, no_tables, only, with_table}
 use Rattle.definitions.specs.Plans.Order.{OrderNumber}
 use Rattle.definitions.specs.Plans.Path.{SegmentScan, table_of}
@@ -8,7 +8,7 @@ use Rattle.definitions.specs.Plans.PlanSpace.{IsPath, CanSort}
 use Rattle.definitions.specs.Plans.Folding.{Folds}
 use Rattle.definitions.specs.Plans.Cost.{limit, saturated}
 use Rattle.definitions.specs.Plans.Certificate.{StateCost}
-use Rattle.join_dp.specs.Steps.{Step, AccessOf, JoinOn, table_in, Candidate}
+use Rattle.join_dp.specs.Steps.{Step, AccessOf, JoinOn, SortOn, table_in, Candidate, IsUnsorted}
 use Rattle.join_dp.specs.Joining.{CanJoin, join_cost}
 
 pub record StatePlan : Type 0 where
@@ -26,12 +26,11 @@ at states place =
     (record {
       tables = no_tables;
       order = 0;
-      found =
-          record { step = AccessOf (SegmentScan 0); sorted = None; cost = 0 };
+      found = record { step = AccessOf (SegmentScan 0); cost = 0 };
     })
 
 module _ (space : Space) (states : List StatePlan) where
-  -- the step leads to the state at that cost, a join from one of the first states
+  -- the step leads to the state at that cost, a join or a sort from one of the first states; no sort is behind another
   abbrev pub StepMakes : ℕ → TableSet → OrderNumber → ℕ → Step → Type 0
   StepMakes first tables order cost (AccessOf path) = (table_of path < space.table_count) × IsPath space no_tables path
       × (tables ≡ only (table_of path))
@@ -41,26 +40,21 @@ module _ (space : Space) (states : List StatePlan) where
       × (tables ≡ with_table (at states from).tables (table_in join))
       × Folds space tables (at states from).order order
       × (cost ≡ saturated ((at states from).found.cost + join_cost space (at states from).tables join))
-
-  -- the step and the sort behind it, if there is one
-  abbrev pub SortMakes : ℕ → TableSet → OrderNumber → ℕ → Step → Option OrderNumber → Type 0
-  SortMakes first tables order cost step None = StepMakes first tables order cost step
-  SortMakes first tables order cost step (Some into) = (before : OrderNumber) × (less : ℕ)
-      × StepMakes first tables before less step
-      × CanSort space tables into × Folds space tables into order × (cost ≡ saturated (less + space.sort_cost tables))
-
-  abbrev pub Makes : ℕ → TableSet → OrderNumber → Candidate → Type 0
-  Makes first tables order candidate = SortMakes first tables order candidate.cost candidate.step candidate.sorted
+  StepMakes first tables order cost (SortOn from into) = (from < first) × IsUnsorted (at states from).found.step
+      × (tables ≡ (at states from).tables)
+      × CanSort space tables into × Folds space tables into order
+      × (cost ≡ saturated ((at states from).found.cost + space.sort_cost tables))
 
   pub record IsMade (tables : TableSet) (order : OrderNumber) (candidate : Candidate) : Type 0 where
     pub small : candidate.cost ≤ limit
-    pub made : Makes (length states) tables order candidate
+    pub made : StepMakes (length states) tables order candidate.cost candidate.step
 
   -- a state is made by its step, from a state before it
   pub record IsMadeAt (place : ℕ) : Type 0 where
     pub small : (at states place).found.cost ≤ limit
     pub numbered : (at states place).order < length space.orders
-    pub made : Makes place (at states place).tables (at states place).order (at states place).found
+    pub made : StepMakes place (at states place).tables (at states place).order (at states place).found.cost
+        (at states place).found.step
 
   abbrev pub AllMade : Type 0
   AllMade = (place : ℕ) → place < length states → IsMadeAt place

@@ -1,5 +1,5 @@
 -- Plans by their last steps.
-use Rattle.std.specs.Prelude.{ℕ, Option}
+use Rattle.std.specs.Prelude.{ℕ, ⊤}
 use Rattle.definitions.specs.Plans.Order.{OrderNumber}
 use Rattle.definitions.specs.Plans.Path.{Path, table_of}
 use Rattle.definitions.specs.Plans.Plan as plan
@@ -9,16 +9,21 @@ pub data Join : Type 0 where
   Loop : (path : Path) → Join
   Merge : (number : ℕ) (inner : plan.Inner) → Join
 
--- an access, or a join on top of the plan of the state at a place
+-- an access, or a join or a sort on top of the plan of the state at a place
 pub data Step : Type 0 where
   AccessOf : (path : Path) → Step
   JoinOn : (from : ℕ) (join : Join) → Step
+  SortOn : (from : ℕ) (into : OrderNumber) → Step
 
--- a plan by its last step, the order that it is sorted into behind that, and its cost
+-- a plan by its last step, and its cost
 pub record Candidate : Type 0 where
   pub step : Step
-  pub sorted : Option OrderNumber
   pub cost : ℕ
+
+abbrev pub IsUnsorted : Step → Type 0
+IsUnsorted (AccessOf path) = ⊤
+IsUnsorted (JoinOn from join) = ⊤
+IsUnsorted (SortOn from into) = ⊥
 
 abbrev pub table_in : Join → ℕ
 table_in (Loop path) = table_of path

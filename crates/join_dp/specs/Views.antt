@@ -16,9 +16,10 @@ join_of (join.Merge conjunct path sorted) = spec.Merge conjunct (record { path =
 abbrev pub step_of : Step → spec.Step
 step_of (step.Access path) = spec.AccessOf (path_of path.now)
 step_of (step.Join from join) = spec.JoinOn from (join_of join)
+step_of (step.Sort from order) = spec.SortOn from order
 
 abbrev pub candidate_of : Candidate → spec.Candidate
-candidate_of c = record { step = step_of c.step; sorted = c.sorted; cost = c.cost.number }
+candidate_of c = record { step = step_of c.step; cost = c.cost.number }
 
 -- a join with a table, and what it adds to the cost of a plan
 pub record Added : Type 0 where

@@ -53,7 +53,6 @@ fn take_accesses_of<'a>(
     'paths: for item in space.paths(TableSet::none(), table) {
         let found = Candidate {
             step: Step::Access { path: item.path },
-            sorted: None,
             cost: item.cost,
         };
         states.offer(tables, space.fold(tables, item.order), found)?;

@@ -1,21 +1,22 @@
 //! The joins on top of the plans of each set of tables.
 
-ghost use Rattle.std.specs.Prelude.{ℕ, ◌≡◌, ◌≢◌, ◌<◌, ◌≤◌, ◌^◌, None, IfOk, length, get_or, map};
+ghost use Rattle.std.specs.Prelude.{ℕ, ◌≡◌, ◌≢◌, ◌<◌, ◌≤◌, ◌^◌, [], ◌∷◌, ◌++◌, None, IfOk, length, get_or, map, option_map};
 ghost use Rattle.std.specs.Bool.{Decides};
 ghost use Rattle.definitions.specs.Limits.{most_from_tables};
 ghost use Rattle.definitions.specs.Plans.Path.{Path};
 ghost use Rattle.definitions.specs.Plans.PlanSpace.{MayFollow};
 ghost use Rattle.plan_tree.specs.Sets.{set_of};
-ghost use Rattle.join_dp.specs.JoinLists.{AreJoinsWith, AreLoops, AreMergesBelow, AreLists, IsLonger, Stand, known_cost};
+ghost use Rattle.join_dp.specs.JoinLists.{AreJoinsWith, AreLoops, AreMergesBelow, AreLists, IsBest, IsLonger, Stand, known_cost, less_dear, listed_merge};
 ghost use Rattle.join_dp.specs.Joining.{join_cost, IsJoin};
 ghost use Rattle.join_dp.specs.Steps as steps;
 ghost use Rattle.join_dp.specs.Views.{added_of};
+ghost use Rattle.plan_space.specs.Merges.{merge_of};
 ghost use Rattle.plan_space.specs.Planned.{space_in};
 ghost use Rattle.plan_space.specs.Relation.{IsRelation};
 
 use crate::cheapest_path::cheapest_path;
 use crate::step::{AddedJoin, Join};
-use plan_space::{JoinRelation, Space, loop_cost};
+use plan_space::{CostedMerge, JoinRelation, Space, loop_cost};
 use plan_tree::{Cost, TableSet};
 use std::alloc::{AllocError, Global};
 
@@ -142,7 +143,8 @@ fn push_loop<'a>(
     Ok(Some(cost))
 }
 
-/// Lists the merges with a table that add less to the cost of a plan than a join that goes with all plans, if one is known.
+/// Lists the merges with a table that add less to the cost of a plan than a join that goes with all plans, if one is known. Of those by one
+/// conjunct, which go with the same plans, that which adds least is enough.
 fn push_merges<'a>(
     space: &'a Space<'_>,
     outer: &JoinRelation<'_>,
@@ -157,19 +159,67 @@ fn push_merges<'a>(
         (set_of outer.now.tables)
         (length joins.old.items) (length joins.new.items) table (known_cost known)) }
 {
+    let mut best: Option<CostedMerge<'a>> = None;
     'merges: for item in space.merges(outer, table) {
         if adds_less(item.cost, known) {
-            joins.push(AddedJoin {
-                table,
-                join: Join::Merge {
-                    conjunct: item.conjunct,
-                    path: item.path,
-                    sorted: item.sorted,
-                },
-                cost: item.cost,
-            })?;
+            best = Some(keep_best(best, item, table, joins)?);
         }
     }
+    match best {
+        Some(best) => push_merge(best, table, joins),
+        None => Ok(()),
+    }
+}
+
+/// The best merge with one more: the cheaper one of one conjunct; where the conjunct is another, the best one so far is listed.
+fn keep_best<'a>(
+    best: Option<CostedMerge<'a>>,
+    item: CostedMerge<'a>,
+    table: usize,
+    joins: &mut Vec<AddedJoin<'a>>,
+) -> Result<CostedMerge<'a>, AllocError>
+    ensures { IfOk result (λ next. IsBest table (option_map merge_of best.entry) (merge_of item.entry)
+        (map added_of joins.old.items) (merge_of next) (map added_of joins.new.items)) }
+{
+    let Some(best) = best else {
+        return Ok(item);
+    };
+    if best.conjunct == item.conjunct {
+        return Ok(cheaper_merge(best, item));
+    }
+    push_merge(best, table, joins)?;
+    Ok(item)
+}
+
+/// The merge that adds less, of two.
+fn cheaper_merge<'a>(best: CostedMerge<'a>, item: CostedMerge<'a>) -> CostedMerge<'a>
+    ensures { merge_of result ≡ less_dear (merge_of best.entry) (merge_of item.entry) }
+{
+    if item.cost.number < best.cost.number {
+        item
+    } else {
+        best
+    }
+}
+
+/// Lists a merge with a table.
+fn push_merge<'a>(
+    merge: CostedMerge<'a>,
+    table: usize,
+    joins: &mut Vec<AddedJoin<'a>>,
+) -> Result<(), AllocError>
+    ensures { IfOk result (λ _. map added_of joins.new.items
+        ≡ map added_of joins.old.items ++ listed_merge table (merge_of merge.entry) ∷ []) }
+{
+    joins.push(AddedJoin {
+        table,
+        join: Join::Merge {
+            conjunct: merge.conjunct,
+            path: merge.path,
+            sorted: merge.sorted,
+        },
+        cost: merge.cost,
+    })?;
     Ok(())
 }
 

@@ -4,7 +4,7 @@ ghost use Rattle.std.specs.Prelude.{◌≡◌, ◌<◌, IfOk, length};
 ghost use Rattle.definitions.specs.Plans.Space.{Space};
 ghost use Rattle.definitions.specs.Plans.Search.{IsComplete};
 ghost use Rattle.plan_tree.specs.Plans.{path_of, plan_of};
-ghost use Rattle.join_dp.specs.Planned.{AreFromBefore, IsPlanAt, IsStepPlanAt};
+ghost use Rattle.join_dp.specs.Planned.{AreFromBefore, IsPlanAt};
 ghost use Rattle.join_dp.specs.StatePlans.{AllMade};
 ghost use Rattle.join_dp.specs.States.{states_in};
 ghost use Rattle.join_dp.specs.Steps.{joined};
@@ -16,36 +16,21 @@ use plan_tree::{Inner, Path, Plan};
 use std::alloc::{AllocError, Global};
 
 /// The plan of the state at a place.
-#[cycle(plans)]
 pub(crate) fn plan_at(alloc: Global, states: &States<'_>, place: usize) -> Result<Plan, AllocError>
     requires place { place < length (states_in states.now) }
     requires before { AreFromBefore (states_in states.now) }
     ensures { (space : Space) → IsComplete space → AllMade space (states_in states.now) →
         IfOk result (λ plan. IsPlanAt space (states_in states.now) place (plan_of plan)) }
 {
-    let plan = step_plan(alloc, states, place)?;
-    match states.at(place).found.sorted {
-        None => Ok(plan),
-        Some(order) => Ok(Plan::Sort {
-            input: Box::new(alloc, plan)?,
-            order,
-        }),
-    }
-}
-
-/// The same without the sort behind its last step.
-#[cycle(plans)]
-fn step_plan(alloc: Global, states: &States<'_>, place: usize) -> Result<Plan, AllocError>
-    requires place { place < length (states_in states.now) }
-    requires before { AreFromBefore (states_in states.now) }
-    ensures { (space : Space) → IsComplete space → AllMade space (states_in states.now) →
-        IfOk result (λ plan. IsStepPlanAt space (states_in states.now) place (plan_of plan)) }
-{
     match states.at(place).found.step {
         Step::Access { path } => Ok(Plan::Access(copy_path(path)?)),
         Step::Join { from, join } => {
             let outer = Box::new(alloc, plan_at(alloc, states, from)?)?;
             joined_plan(outer, join)
+        }
+        Step::Sort { from, order } => {
+            let input = Box::new(alloc, plan_at(alloc, states, from)?)?;
+            Ok(Plan::Sort { input, order })
         }
     }
 }

@@ -15,18 +15,18 @@ pub(crate) enum Join<'a> {
     },
 }
 
-/// The last access or join of a plan. A join goes on from the plan of a state, which stands at a place.
+/// The last access, join or sort of a plan. A join and a sort go on from the plan of a state, which stands at a place.
 #[derive(Clone, Copy)]
 pub(crate) enum Step<'a> {
     Access { path: &'a Path },
     Join { from: usize, join: Join<'a> },
+    Sort { from: usize, order: usize },
 }
 
-/// A plan by its last step, the order that it is sorted into behind that step, if it is, and its cost.
+/// A plan by its last step, and its cost.
 #[derive(Clone, Copy)]
 pub(crate) struct Candidate<'a> {
     pub step: Step<'a>,
-    pub sorted: Option<usize>,
     pub cost: Cost,
 }
 

@@ -9,7 +9,7 @@ ghost use Rattle.join_dp.specs.Counting.{AreCounts, most_joins};
 ghost use Rattle.join_dp.specs.Final.{IsFinal};
 ghost use Rattle.join_dp.specs.JoinLists.{joins_in, listed_in, AreJoins, AreLists, IsListed, IsRelationAt, Stand};
 ghost use Rattle.join_dp.specs.Joining.{GoesWith, IsAdded};
-ghost use Rattle.join_dp.specs.Searched.{cost_sorted, AreSortsTaken, LowByAdded, LowByJoins, LowBySorts, IsSearched, IsSame, IsNone};
+ghost use Rattle.join_dp.specs.Searched.{cost_sorted, sorted_from, AreSortsTaken, LowByAdded, LowByJoins, LowBySorts, IsSearched, IsSame, IsNone};
 ghost use Rattle.join_dp.specs.Searching.{cost_at, IsOpen, AreMore};
 ghost use Rattle.join_dp.specs.StatePlans.{at};
 ghost use Rattle.join_dp.specs.States.{search_of, states_in, state_plan_of};
@@ -112,11 +112,10 @@ fn take_sorts<'a>(
         × (states.new.steps ≤ states.old.steps + length orders)) }
 {
     let state = states.at(place);
-    let cost = sorted_cost(space, outer, state);
+    let (from, cost) = sort_base(space, outer, state, place);
     'orders: for order in space.sorts(state.tables) {
         let found = Candidate {
-            step: state.found.step,
-            sorted: Some(order),
+            step: Step::Sort { from, order },
             cost,
         };
         states.offer(state.tables, space.fold(state.tables, order), found)?;
@@ -124,15 +123,22 @@ fn take_sorts<'a>(
     Ok(())
 }
 
-/// What a state's plan costs when it is sorted. One that is sorted already is sorted into another order in place of that one.
-fn sorted_cost(space: &Space<'_>, outer: &JoinRelation<'_>, state: StatePlan<'_>) -> Cost
+/// The place of the plan that is sorted where the state's plan at a place is, and what that costs. One that is sorted already is sorted
+/// into another order in place of that one.
+fn sort_base(
+    space: &Space<'_>,
+    outer: &JoinRelation<'_>,
+    state: StatePlan<'_>,
+    place: usize,
+) -> (usize, Cost)
     requires outer { IsRelation (space_in space.now) outer.now }
     requires from { set_of outer.now.tables ≡ set_of state.tables }
-    ensures { result.number ≡ cost_sorted (space_in space.now) (state_plan_of state.entry) }
+    ensures from { result.0 ≡ sorted_from place (state_plan_of state.entry) }
+    ensures cost { result.1.number ≡ cost_sorted (space_in space.now) (state_plan_of state.entry) }
 {
-    match state.found.sorted {
-        Some(_) => state.found.cost,
-        None => state.found.cost.plus(space.sort_cost_on(outer)),
+    match state.found.step {
+        Step::Sort { from, .. } => (from, state.found.cost),
+        _ => (place, state.found.cost.plus(space.sort_cost_on(outer))),
     }
 }
 
@@ -198,7 +204,6 @@ fn take_join<'a>(
             from: place,
             join: added.join,
         },
-        sorted: None,
         cost: state.found.cost.plus(added.cost),
     };
     states.offer(tables, space.fold(tables, state.order), found)

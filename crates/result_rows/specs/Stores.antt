@@ -17,9 +17,9 @@ use Rattle.result_rows.specs.declared.row_store.RowStore.{RowStore}
 use Rattle.result_rows.specs.declared.row_store.RowStore.TheVariants as store
 
 abbrev pub Holds : RowStore → List (List ℕ) → List Row → Type 0
-Holds (store.Printed p) names rows = HasPrinted names rows p
-Holds (store.Distinct d) names rows = HasDistinct names rows d
-Holds (store.Ordered o) names rows = HasOrdered names rows o
+Holds (store.Printed p) names rows = HasPrinted names rows p.value
+Holds (store.Distinct d) names rows = HasDistinct names rows d.value
+Holds (store.Ordered o) names rows = HasOrdered names rows o.value
 Holds (store.FirstValues f) names rows = HasFirstValues rows f
 Holds (store.Existence a) names rows = HasAnyRow rows a
 
@@ -45,7 +45,7 @@ keeping existence distinct = record {
 abbrev pub kind_of : RowStore → StoreKind
 kind_of (store.Printed p) = printing false false
 kind_of (store.Distinct d) = printing false true
-kind_of (store.Ordered o) = printing true (is_some o.seen)
+kind_of (store.Ordered o) = printing true (is_some o.value.seen)
 kind_of (store.FirstValues f) = keeping false (is_some f.seen)
 kind_of (store.Existence a) = keeping true false
 

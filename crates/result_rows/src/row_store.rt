@@ -28,11 +28,11 @@ use std::alloc::{AllocError, Global};
 #[derive(Drop)]
 pub enum RowStore {
     /// Printed as they come.
-    Printed(PrintedRows),
+    Printed(Box<PrintedRows>),
     /// Printed once each, in the order in which they first came.
-    Distinct(DistinctRows),
+    Distinct(Box<DistinctRows>),
     /// To be put in order and printed.
-    Ordered(OrderedRows),
+    Ordered(Box<OrderedRows>),
     /// Of each row the first value, which a subquery takes.
     FirstValues(FirstValueRows),
     /// Whether there is any, which EXISTS asks.
@@ -51,11 +51,14 @@ impl RowStore {
         ensures kind { IfOk result (λ s. kind_of s ≡ printing in_order distinct) }
     {
         if in_order {
-            Ok(RowStore::Ordered(OrderedRows::new(alloc, items, distinct)?))
+            let rows = OrderedRows::new(alloc, items, distinct)?;
+            Ok(RowStore::Ordered(Box::new(alloc, rows)?))
         } else if distinct {
-            Ok(RowStore::Distinct(DistinctRows::new(alloc, items)?))
+            let rows = DistinctRows::new(alloc, items)?;
+            Ok(RowStore::Distinct(Box::new(alloc, rows)?))
         } else {
-            Ok(RowStore::Printed(PrintedRows::new(alloc, items)?))
+            let rows = PrintedRows::new(alloc, items)?;
+            Ok(RowStore::Printed(Box::new(alloc, rows)?))
         }
     }
 
@@ -132,9 +135,9 @@ impl RowStore {
             (map key_of keys.now) rows printed × (text.items ≡ table_text names printed)) }
     {
         match self {
-            RowStore::Printed(rows) => rows.end(),
-            RowStore::Distinct(rows) => rows.end(),
-            RowStore::Ordered(rows) => rows.end(keys),
+            RowStore::Printed(rows) => Box::into_inner(rows).end(),
+            RowStore::Distinct(rows) => Box::into_inner(rows).end(),
+            RowStore::Ordered(rows) => Box::into_inner(rows).end(keys),
             RowStore::FirstValues(_) | RowStore::Existence(_) => unreachable!(),
         }
     }

@@ -5,6 +5,7 @@ pub mod KeyedRows
 pub mod Singles
 pub mod RowKeyed
 pub mod PutBack
+pub mod PlaceKeysWritten
 pub mod Bits
 pub mod KeyRanks
 pub mod SortedPlaces

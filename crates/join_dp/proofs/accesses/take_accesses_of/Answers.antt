@@ -1,5 +1,5 @@
 use Rattle.plan_space.specs.Planned.{space_in}
-use Rattle.std.proofs.Common.{ap, length, subst, sym, None, arith}
+use Rattle.std.proofs.Common.{ap, length, subst, sym, arith}
 use Rattle.std.proofs.Math.Pow.{pow-lt}
 use Rattle.std.proofs.lemmas.List.{length-map}
 use Rattle.plan_space.specs.Item.{Item}
@@ -34,7 +34,7 @@ pub paths-preserved : goal.paths-preserved
 paths-preserved c =
     let folds = rw c.only-tables.ensures at c.fold.ensures.exact in
     let off = access_offer (space_in c.args.space.now) c.args.table (search_of c.args.states.now) (search_of c.paths.states) _ _ (item_of c.in-Some.item) c.fold.result c.requires.table c.in-Some.ensures.steps c.fold.ensures.within folds c.paths.invariant.0 c.in-Some.item.cost.bounded in
-    let off' = subst (λ t. IsOffer (space_in c.args.space.now) 0 (search_of c.paths.states) t c.fold.result (record { step = AccessOf (item_of c.in-Some.item).path; sorted = None; cost = (item_of c.in-Some.item).cost })) (sym c.only-tables.ensures) off in
+    let off' = subst (λ t. IsOffer (space_in c.args.space.now) 0 (search_of c.paths.states) t c.fold.result (record { step = AccessOf (item_of c.in-Some.item).path; cost = (item_of c.in-Some.item).cost })) (sym c.only-tables.ensures) off in
     let here = rw c.only-tables.ensures at c.in_ok-offer.ensures.here in (
       accesses_go (space_in c.args.space.now) c.args.table (search_of c.args.states.now) (search_of c.paths.states) _ _ (item_of c.in-Some.item) c.fold.result c.requires.table c.in-Some.ensures.steps c.fold.ensures.within folds c.paths.invariant.0
           (search_of c.offer.new.self) (c.in_ok-offer.ensures.is_open (space_in c.args.space.now) 0 off') (c.in_ok-offer.ensures.more (space_in c.args.space.now) 0 off') here,

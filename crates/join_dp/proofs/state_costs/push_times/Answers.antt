@@ -1,5 +1,3 @@
-use Rattle.std.proofs.Common.{subst, arith}
-use Rattle.join_dp.specs.Slots.{AreBehind}
 use Rattle.join_dp.proofs.Slots.{none_behind, one_behind}
 use Rattle.join_dp.proofs.state_costs.push_times.Goals as goal
 

@@ -1,5 +1,5 @@
 use Rattle.plan_space.specs.Planned.{space_in}
-use Rattle.std.proofs.Common.{◌∙◌, refl, ap, subst, sym, None, arith}
+use Rattle.std.proofs.Common.{◌∙◌, refl, ap, subst, sym, arith}
 use Rattle.std.proofs.lemmas.Result.{IfOk-weaker}
 use Rattle.definitions.specs.Plans.TableSet.{with_table}
 use Rattle.plan_space.proofs.Deciding.{holds, fails}
@@ -51,7 +51,7 @@ returns-clause-is_open c =
     let folds = rw (c.with-tables.ensures, tables, order) at c.fold.ensures.exact in
     let off = join_offer space s c.args.place c.requires.place c.requires.is_open c.args.added.table (join_of c.args.added.join) c.args.added.cost.number c.fold.result c.plus.result.number c.requires.added goes folds (rw order at c.fold.ensures.within)
     (sum_is _ _ _ _ _ c.plus.ensures cost refl) in
-    let off' = subst (λ t. IsOffer space (at (states_in c.args.states.now) c.args.place).found.cost s t c.fold.result (record { step = JoinOn c.args.place (join_of c.args.added.join); sorted = None; cost = c.plus.result.number })) (sym (c.with-tables.ensures ∙ ap (λ t. with_table t c.args.added.table) tables)) off in
+    let off' = subst (λ t. IsOffer space (at (states_in c.args.states.now) c.args.place).found.cost s t c.fold.result (record { step = JoinOn c.args.place (join_of c.args.added.join); cost = c.plus.result.number })) (sym (c.with-tables.ensures ∙ ap (λ t. with_table t c.args.added.table) tables)) off in
     IfOk-weaker c.offer.result _ (λ r. IsOpen space (at (states_in c.args.states.now) c.args.place).found.cost (search_of c.offer.new.self)) (λ r h. h space (at (states_in c.args.states.now) c.args.place).found.cost off') c.offer.ensures.is_open
 
 pub returns-clause-more : goal.returns-clause-more
@@ -65,7 +65,7 @@ returns-clause-more c =
     let folds = rw (c.with-tables.ensures, tables, order) at c.fold.ensures.exact in
     let off = join_offer space s c.args.place c.requires.place c.requires.is_open c.args.added.table (join_of c.args.added.join) c.args.added.cost.number c.fold.result c.plus.result.number c.requires.added goes folds (rw order at c.fold.ensures.within)
     (sum_is _ _ _ _ _ c.plus.ensures cost refl) in
-    let off' = subst (λ t. IsOffer space (at (states_in c.args.states.now) c.args.place).found.cost s t c.fold.result (record { step = JoinOn c.args.place (join_of c.args.added.join); sorted = None; cost = c.plus.result.number })) (sym (c.with-tables.ensures ∙ ap (λ t. with_table t c.args.added.table) tables)) off in
+    let off' = subst (λ t. IsOffer space (at (states_in c.args.states.now) c.args.place).found.cost s t c.fold.result (record { step = JoinOn c.args.place (join_of c.args.added.join); cost = c.plus.result.number })) (sym (c.with-tables.ensures ∙ ap (λ t. with_table t c.args.added.table) tables)) off in
     IfOk-weaker c.offer.result _ (λ r. AreMore s (search_of c.offer.new.self)) (λ r h. h space (at (states_in c.args.states.now) c.args.place).found.cost off') c.offer.ensures.more
 
 pub returns-clause-low : goal.returns-clause-low

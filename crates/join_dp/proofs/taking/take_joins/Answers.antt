@@ -1,7 +1,6 @@
 use Rattle.plan_space.specs.Planned.{space_in}
-use Rattle.std.proofs.Common.{◌∙◌, ◌<◌, ap, subst, sym, length, arith}
+use Rattle.std.proofs.Common.{◌<◌, subst, sym, length, arith}
 use Rattle.std.proofs.lemmas.List.{length-map}
-use Rattle.plan_tree.specs.Sets.{set_of}
 use Rattle.join_dp.specs.JoinLists.{joins_in}
 use Rattle.join_dp.specs.Joining.{IsAdded}
 use Rattle.join_dp.specs.Searched.{LowByAdded}

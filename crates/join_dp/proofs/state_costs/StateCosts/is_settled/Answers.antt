@@ -1,4 +1,4 @@
-use Rattle.std.proofs.Common.{◌∙◌, ◌≡◌, ◌+◌, ◌<◌, ap, length, None, Some, get_or, arith}
+use Rattle.std.proofs.Common.{◌∙◌, length, None, arith}
 use Rattle.plan_tree.specs.Sets.{set_of}
 use Rattle.join_dp.proofs.Slots.{read_at, place_within}
 use Rattle.join_dp.proofs.state_costs.StateCosts.is_settled.Goals as goal
