@@ -2,3 +2,4 @@ mod KeptLists
 mod Lines
 mod Places
 mod Scripts
+mod Stops

@@ -1,6 +1,7 @@
 -- Scripts, statement by statement; and where one stops, the text has a syntax fault.
 use Rattle.std.proofs.Common.{◌≡◌, ◌∙◌, refl, sym, ap, subst, ℕ, zero, suc, ◌+◌, ◌-◌, ◌<◌, ◌≤◌, length, take, List, [], ◌∷◌, ◌++◌, Option, Some, None, Result, Ok, Err, arith, add-one, append_assoc, append-nil}
 use Rattle.std.specs.Prelude.{slice_get}
+use Rattle.std.specs.Result.{result_and}
 use Rattle.definitions.specs.Limits.{most_levels}
 use Rattle.definitions.specs.Refusal as refusal
 use Rattle.definitions.specs.Token.{TokenKind, Mark, Semicolon}
@@ -16,7 +17,9 @@ use Rattle.syntax_cursor.specs.declared.stop.ParseStop.TheVariants as s
 use Rattle.syntax.specs.declared.fault.SyntaxFault.{SyntaxFault}
 use Rattle.syntax.specs.declared.fault.SyntaxFault.TheVariants as f
 use Rattle.lexer.specs.Meaning.{kinds_of}
-use Rattle.syntax_cursor.specs.Reading.{Place, IsNext, Agree, Nowhere, Stops, Outcome, viewed, opened}
+use Rattle.parse_tree.specs.Trees.{statement_of}
+use Rattle.parse_tree.specs.declared.statement.Statement.{Statement as Tree}
+use Rattle.syntax_cursor.specs.Reading.{Place, Expects, IsNext, Agree, Nowhere, Stops, Outcome, viewed, opened}
 use Rattle.syntax.specs.Reading.{ScriptIn, ParsesScript, ParsesStatement, IsStatement, SkimsScript, IsSyntaxFault, TellsStop, start_or}
 use Rattle.syntax_cursor.specs.Reading as r
 use Rattle.syntax_cursor.proofs.Stopping.{stops_as}
@@ -146,6 +149,11 @@ statement_ended p q t x (r.read y e d) at = record {
   semicolon = subst (λ ts. At ts q.at (Mark Semicolon)) e at.0;
   next = at.1.at;
 }
+
+pub statement_closed : (p q t : Place) (x : Tree) (symbol : Result Unit ParseStop) → p.at < length p.tokens → Outcome (λ m. g.StatementOf (within m)) most_levels most_levels p q (Ok (statement_of x)) → Expects (Mark Semicolon) q t symbol
+    → ParsesStatement p t (viewed statement_of (result_and symbol (Ok x)))
+statement_closed p q t x (Ok done) l out at = statement_ended p q t (statement_of x) out at
+statement_closed p q t x (Err stop) l out at = semicolon_fails p q t (statement_of x) stop l out at
 
 -- and the script behind it
 next_script : (p t : Place) (x : Statement) → p.at < length p.tokens → IsStatement p t x → (o : Result (List Statement) ParseStop) → ParsesScript t o → ParsesScript p (viewed (λ ys. x ∷ ys) o)

@@ -445,8 +445,7 @@ fn parenthesis(cursor: &mut Cursor, start: usize, levels: u8) -> Result<Expr, Pa
         return Ok(Expr::Scalar { start, query });
     }
     let inner = line(cursor, LineKind::Disjunction, levels)?;
-    cursor.expect_symbol(Symbol::CloseParen)?;
-    Ok(inner)
+    cursor.expect_symbol(Symbol::CloseParen).and(Ok(inner))
 }
 
 /// A query block, and the parenthesis that closes it (ISO/IEC 9075:1992, 7.11).

@@ -169,6 +169,5 @@ fn ended_statement(cursor: &mut Cursor) -> Result<Statement, ParseStop>
     ensures placed { IfOk result (λ statement. Stands cursor.old cursor.new (statement_leaves statement)) }
 {
     let statement = statement(cursor, MAX_LEVELS)?;
-    cursor.expect_symbol(Symbol::Semicolon)?;
-    Ok(statement)
+    cursor.expect_symbol(Symbol::Semicolon).and(Ok(statement))
 }

@@ -1,4 +1,4 @@
-use Rattle.std.proofs.Common.{sym, ap, refl, rules, subst, true, false, Result, Ok, ◌≡◌, ◌∙◌}
+use Rattle.std.proofs.Common.{sym, ap, refl, subst, true, false, Result, Ok, ◌≡◌, ◌∙◌}
 use Rattle.definitions.specs.Token.{Mark, CloseParen}
 use Rattle.definitions.specs.Rule.{Past, Gives}
 use Rattle.syntax_cursor.specs.declared.stop.ParseStop.{ParseStop}
@@ -18,7 +18,7 @@ use Rattle.syntax.proofs.Lines.{Lines, is_line, line_begins, line_goes_on, line_
 use Rattle.parse_tree.proofs.Views.{of_column, of_numeral, of_string, of_signed, of_not, of_compare, of_compare_all, of_between, of_in_list, of_in_query, of_exists, of_scalar, of_count_rows, of_function, of_line, of_operand, of_item, of_asterisk, of_items, of_block}
 use Rattle.definitions.specs.Grammar as g
 use Rattle.definitions.proofs.Grammar.{closed_alike, optional_alike, list_alike, name_alike, reference_alike, source_alike, distinct_alike, groups_alike, sum_alike, expr_alike, item_alike, select_list_alike, condition_alike, block_alike, subquery_alike, member_alike, within_alike}
-use Rattle.syntax_cursor.proofs.Outcomes.{gives_as, then_on, flat_on, past_on, sees_on, misses_on, reads_on, reads_not_on, if_on, gives, past_fails, never_fails, then_fails, no_memory, answers, begins}
+use Rattle.syntax_cursor.proofs.Outcomes.{gives_as, then_on, flat_on, past_on, sees_on, misses_on, reads_on, reads_not_on, if_on, gives, past_fails, never_fails, then_fails, no_memory, begins}
 use Rattle.syntax_cursor.specs.Places.{Reserved, Mark, one, if_there}
 use Rattle.syntax_cursor.proofs.Places.{whole, ok_then, ok_goes_on, ok_behind, ok_behind_either, here, on, stays, still, seen_as, no_more, past, past_leaf, leaf_here, says_leaf, says_passed}
 use Rattle.syntax.specs.Places.{all, expr_leaves, block_leaves, item_leaves, operand_leaves, sign_leaf, op_leaf, function_leaf}
@@ -30,6 +30,7 @@ use Rattle.syntax.proofs.Places as leaves
 use Rattle.definitions.specs.Word as words
 use Rattle.syntax.proofs.Lines.{no_operand}
 use Rattle.std.proofs.Common.{append-nil}
+use Rattle.syntax.proofs.Stops.{stops, closes, closed}
 use Rattle.syntax.proofs.+expressions.Goals as goal
 
 different : {b : Bool} → b ≡ true → b ≡ false → ⊥
@@ -52,7 +53,7 @@ unstarred tree.Min at out = begins at.1 out
 unstarred tree.Max at out = begins at.1 out
 
 pub expr::line-returns-in_err-head-clause-reads : goal.expr::line-returns-in_err-head-clause-reads
-expr::line-returns-in_err-head-clause-reads i c = answers _ _ (search rules) (is_line (line_kind c.args.kind) (then_fails c.in_err-head.ensures.reads))
+expr::line-returns-in_err-head-clause-reads i c = stops _ _ c.from_residual.ensures.1 (is_line (line_kind c.args.kind) (then_fails c.in_err-head.ensures.reads))
 
 pub expr::line-operands-init : goal.expr::line-operands-init
 expr::line-operands-init i c = record {
@@ -61,10 +62,10 @@ expr::line-operands-init i c = record {
 }
 
 pub expr::line-returns-in_err-value-clause-reads : goal.expr::line-returns-in_err-value-clause-reads
-expr::line-returns-in_err-value-clause-reads i c = answers _ _ (search rules) (line_fails (line_kind c.args.kind) c.args.levels c.args.levels c.args.cursor.now c.operands.cursor c.take_line_operator.new.self c.operand-in-operands.new.cursor _ _ _ _ c.operands.invariant.reads c.in-Some.ensures c.in_err-value.ensures.reads)
+expr::line-returns-in_err-value-clause-reads i c = stops _ _ c.from_residual-in_err-value.ensures.1 (line_fails (line_kind c.args.kind) c.args.levels c.args.levels c.args.cursor.now c.operands.cursor c.take_line_operator.new.self c.operand-in-operands.new.cursor _ _ _ _ c.operands.invariant.reads c.in-Some.ensures c.in_err-value.ensures.reads)
 
 pub expr::line-returns-in_err-push-clause-reads : goal.expr::line-returns-in_err-push-clause-reads
-expr::line-returns-in_err-push-clause-reads i c = answers _ _ (search rules) (no_memory refl)
+expr::line-returns-in_err-push-clause-reads i c = stops _ _ c.from_residual-in_err-push.ensures.1 (no_memory refl)
 
 pub expr::line-operands-smaller : goal.expr::line-operands-smaller
 expr::line-operands-smaller i c = fewer (line_kind c.args.kind) c.args.levels c.args.levels c.operands.cursor c.take_line_operator.new.self c.operand-in-operands.new.cursor _ _ c.args.levels c.in-Some.ensures c.in_ok-value.ensures.reads
@@ -83,7 +84,7 @@ pub expr::line-returns-then-is_empty-clause-placed : goal.expr::line-returns-the
 expr::line-returns-then-is_empty-clause-placed i c = seen_as (sym (ap (λ xs. expr_leaves c.operands.head-1 ++ all operand_leaves xs) (no_operand c.operands.others _ c.is_empty.ensures c.if-is_empty.true) ∙ append-nil _)) (stays c.operands.invariant.placed c.in_default.ensures.1)
 
 pub expr::line-returns-in_err-first-clause-reads : goal.expr::line-returns-in_err-first-clause-reads
-expr::line-returns-in_err-first-clause-reads i c = answers _ _ (search rules) (no_memory refl)
+expr::line-returns-in_err-first-clause-reads i c = stops _ _ c.from_residual-in_err-first.ensures.1 (no_memory refl)
 
 pub expr::line-returns-clause-reads : goal.expr::line-returns-clause-reads
 expr::line-returns-clause-reads i c = subst (λ z. Outcome (LineAt (line_kind c.args.kind)) c.args.levels c.args.levels c.args.cursor.now c.take_line_operator.new.self (Ok z)) (ap (λ e. g.operator_line (expr_of e) (g.operands (map operand_of c.operands.others.items))) (sym c.in_ok-first.ensures.ok) ∙ several _ c.operands.others _ c.is_empty.ensures c.if-is_empty.false ∙ sym (of_line _ _)) (line_ends (line_kind c.args.kind) c.args.levels c.args.levels c.args.cursor.now c.operands.cursor c.take_line_operator.new.self (expr_of c.operands.head-1) (map operand_of c.operands.others.items) c.operands.invariant.reads c.in_default.ensures)
@@ -112,14 +113,14 @@ expr::negation-returns-then-not-eat_word-clause-placed i c = ok_then _ c.test.en
 
 pub expr::negation-returns-in_err-below-clause-reads : goal.expr::negation-returns-in_err-below-clause-reads
 unfolding g.NegationOf
-expr::negation-returns-in_err-below-clause-reads i c = answers _ _ (search rules) (deep_if (λ us at. nowhere_first us at (nowhere_never us at)) refl c.if-not-eat_word.ensures c.in_err-below.ensures.deep)
+expr::negation-returns-in_err-below-clause-reads i c = stops _ _ c.from_residual.ensures.1 (deep_if (λ us at. nowhere_first us at (nowhere_never us at)) refl c.if-not-eat_word.ensures c.in_err-below.ensures.deep)
 
 pub expr::negation-returns-in_err-operand-clause-reads : goal.expr::negation-returns-in_err-operand-clause-reads
 unfolding g.NegationOf
-expr::negation-returns-in_err-operand-clause-reads i c = answers _ _ (search rules) (opens_if c.in_ok-below.ensures.ok refl c.if-not-eat_word.ensures (then_fails (inside (λ us at. nowhere_never us at) c.in_err-operand.ensures.reads)))
+expr::negation-returns-in_err-operand-clause-reads i c = stops _ _ c.from_residual-in_err-operand.ensures.1 (opens_if c.in_ok-below.ensures.ok refl c.if-not-eat_word.ensures (then_fails (inside (λ us at. nowhere_never us at) c.in_err-operand.ensures.reads)))
 
 pub expr::negation-returns-in_err-operand-2-clause-reads : goal.expr::negation-returns-in_err-operand-2-clause-reads
-expr::negation-returns-in_err-operand-2-clause-reads i c = answers _ _ (search rules) (no_memory refl)
+expr::negation-returns-in_err-operand-2-clause-reads i c = stops _ _ c.from_residual-in_err-operand-2.ensures.1 (no_memory refl)
 
 pub expr::negation-returns-clause-reads : goal.expr::negation-returns-clause-reads
 unfolding g.NegationOf
@@ -130,10 +131,10 @@ expr::negation-returns-clause-placed i c = seen_as (leaves.of_not _ _ ∙ ap (λ
 
 pub expr::test-returns-in_err-value-clause-reads : goal.expr::test-returns-in_err-value-clause-reads
 unfolding g.TestOf
-expr::test-returns-in_err-value-clause-reads i c = answers _ _ (search rules) (then_fails c.in_err-value.ensures.reads)
+expr::test-returns-in_err-value-clause-reads i c = stops _ _ c.from_residual.ensures.1 (then_fails c.in_err-value.ensures.reads)
 
 pub expr::test-returns-in_err-left-clause-reads : goal.expr::test-returns-in_err-left-clause-reads
-expr::test-returns-in_err-left-clause-reads i c = answers _ _ (search rules) (no_memory refl)
+expr::test-returns-in_err-left-clause-reads i c = stops _ _ c.from_residual-in_err-left.ensures.1 (no_memory refl)
 
 pub expr::test-returns-clause-reads : goal.expr::test-returns-clause-reads
 unfolding g.TestOf
@@ -172,10 +173,10 @@ expr::tail-returns-else-eat_word_as-2-clause-placed i c = ok_goes_on _ _ _ c.pre
 
 pub expr::comparison-returns-in_err-right-clause-reads : goal.expr::comparison-returns-in_err-right-clause-reads
 unfolding g.ComparedOf
-expr::comparison-returns-in_err-right-clause-reads i c = answers _ _ (search rules) (reads_not_on c.in_default.ensures (then_fails c.in_err-right.ensures.reads))
+expr::comparison-returns-in_err-right-clause-reads i c = stops _ _ c.from_residual.ensures.1 (reads_not_on c.in_default.ensures (then_fails c.in_err-right.ensures.reads))
 
 pub expr::comparison-returns-in_err-right-2-clause-reads : goal.expr::comparison-returns-in_err-right-2-clause-reads
-expr::comparison-returns-in_err-right-2-clause-reads i c = answers _ _ (search rules) (no_memory refl)
+expr::comparison-returns-in_err-right-2-clause-reads i c = stops _ _ c.from_residual-in_err-right-2.ensures.1 (no_memory refl)
 
 pub expr::comparison-returns-in_default-clause-reads : goal.expr::comparison-returns-in_default-clause-reads
 unfolding g.ComparedOf
@@ -186,15 +187,15 @@ expr::comparison-returns-in_default-clause-placed i c = λ from d. seen_as (leav
 
 pub expr::comparison-returns-in_err-expect_symbol-clause-reads : goal.expr::comparison-returns-in_err-expect_symbol-clause-reads
 unfolding g.ComparedOf
-expr::comparison-returns-in_err-expect_symbol-clause-reads i c = answers _ _ (search rules) (reads_on c.in-Some.ensures (past_fails c.in_err-expect_symbol.ensures))
+expr::comparison-returns-in_err-expect_symbol-clause-reads i c = stops _ _ c.from_residual-in_err-expect_symbol.ensures.1 (reads_on c.in-Some.ensures (past_fails c.in_err-expect_symbol.ensures))
 
 pub expr::comparison-returns-in_err-below-clause-reads : goal.expr::comparison-returns-in_err-below-clause-reads
 unfolding g.ComparedOf
-expr::comparison-returns-in_err-below-clause-reads i c = answers _ _ (search rules) (reads_on c.in-Some.ensures (deep_past (λ us at. nowhere_first us at (nowhere_never us at)) refl c.in_ok-expect_symbol.ensures c.in_err-below.ensures.deep))
+expr::comparison-returns-in_err-below-clause-reads i c = stops _ _ c.from_residual-in_err-below.ensures.1 (reads_on c.in-Some.ensures (deep_past (λ us at. nowhere_first us at (nowhere_never us at)) refl c.in_ok-expect_symbol.ensures c.in_err-below.ensures.deep))
 
 pub expr::comparison-returns-in_err-query-clause-reads : goal.expr::comparison-returns-in_err-query-clause-reads
 unfolding g.ComparedOf
-expr::comparison-returns-in_err-query-clause-reads i c = answers _ _ (search rules) (reads_on c.in-Some.ensures (opens_past c.in_ok-below.ensures.ok refl c.in_ok-expect_symbol.ensures (then_fails (inside (λ us at. nowhere_never us at) c.in_err-query.ensures.reads))))
+expr::comparison-returns-in_err-query-clause-reads i c = stops _ _ c.from_residual-in_err-query.ensures.1 (reads_on c.in-Some.ensures (opens_past c.in_ok-below.ensures.ok refl c.in_ok-expect_symbol.ensures (then_fails (inside (λ us at. nowhere_never us at) c.in_err-query.ensures.reads))))
 
 pub expr::comparison-returns-clause-reads : goal.expr::comparison-returns-clause-reads
 unfolding g.ComparedOf
@@ -219,11 +220,11 @@ expr::predicate-returns-then-eat_predicate-2-clause-placed i c = ok_goes_on _ _ 
 
 pub expr::predicate-returns-in_err-expect_symbol-clause-reads : goal.expr::predicate-returns-in_err-expect_symbol-clause-reads
 unfolding g.PredicateOf
-expr::predicate-returns-in_err-expect_symbol-clause-reads i c = answers _ _ (search rules) (misses_on c.if-eat_predicate.ensures (misses_on c.if-eat_predicate-2.ensures (if_on c.if-eat_predicate-3.ensures (past_fails c.in_err-expect_symbol.ensures))))
+expr::predicate-returns-in_err-expect_symbol-clause-reads i c = stops _ _ c.from_residual.ensures.1 (misses_on c.if-eat_predicate.ensures (misses_on c.if-eat_predicate-2.ensures (if_on c.if-eat_predicate-3.ensures (past_fails c.in_err-expect_symbol.ensures))))
 
 pub expr::predicate-returns-in_err-below-clause-reads : goal.expr::predicate-returns-in_err-below-clause-reads
 unfolding g.PredicateOf
-expr::predicate-returns-in_err-below-clause-reads i c = answers _ _ (search rules) (misses_on c.if-eat_predicate.ensures (misses_on c.if-eat_predicate-2.ensures (if_on c.if-eat_predicate-3.ensures (deep_past (λ us at. nowhere_never us at) refl c.in_ok-expect_symbol.ensures c.in_err-below.ensures.deep))))
+expr::predicate-returns-in_err-below-clause-reads i c = stops _ _ c.from_residual-in_err-below.ensures.1 (misses_on c.if-eat_predicate.ensures (misses_on c.if-eat_predicate-2.ensures (if_on c.if-eat_predicate-3.ensures (deep_past (λ us at. nowhere_never us at) refl c.in_ok-expect_symbol.ensures c.in_err-below.ensures.deep))))
 
 pub expr::predicate-returns-in_ok-below-clause-reads : goal.expr::predicate-returns-in_ok-below-clause-reads
 unfolding g.PredicateOf
@@ -245,21 +246,21 @@ expr::predicate-returns-else-negated-clause-placed i c = λ from d. rw c.into_in
 
 pub expr::between-returns-in_err-low-clause-reads : goal.expr::between-returns-in_err-low-clause-reads
 unfolding g.BetweenOf
-expr::between-returns-in_err-low-clause-reads i c = answers _ _ (search rules) (then_fails c.in_err-low.ensures.reads)
+expr::between-returns-in_err-low-clause-reads i c = stops _ _ c.from_residual.ensures.1 (then_fails c.in_err-low.ensures.reads)
 
 pub expr::between-returns-in_err-expect_word-clause-reads : goal.expr::between-returns-in_err-expect_word-clause-reads
 unfolding g.BetweenOf
-expr::between-returns-in_err-expect_word-clause-reads i c = answers _ _ (search rules) (then_on (λ m. sum_alike (within_alike c.args.levels m)) c.in_ok-low.ensures.reads (past_fails c.in_err-expect_word.ensures))
+expr::between-returns-in_err-expect_word-clause-reads i c = stops _ _ c.from_residual-in_err-expect_word.ensures.1 (then_on (λ m. sum_alike (within_alike c.args.levels m)) c.in_ok-low.ensures.reads (past_fails c.in_err-expect_word.ensures))
 
 pub expr::between-returns-in_err-high-clause-reads : goal.expr::between-returns-in_err-high-clause-reads
 unfolding g.BetweenOf
-expr::between-returns-in_err-high-clause-reads i c = answers _ _ (search rules) (then_on (λ m. sum_alike (within_alike c.args.levels m)) c.in_ok-low.ensures.reads (past_on c.in_ok-expect_word.ensures (then_fails c.in_err-high.ensures.reads)))
+expr::between-returns-in_err-high-clause-reads i c = stops _ _ c.from_residual-in_err-high.ensures.1 (then_on (λ m. sum_alike (within_alike c.args.levels m)) c.in_ok-low.ensures.reads (past_on c.in_ok-expect_word.ensures (then_fails c.in_err-high.ensures.reads)))
 
 pub expr::between-returns-in_err-low-2-clause-reads : goal.expr::between-returns-in_err-low-2-clause-reads
-expr::between-returns-in_err-low-2-clause-reads i c = answers _ _ (search rules) (no_memory refl)
+expr::between-returns-in_err-low-2-clause-reads i c = stops _ _ c.from_residual-in_err-low-2.ensures.1 (no_memory refl)
 
 pub expr::between-returns-in_err-high-2-clause-reads : goal.expr::between-returns-in_err-high-2-clause-reads
-expr::between-returns-in_err-high-2-clause-reads i c = answers _ _ (search rules) (no_memory refl)
+expr::between-returns-in_err-high-2-clause-reads i c = stops _ _ c.from_residual-in_err-high-2.ensures.1 (no_memory refl)
 
 pub expr::between-returns-clause-reads : goal.expr::between-returns-clause-reads
 unfolding g.BetweenOf
@@ -270,7 +271,7 @@ expr::between-returns-clause-placed i c = λ from d. seen_as (leaves.of_between 
 
 pub expr::in_list-returns-in_err-query-clause-reads : goal.expr::in_list-returns-in_err-query-clause-reads
 unfolding g.InListOf
-expr::in_list-returns-in_err-query-clause-reads i c = answers _ _ (search rules) (sees_on (c.sees_word.ensures.stands.0 c.if-sees_word.true) (begins c.sees_word.ensures.same (then_fails c.in_err-query.ensures.reads)))
+expr::in_list-returns-in_err-query-clause-reads i c = stops _ _ c.from_residual.ensures.1 (sees_on (c.sees_word.ensures.stands.0 c.if-sees_word.true) (begins c.sees_word.ensures.same (then_fails c.in_err-query.ensures.reads)))
 
 pub expr::in_list-returns-then-sees_word-clause-reads : goal.expr::in_list-returns-then-sees_word-clause-reads
 unfolding g.InListOf
@@ -281,11 +282,11 @@ expr::in_list-returns-then-sees_word-clause-placed i c = λ from d. seen_as (lea
 
 pub expr::in_list-returns-in_err-members-clause-reads : goal.expr::in_list-returns-in_err-members-clause-reads
 unfolding g.InListOf
-expr::in_list-returns-in_err-members-clause-reads i c = answers _ _ (search rules) (misses_on ((λ h. absurd (different (c.sees_word.ensures.stands.1 h) c.if-sees_word.false)), c.sees_word.ensures.same) (then_fails (then_fails c.in_err-members.ensures.reads)))
+expr::in_list-returns-in_err-members-clause-reads i c = stops _ _ c.from_residual-in_err-members.ensures.1 (misses_on ((λ h. absurd (different (c.sees_word.ensures.stands.1 h) c.if-sees_word.false)), c.sees_word.ensures.same) (then_fails (then_fails c.in_err-members.ensures.reads)))
 
 pub expr::in_list-returns-in_err-expect_symbol-clause-reads : goal.expr::in_list-returns-in_err-expect_symbol-clause-reads
 unfolding g.InListOf
-expr::in_list-returns-in_err-expect_symbol-clause-reads i c = answers _ _ (search rules) (misses_on ((λ h. absurd (different (c.sees_word.ensures.stands.1 h) c.if-sees_word.false)), c.sees_word.ensures.same) (then_fails (then_on (λ m. list_alike most_members (member_alike (within_alike c.args.levels m))) c.in_ok-members.ensures.reads (past_fails c.in_err-expect_symbol.ensures))))
+expr::in_list-returns-in_err-expect_symbol-clause-reads i c = stops _ _ c.from_residual-in_err-expect_symbol.ensures.1 (misses_on ((λ h. absurd (different (c.sees_word.ensures.stands.1 h) c.if-sees_word.false)), c.sees_word.ensures.same) (then_fails (then_on (λ m. list_alike most_members (member_alike (within_alike c.args.levels m))) c.in_ok-members.ensures.reads (past_fails c.in_err-expect_symbol.ensures))))
 
 pub expr::in_list-returns-clause-reads : goal.expr::in_list-returns-clause-reads
 unfolding g.InListOf
@@ -303,7 +304,7 @@ expr::member-returns-then-eat_word-clause-placed i c = past refl here c.if-eat_w
 
 pub expr::member-returns-in_err-value-clause-reads : goal.expr::member-returns-in_err-value-clause-reads
 unfolding g.MemberOf
-expr::member-returns-in_err-value-clause-reads i c = answers _ _ (search rules) (misses_on c.if-eat_word.ensures (then_fails c.in_err-value.ensures.reads))
+expr::member-returns-in_err-value-clause-reads i c = stops _ _ c.from_residual.ensures.1 (misses_on c.if-eat_word.ensures (then_fails c.in_err-value.ensures.reads))
 
 pub expr::member-returns-clause-reads : goal.expr::member-returns-clause-reads
 unfolding g.MemberOf
@@ -313,10 +314,10 @@ pub expr::member-returns-clause-placed : goal.expr::member-returns-clause-placed
 expr::member-returns-clause-placed i c = on (stays here c.if-eat_word.ensures.1) c.in_ok-value.ensures.placed
 
 pub expr::members-returns-in_err-first-clause-reads : goal.expr::members-returns-in_err-first-clause-reads
-expr::members-returns-in_err-first-clause-reads i c = answers _ _ (search rules) (then_fails (then_fails c.in_err-first.ensures.reads))
+expr::members-returns-in_err-first-clause-reads i c = stops _ _ c.from_residual.ensures.1 (then_fails (then_fails c.in_err-first.ensures.reads))
 
 pub expr::members-returns-in_err-push-clause-reads : goal.expr::members-returns-in_err-push-clause-reads
-expr::members-returns-in_err-push-clause-reads i c = answers _ _ (search rules) (no_memory refl)
+expr::members-returns-in_err-push-clause-reads i c = stops _ _ c.from_residual-in_err-push.ensures.1 (no_memory refl)
 
 pub expr::members-members-init : goal.expr::members-members-init
 expr::members-members-init i c = let first = c.in_ok-push.ensures.items ∙ ap (λ ys. ys ++ c.in_ok-first.first ∷ []) c.new-members.ensures.items in
@@ -327,7 +328,7 @@ expr::members-members-init i c = let first = c.in_ok-push.ensures.items ∙ ap (
     }
 
 pub expr::members-returns-in_err-member-clause-reads : goal.expr::members-returns-in_err-member-clause-reads
-expr::members-returns-in_err-member-clause-reads i c = answers _ _ (search rules) (list_fails (λ m. g.MemberOf (within m)) most_members c.args.levels c.args.levels (λ m. member_alike (within_alike c.args.levels m)) c.args.cursor.now c.members.cursor c.eat_symbol.new.self c.member-in-members.new.cursor (map member_of c.members.members.items) _ c.members.invariant.reads c.if-not-eat_symbol.ensures c.in_err-member.ensures.reads)
+expr::members-returns-in_err-member-clause-reads i c = stops _ _ c.from_residual-in_err-member.ensures.1 (list_fails (λ m. g.MemberOf (within m)) most_members c.args.levels c.args.levels (λ m. member_alike (within_alike c.args.levels m)) c.args.cursor.now c.members.cursor c.eat_symbol.new.self c.member-in-members.new.cursor (map member_of c.members.members.items) _ c.members.invariant.reads c.if-not-eat_symbol.ensures c.in_err-member.ensures.reads)
 
 pub expr::members-members-smaller : goal.expr::members-members-smaller
 expr::members-members-smaller i c = lists.fewer (λ m. g.MemberOf (within m)) c.args.levels c.args.levels c.members.cursor c.eat_symbol.new.self c.member-in-members.new.cursor _ _ (member_alike (within_alike c.args.levels c.args.levels)) c.if-not-eat_symbol.ensures c.in_ok-member.ensures.reads
@@ -341,10 +342,10 @@ expr::members-members-preserved i c = record {
 }
 
 pub expr::members-returns-in_err-keep-clause-reads : goal.expr::members-returns-in_err-keep-clause-reads
-expr::members-returns-in_err-keep-clause-reads i c = answers _ _ (search rules) (no_memory c.in_err-keep.ensures.memory)
+expr::members-returns-in_err-keep-clause-reads i c = stops _ _ c.from_residual-in_err-keep.ensures.1 (no_memory c.in_err-keep.ensures.memory)
 
 pub expr::members-returns-in_err-end_list-clause-reads : goal.expr::members-returns-in_err-end_list-clause-reads
-expr::members-returns-in_err-end_list-clause-reads i c = answers _ _ (search rules) (no_memory c.in_err-end_list.ensures.memory)
+expr::members-returns-in_err-end_list-clause-reads i c = stops _ _ c.from_residual-in_err-end_list.ensures.1 (no_memory c.in_err-end_list.ensures.memory)
 
 pub expr::members-returns-clause-reads : goal.expr::members-returns-clause-reads
 expr::members-returns-clause-reads i c = list_ends (λ m. g.MemberOf (within m)) most_members c.args.levels c.args.levels (λ m. member_alike (within_alike c.args.levels m)) c.args.cursor.now c.members.cursor c.eat_symbol.new.self c.end_list.new.self (map member_of c.members.members.items) c.len.result
@@ -354,10 +355,10 @@ pub expr::members-returns-clause-placed : goal.expr::members-returns-clause-plac
 expr::members-returns-clause-placed i c = list_ended most_members c.members.members c.len.result c.len.ensures c.members.invariant.placed c.if-not-eat_symbol.ensures.1 c.in_ok-end_list.ensures.ok
 
 pub query::items-returns-in_err-first-clause-reads : goal.query::items-returns-in_err-first-clause-reads
-query::items-returns-in_err-first-clause-reads i c = answers _ _ (search rules) (then_fails (then_fails c.in_err-first.ensures.reads))
+query::items-returns-in_err-first-clause-reads i c = stops _ _ c.from_residual.ensures.1 (then_fails (then_fails c.in_err-first.ensures.reads))
 
 pub query::items-returns-in_err-push-clause-reads : goal.query::items-returns-in_err-push-clause-reads
-query::items-returns-in_err-push-clause-reads i c = answers _ _ (search rules) (no_memory refl)
+query::items-returns-in_err-push-clause-reads i c = stops _ _ c.from_residual-in_err-push.ensures.1 (no_memory refl)
 
 pub query::items-items-init : goal.query::items-items-init
 query::items-items-init i c = let first = c.in_ok-push.ensures.items ∙ ap (λ ys. ys ++ c.in_ok-first.first ∷ []) c.new-items.ensures.items in
@@ -368,7 +369,7 @@ query::items-items-init i c = let first = c.in_ok-push.ensures.items ∙ ap (λ 
     }
 
 pub query::items-returns-in_err-item-clause-reads : goal.query::items-returns-in_err-item-clause-reads
-query::items-returns-in_err-item-clause-reads i c = answers _ _ (search rules) (list_fails (λ m. g.ItemOf (within m)) most_items c.args.levels c.args.levels (λ m. item_alike (within_alike c.args.levels m)) c.args.cursor.now c.items.cursor c.eat_symbol.new.self c.item-in-items.new.cursor (map item_of c.items.items.items) _ c.items.invariant.reads c.if-not-eat_symbol.ensures c.in_err-item.ensures.reads)
+query::items-returns-in_err-item-clause-reads i c = stops _ _ c.from_residual-in_err-item.ensures.1 (list_fails (λ m. g.ItemOf (within m)) most_items c.args.levels c.args.levels (λ m. item_alike (within_alike c.args.levels m)) c.args.cursor.now c.items.cursor c.eat_symbol.new.self c.item-in-items.new.cursor (map item_of c.items.items.items) _ c.items.invariant.reads c.if-not-eat_symbol.ensures c.in_err-item.ensures.reads)
 
 pub query::items-items-smaller : goal.query::items-items-smaller
 query::items-items-smaller i c = lists.fewer (λ m. g.ItemOf (within m)) c.args.levels c.args.levels c.items.cursor c.eat_symbol.new.self c.item-in-items.new.cursor _ _ (item_alike (within_alike c.args.levels c.args.levels)) c.if-not-eat_symbol.ensures c.in_ok-item.ensures.reads
@@ -382,10 +383,10 @@ query::items-items-preserved i c = record {
 }
 
 pub query::items-returns-in_err-keep-clause-reads : goal.query::items-returns-in_err-keep-clause-reads
-query::items-returns-in_err-keep-clause-reads i c = answers _ _ (search rules) (no_memory c.in_err-keep.ensures.memory)
+query::items-returns-in_err-keep-clause-reads i c = stops _ _ c.from_residual-in_err-keep.ensures.1 (no_memory c.in_err-keep.ensures.memory)
 
 pub query::items-returns-in_err-end_list-clause-reads : goal.query::items-returns-in_err-end_list-clause-reads
-query::items-returns-in_err-end_list-clause-reads i c = answers _ _ (search rules) (no_memory c.in_err-end_list.ensures.memory)
+query::items-returns-in_err-end_list-clause-reads i c = stops _ _ c.from_residual-in_err-end_list.ensures.1 (no_memory c.in_err-end_list.ensures.memory)
 
 pub query::items-returns-clause-reads : goal.query::items-returns-clause-reads
 query::items-returns-clause-reads i c = list_ends (λ m. g.ItemOf (within m)) most_items c.args.levels c.args.levels (λ m. item_alike (within_alike c.args.levels m)) c.args.cursor.now c.items.cursor c.eat_symbol.new.self c.end_list.new.self (map item_of c.items.items.items) c.len.result
@@ -403,14 +404,14 @@ expr::signed_operand-returns-in_default-clause-placed i c = ok_then _ c.primary.
 
 pub expr::signed_operand-returns-in_err-below-clause-reads : goal.expr::signed_operand-returns-in_err-below-clause-reads
 unfolding g.SignOf
-expr::signed_operand-returns-in_err-below-clause-reads i c = let o = sign_opens _ _ c.in-Some.ensures.0 in answers _ _ (search rules) (deep_reads o.0 o.1 (λ us at. nowhere_first us at (nowhere_never us at)) o.2 c.in-Some.ensures c.in_err-below.ensures.deep)
+expr::signed_operand-returns-in_err-below-clause-reads i c = let o = sign_opens _ _ c.in-Some.ensures.0 in stops _ _ c.from_residual.ensures.1 (deep_reads o.0 o.1 (λ us at. nowhere_first us at (nowhere_never us at)) o.2 c.in-Some.ensures c.in_err-below.ensures.deep)
 
 pub expr::signed_operand-returns-in_err-operand-clause-reads : goal.expr::signed_operand-returns-in_err-operand-clause-reads
 unfolding g.SignOf
-expr::signed_operand-returns-in_err-operand-clause-reads i c = let o = sign_opens _ _ c.in-Some.ensures.0 in answers _ _ (search rules) (opens_reads o.0 o.1 c.in_ok-below.ensures.ok o.2 c.in-Some.ensures (then_fails (inside (λ us at. nowhere_never us at) c.in_err-operand.ensures.reads)))
+expr::signed_operand-returns-in_err-operand-clause-reads i c = let o = sign_opens _ _ c.in-Some.ensures.0 in stops _ _ c.from_residual-in_err-operand.ensures.1 (opens_reads o.0 o.1 c.in_ok-below.ensures.ok o.2 c.in-Some.ensures (then_fails (inside (λ us at. nowhere_never us at) c.in_err-operand.ensures.reads)))
 
 pub expr::signed_operand-returns-in_err-operand-2-clause-reads : goal.expr::signed_operand-returns-in_err-operand-2-clause-reads
-expr::signed_operand-returns-in_err-operand-2-clause-reads i c = answers _ _ (search rules) (no_memory refl)
+expr::signed_operand-returns-in_err-operand-2-clause-reads i c = stops _ _ c.from_residual-in_err-operand-2.ensures.1 (no_memory refl)
 
 pub expr::signed_operand-returns-clause-reads : goal.expr::signed_operand-returns-clause-reads
 unfolding g.SignOf
@@ -428,7 +429,7 @@ expr::primary-returns-in-Some-clause-placed i c = seen_as (leaves.of_numeral _) 
 
 pub expr::primary-returns-in_err-string-clause-reads : goal.expr::primary-returns-in_err-string-clause-reads
 unfolding g.PrimaryOf
-expr::primary-returns-in_err-string-clause-reads i c = answers _ _ (search rules) (no_memory c.in_err-string.ensures.memory)
+expr::primary-returns-in_err-string-clause-reads i c = stops _ _ c.from_residual.ensures.1 (no_memory c.in_err-string.ensures.memory)
 
 pub expr::primary-returns-in-Some-2-clause-reads : goal.expr::primary-returns-in-Some-2-clause-reads
 unfolding g.PrimaryOf
@@ -439,11 +440,11 @@ expr::primary-returns-in-Some-2-clause-placed i c = seen_as (leaves.of_string _)
 
 pub expr::primary-returns-in_err-expect_symbol-clause-reads : goal.expr::primary-returns-in_err-expect_symbol-clause-reads
 unfolding g.PrimaryOf
-expr::primary-returns-in_err-expect_symbol-clause-reads i c = answers _ _ (search rules) (reads_not_on c.in_default.ensures.taken (reads_not_on (rw c.in_default-2.is at c.in_ok-string.ensures.ok) (reads_on c.in-Some-take_set_function.ensures (past_fails c.in_err-expect_symbol.ensures))))
+expr::primary-returns-in_err-expect_symbol-clause-reads i c = stops _ _ c.from_residual-in_err-expect_symbol.ensures.1 (reads_not_on c.in_default.ensures.taken (reads_not_on (rw c.in_default-2.is at c.in_ok-string.ensures.ok) (reads_on c.in-Some-take_set_function.ensures (past_fails c.in_err-expect_symbol.ensures))))
 
 pub expr::primary-returns-in_err-below-clause-reads : goal.expr::primary-returns-in_err-below-clause-reads
 unfolding g.PrimaryOf
-expr::primary-returns-in_err-below-clause-reads i c = answers _ _ (search rules) (reads_not_on c.in_default.ensures.taken (reads_not_on (rw c.in_default-2.is at c.in_ok-string.ensures.ok) (reads_on c.in-Some-take_set_function.ensures (deep_past (λ us at. nowhere_never us at) refl c.in_ok-expect_symbol.ensures c.in_err-below.ensures.deep))))
+expr::primary-returns-in_err-below-clause-reads i c = stops _ _ c.from_residual-in_err-below.ensures.1 (reads_not_on c.in_default.ensures.taken (reads_not_on (rw c.in_default-2.is at c.in_ok-string.ensures.ok) (reads_on c.in-Some-take_set_function.ensures (deep_past (λ us at. nowhere_never us at) refl c.in_ok-expect_symbol.ensures c.in_err-below.ensures.deep))))
 
 pub expr::primary-returns-in_ok-below-clause-reads : goal.expr::primary-returns-in_ok-below-clause-reads
 unfolding g.PrimaryOf
@@ -461,15 +462,15 @@ expr::primary-returns-in_default-take_set_function-clause-placed i c = let e = (
 
 pub expr::other_primary-returns-in_err-expect_symbol-clause-reads : goal.expr::other_primary-returns-in_err-expect_symbol-clause-reads
 unfolding g.OtherPrimaryOf
-expr::other_primary-returns-in_err-expect_symbol-clause-reads i c = answers _ _ (search rules) (if_on c.if-eat_word_as.ensures (past_fails c.in_err-expect_symbol.ensures))
+expr::other_primary-returns-in_err-expect_symbol-clause-reads i c = stops _ _ c.from_residual.ensures.1 (if_on c.if-eat_word_as.ensures (past_fails c.in_err-expect_symbol.ensures))
 
 pub expr::other_primary-returns-in_err-below-clause-reads : goal.expr::other_primary-returns-in_err-below-clause-reads
 unfolding g.OtherPrimaryOf
-expr::other_primary-returns-in_err-below-clause-reads i c = answers _ _ (search rules) (if_on c.if-eat_word_as.ensures (deep_past (λ us at. nowhere_first us at (nowhere_never us at)) refl c.in_ok-expect_symbol.ensures c.in_err-below.ensures.deep))
+expr::other_primary-returns-in_err-below-clause-reads i c = stops _ _ c.from_residual-in_err-below.ensures.1 (if_on c.if-eat_word_as.ensures (deep_past (λ us at. nowhere_first us at (nowhere_never us at)) refl c.in_ok-expect_symbol.ensures c.in_err-below.ensures.deep))
 
 pub expr::other_primary-returns-in_err-query-clause-reads : goal.expr::other_primary-returns-in_err-query-clause-reads
 unfolding g.OtherPrimaryOf
-expr::other_primary-returns-in_err-query-clause-reads i c = answers _ _ (search rules) (if_on c.if-eat_word_as.ensures (opens_past c.in_ok-below.ensures.ok refl c.in_ok-expect_symbol.ensures (then_fails (inside (λ us at. nowhere_never us at) c.in_err-query.ensures.reads))))
+expr::other_primary-returns-in_err-query-clause-reads i c = stops _ _ c.from_residual-in_err-query.ensures.1 (if_on c.if-eat_word_as.ensures (opens_past c.in_ok-below.ensures.ok refl c.in_ok-expect_symbol.ensures (then_fails (inside (λ us at. nowhere_never us at) c.in_err-query.ensures.reads))))
 
 pub expr::other_primary-returns-in_ok-query-clause-reads : goal.expr::other_primary-returns-in_ok-query-clause-reads
 unfolding g.OtherPrimaryOf
@@ -480,7 +481,7 @@ expr::other_primary-returns-in_ok-query-clause-placed i c = seen_as (leaves.of_e
 
 pub expr::other_primary-returns-in_err-below-2-clause-reads : goal.expr::other_primary-returns-in_err-below-2-clause-reads
 unfolding g.OtherPrimaryOf
-expr::other_primary-returns-in_err-below-2-clause-reads i c = answers _ _ (search rules) (misses_on c.if-eat_word_as.ensures (deep_if (λ us at. nowhere_never us at) refl c.if-eat_symbol_as.ensures c.in_err-below-2.ensures.deep))
+expr::other_primary-returns-in_err-below-2-clause-reads i c = stops _ _ c.from_residual-in_err-below-2.ensures.1 (misses_on c.if-eat_word_as.ensures (deep_if (λ us at. nowhere_never us at) refl c.if-eat_symbol_as.ensures c.in_err-below-2.ensures.deep))
 
 pub expr::other_primary-returns-in_ok-below-2-clause-reads : goal.expr::other_primary-returns-in_ok-below-2-clause-reads
 unfolding g.OtherPrimaryOf
@@ -491,7 +492,7 @@ expr::other_primary-returns-in_ok-below-2-clause-placed i c = ok_behind_either _
 
 pub expr::other_primary-returns-in_err-column-clause-reads : goal.expr::other_primary-returns-in_err-column-clause-reads
 unfolding g.OtherPrimaryOf
-expr::other_primary-returns-in_err-column-clause-reads i c = answers _ _ (search rules) (misses_on c.if-eat_word_as.ensures (misses_on c.if-eat_symbol_as.ensures (then_fails (c.in_err-column.ensures.reads _ _))))
+expr::other_primary-returns-in_err-column-clause-reads i c = stops _ _ c.from_residual-in_err-column.ensures.1 (misses_on c.if-eat_word_as.ensures (misses_on c.if-eat_symbol_as.ensures (then_fails (c.in_err-column.ensures.reads _ _))))
 
 pub expr::other_primary-returns-in_ok-column-clause-reads : goal.expr::other_primary-returns-in_ok-column-clause-reads
 unfolding g.OtherPrimaryOf
@@ -502,7 +503,7 @@ expr::other_primary-returns-in_ok-column-clause-placed i c = seen_as (leaves.of_
 
 pub expr::parenthesis-returns-in_err-query-clause-reads : goal.expr::parenthesis-returns-in_err-query-clause-reads
 unfolding g.ParenthesisOf
-expr::parenthesis-returns-in_err-query-clause-reads i c = answers _ _ (search rules) (sees_on (c.sees_word.ensures.stands.0 c.if-sees_word.true) (begins c.sees_word.ensures.same (then_fails c.in_err-query.ensures.reads)))
+expr::parenthesis-returns-in_err-query-clause-reads i c = stops _ _ c.from_residual.ensures.1 (sees_on (c.sees_word.ensures.stands.0 c.if-sees_word.true) (begins c.sees_word.ensures.same (then_fails c.in_err-query.ensures.reads)))
 
 pub expr::parenthesis-returns-then-sees_word-clause-reads : goal.expr::parenthesis-returns-then-sees_word-clause-reads
 unfolding g.ParenthesisOf
@@ -513,29 +514,25 @@ expr::parenthesis-returns-then-sees_word-clause-placed i c = λ from d f. seen_a
 
 pub expr::parenthesis-returns-in_err-inner-clause-reads : goal.expr::parenthesis-returns-in_err-inner-clause-reads
 unfolding g.ParenthesisOf
-expr::parenthesis-returns-in_err-inner-clause-reads i c = answers _ _ (search rules) (misses_on ((λ h. absurd (different (c.sees_word.ensures.stands.1 h) c.if-sees_word.false)), c.sees_word.ensures.same) (then_fails c.in_err-inner.ensures.reads))
-
-pub expr::parenthesis-returns-in_err-expect_symbol-clause-reads : goal.expr::parenthesis-returns-in_err-expect_symbol-clause-reads
-unfolding g.ParenthesisOf
-expr::parenthesis-returns-in_err-expect_symbol-clause-reads i c = answers _ _ (search rules) (misses_on ((λ h. absurd (different (c.sees_word.ensures.stands.1 h) c.if-sees_word.false)), c.sees_word.ensures.same) (then_on (λ m. expr_alike (within_alike c.args.levels m)) c.in_ok-inner.ensures.reads (past_fails c.in_err-expect_symbol.ensures)))
+expr::parenthesis-returns-in_err-inner-clause-reads i c = stops _ _ c.from_residual-in_err-inner.ensures.1 (misses_on ((λ h. absurd (different (c.sees_word.ensures.stands.1 h) c.if-sees_word.false)), c.sees_word.ensures.same) (then_fails c.in_err-inner.ensures.reads))
 
 pub expr::parenthesis-returns-clause-reads : goal.expr::parenthesis-returns-clause-reads
 unfolding g.ParenthesisOf
-expr::parenthesis-returns-clause-reads i c = misses_on ((λ h. absurd (different (c.sees_word.ensures.stands.1 h) c.if-sees_word.false)), c.sees_word.ensures.same) (then_on (λ m. expr_alike (within_alike c.args.levels m)) c.in_ok-inner.ensures.reads (past_on c.in_ok-expect_symbol.ensures gives))
+expr::parenthesis-returns-clause-reads i c = rw c.and.ensures (misses_on ((λ h. absurd (different (c.sees_word.ensures.stands.1 h) c.if-sees_word.false)), c.sees_word.ensures.same) (then_on (λ m. expr_alike (within_alike c.args.levels m)) c.in_ok-inner.ensures.reads (closes _ _ _ c.expect_symbol.ensures)))
 
 pub expr::parenthesis-returns-clause-placed : goal.expr::parenthesis-returns-clause-placed
-expr::parenthesis-returns-clause-placed i c = λ from d f. past refl (on (stays d c.sees_word.ensures.same) c.in_ok-inner.ensures.placed) c.in_ok-expect_symbol.ensures
+expr::parenthesis-returns-clause-placed i c = rw c.and.ensures (closed _ _ _ c.expect_symbol.ensures (λ at from d f. past refl (on (stays d c.sees_word.ensures.same) c.in_ok-inner.ensures.placed) at))
 
 pub expr::subquery-returns-in_err-query-clause-reads : goal.expr::subquery-returns-in_err-query-clause-reads
 unfolding g.SubqueryOf
-expr::subquery-returns-in_err-query-clause-reads i c = answers _ _ (search rules) (then_fails c.in_err-query.ensures.reads)
+expr::subquery-returns-in_err-query-clause-reads i c = stops _ _ c.from_residual.ensures.1 (then_fails c.in_err-query.ensures.reads)
 
 pub expr::subquery-returns-in_err-expect_symbol-clause-reads : goal.expr::subquery-returns-in_err-expect_symbol-clause-reads
 unfolding g.SubqueryOf
-expr::subquery-returns-in_err-expect_symbol-clause-reads i c = answers _ _ (search rules) (then_on (λ m. block_alike (within_alike c.args.levels m)) c.in_ok-query.ensures.reads (past_fails c.in_err-expect_symbol.ensures))
+expr::subquery-returns-in_err-expect_symbol-clause-reads i c = stops _ _ c.from_residual-in_err-expect_symbol.ensures.1 (then_on (λ m. block_alike (within_alike c.args.levels m)) c.in_ok-query.ensures.reads (past_fails c.in_err-expect_symbol.ensures))
 
 pub expr::subquery-returns-in_err-query-2-clause-reads : goal.expr::subquery-returns-in_err-query-2-clause-reads
-expr::subquery-returns-in_err-query-2-clause-reads i c = answers _ _ (search rules) (no_memory refl)
+expr::subquery-returns-in_err-query-2-clause-reads i c = stops _ _ c.from_residual-in_err-query-2.ensures.1 (no_memory refl)
 
 pub expr::subquery-returns-clause-reads : goal.expr::subquery-returns-clause-reads
 unfolding g.SubqueryOf
@@ -546,7 +543,7 @@ expr::subquery-returns-clause-placed i c = seen_as (ap block_leaves c.in_ok-quer
 
 pub expr::argument-returns-in_err-expect_symbol-clause-reads : goal.expr::argument-returns-in_err-expect_symbol-clause-reads
 unfolding g.ArgumentOf
-expr::argument-returns-in_err-expect_symbol-clause-reads i c = answers _ _ (search rules) (starred _ c.if-eat_asterisk.ensures (past_fails c.in_err-expect_symbol.ensures))
+expr::argument-returns-in_err-expect_symbol-clause-reads i c = stops _ _ c.from_residual.ensures.1 (starred _ c.if-eat_asterisk.ensures (past_fails c.in_err-expect_symbol.ensures))
 
 pub expr::argument-returns-then-eat_asterisk-clause-reads : goal.expr::argument-returns-then-eat_asterisk-clause-reads
 unfolding g.ArgumentOf
@@ -557,11 +554,11 @@ expr::argument-returns-then-eat_asterisk-clause-placed i c = λ from d. seen_as 
 
 pub expr::argument-returns-in_err-argument-clause-reads : goal.expr::argument-returns-in_err-argument-clause-reads
 unfolding g.ArgumentOf
-expr::argument-returns-in_err-argument-clause-reads i c = answers _ _ (search rules) (unstarred _ c.if-eat_asterisk.ensures (flat_on distinct_alike c.distinct-distinct.ensures.reads (then_fails (then_fails c.in_err-argument.ensures.reads))))
+expr::argument-returns-in_err-argument-clause-reads i c = stops _ _ c.from_residual-in_err-argument.ensures.1 (unstarred _ c.if-eat_asterisk.ensures (flat_on distinct_alike c.distinct-distinct.ensures.reads (then_fails (then_fails c.in_err-argument.ensures.reads))))
 
 pub expr::argument-returns-in_err-expect_symbol-2-clause-reads : goal.expr::argument-returns-in_err-expect_symbol-2-clause-reads
 unfolding g.ArgumentOf
-expr::argument-returns-in_err-expect_symbol-2-clause-reads i c = answers _ _ (search rules) (unstarred _ c.if-eat_asterisk.ensures (flat_on distinct_alike c.distinct-distinct.ensures.reads (then_fails (then_on (λ m. expr_alike (within_alike c.args.levels m)) c.in_ok-argument.ensures.reads (past_fails c.in_err-expect_symbol-2.ensures)))))
+expr::argument-returns-in_err-expect_symbol-2-clause-reads i c = stops _ _ c.from_residual-in_err-expect_symbol-2.ensures.1 (unstarred _ c.if-eat_asterisk.ensures (flat_on distinct_alike c.distinct-distinct.ensures.reads (then_fails (then_on (λ m. expr_alike (within_alike c.args.levels m)) c.in_ok-argument.ensures.reads (past_fails c.in_err-expect_symbol-2.ensures)))))
 
 pub expr::argument-returns-clause-reads : goal.expr::argument-returns-clause-reads
 unfolding g.ArgumentOf
@@ -571,35 +568,35 @@ pub expr::argument-returns-clause-placed : goal.expr::argument-returns-clause-pl
 expr::argument-returns-clause-placed i c = λ from d. seen_as (leaves.of_function _ _ _ _ ∙ ap (λ z. one (function_leaf (function_of c.args.function)) c.args.start ++ expr_leaves z) c.in_ok-argument-2.ensures.ok) (past refl (on (no_more (leaves.asterisk_past _ _ d c.if-eat_asterisk.ensures) c.distinct-distinct.ensures.placed) c.in_ok-argument.ensures.placed) c.in_ok-expect_symbol-2.ensures)
 
 pub expr::argument-returns-in_err-argument-2-clause-reads : goal.expr::argument-returns-in_err-argument-2-clause-reads
-expr::argument-returns-in_err-argument-2-clause-reads i c = answers _ _ (search rules) (no_memory refl)
+expr::argument-returns-in_err-argument-2-clause-reads i c = stops _ _ c.from_residual-in_err-argument-2.ensures.1 (no_memory refl)
 
 pub query::block-returns-in_err-expect_word-clause-reads : goal.query::block-returns-in_err-expect_word-clause-reads
 unfolding g.BlockOf
-query::block-returns-in_err-expect_word-clause-reads i c = answers _ _ (search rules) (past_fails c.in_err-expect_word.ensures)
+query::block-returns-in_err-expect_word-clause-reads i c = stops _ _ c.from_residual.ensures.1 (past_fails c.in_err-expect_word.ensures)
 
 pub query::block-returns-in_err-list-clause-reads : goal.query::block-returns-in_err-list-clause-reads
 unfolding g.BlockOf
-query::block-returns-in_err-list-clause-reads i c = answers _ _ (search rules) (past_on c.in_ok-expect_word.ensures (flat_on distinct_alike c.distinct-distinct.ensures.reads (then_fails c.in_err-list.ensures.reads)))
+query::block-returns-in_err-list-clause-reads i c = stops _ _ c.from_residual-in_err-list.ensures.1 (past_on c.in_ok-expect_word.ensures (flat_on distinct_alike c.distinct-distinct.ensures.reads (then_fails c.in_err-list.ensures.reads)))
 
 pub query::block-returns-in_err-expect_word-2-clause-reads : goal.query::block-returns-in_err-expect_word-2-clause-reads
 unfolding g.BlockOf
-query::block-returns-in_err-expect_word-2-clause-reads i c = answers _ _ (search rules) (past_on c.in_ok-expect_word.ensures (flat_on distinct_alike c.distinct-distinct.ensures.reads (then_on (λ m. select_list_alike (within_alike c.args.levels m)) c.in_ok-list.ensures.reads (past_fails c.in_err-expect_word-2.ensures))))
+query::block-returns-in_err-expect_word-2-clause-reads i c = stops _ _ c.from_residual-in_err-expect_word-2.ensures.1 (past_on c.in_ok-expect_word.ensures (flat_on distinct_alike c.distinct-distinct.ensures.reads (then_on (λ m. select_list_alike (within_alike c.args.levels m)) c.in_ok-list.ensures.reads (past_fails c.in_err-expect_word-2.ensures))))
 
 pub query::block-returns-in_err-tables-clause-reads : goal.query::block-returns-in_err-tables-clause-reads
 unfolding g.BlockOf
-query::block-returns-in_err-tables-clause-reads i c = answers _ _ (search rules) (past_on c.in_ok-expect_word.ensures (flat_on distinct_alike c.distinct-distinct.ensures.reads (then_on (λ m. select_list_alike (within_alike c.args.levels m)) c.in_ok-list.ensures.reads (past_on c.in_ok-expect_word-2.ensures (then_fails (c.in_err-tables.ensures.reads _ _))))))
+query::block-returns-in_err-tables-clause-reads i c = stops _ _ c.from_residual-in_err-tables.ensures.1 (past_on c.in_ok-expect_word.ensures (flat_on distinct_alike c.distinct-distinct.ensures.reads (then_on (λ m. select_list_alike (within_alike c.args.levels m)) c.in_ok-list.ensures.reads (past_on c.in_ok-expect_word-2.ensures (then_fails (c.in_err-tables.ensures.reads _ _))))))
 
 pub query::block-returns-in_err-condition-clause-reads : goal.query::block-returns-in_err-condition-clause-reads
 unfolding g.BlockOf
-query::block-returns-in_err-condition-clause-reads i c = answers _ _ (search rules) (past_on c.in_ok-expect_word.ensures (flat_on distinct_alike c.distinct-distinct.ensures.reads (then_on (λ m. select_list_alike (within_alike c.args.levels m)) c.in_ok-list.ensures.reads (past_on c.in_ok-expect_word-2.ensures (flat_on (list_alike most_from_tables source_alike) c.in_ok-tables.ensures.reads (then_fails c.in_err-condition.ensures.reads))))))
+query::block-returns-in_err-condition-clause-reads i c = stops _ _ c.from_residual-in_err-condition.ensures.1 (past_on c.in_ok-expect_word.ensures (flat_on distinct_alike c.distinct-distinct.ensures.reads (then_on (λ m. select_list_alike (within_alike c.args.levels m)) c.in_ok-list.ensures.reads (past_on c.in_ok-expect_word-2.ensures (flat_on (list_alike most_from_tables source_alike) c.in_ok-tables.ensures.reads (then_fails c.in_err-condition.ensures.reads))))))
 
 pub query::block-returns-in_err-groups-clause-reads : goal.query::block-returns-in_err-groups-clause-reads
 unfolding g.BlockOf
-query::block-returns-in_err-groups-clause-reads i c = answers _ _ (search rules) (past_on c.in_ok-expect_word.ensures (flat_on distinct_alike c.distinct-distinct.ensures.reads (then_on (λ m. select_list_alike (within_alike c.args.levels m)) c.in_ok-list.ensures.reads (past_on c.in_ok-expect_word-2.ensures (flat_on (list_alike most_from_tables source_alike) c.in_ok-tables.ensures.reads (then_on (λ m. condition_alike (within_alike c.args.levels m) _) c.in_ok-condition.ensures.reads (then_fails (c.in_err-groups.ensures.reads _ _))))))))
+query::block-returns-in_err-groups-clause-reads i c = stops _ _ c.from_residual-in_err-groups.ensures.1 (past_on c.in_ok-expect_word.ensures (flat_on distinct_alike c.distinct-distinct.ensures.reads (then_on (λ m. select_list_alike (within_alike c.args.levels m)) c.in_ok-list.ensures.reads (past_on c.in_ok-expect_word-2.ensures (flat_on (list_alike most_from_tables source_alike) c.in_ok-tables.ensures.reads (then_on (λ m. condition_alike (within_alike c.args.levels m) _) c.in_ok-condition.ensures.reads (then_fails (c.in_err-groups.ensures.reads _ _))))))))
 
 pub query::block-returns-in_err-having-clause-reads : goal.query::block-returns-in_err-having-clause-reads
 unfolding g.BlockOf
-query::block-returns-in_err-having-clause-reads i c = answers _ _ (search rules) (past_on c.in_ok-expect_word.ensures (flat_on distinct_alike c.distinct-distinct.ensures.reads (then_on (λ m. select_list_alike (within_alike c.args.levels m)) c.in_ok-list.ensures.reads (past_on c.in_ok-expect_word-2.ensures (flat_on (list_alike most_from_tables source_alike) c.in_ok-tables.ensures.reads (then_on (λ m. condition_alike (within_alike c.args.levels m) _) c.in_ok-condition.ensures.reads (flat_on groups_alike c.in_ok-groups.ensures.reads (then_fails c.in_err-having.ensures.reads))))))))
+query::block-returns-in_err-having-clause-reads i c = stops _ _ c.from_residual-in_err-having.ensures.1 (past_on c.in_ok-expect_word.ensures (flat_on distinct_alike c.distinct-distinct.ensures.reads (then_on (λ m. select_list_alike (within_alike c.args.levels m)) c.in_ok-list.ensures.reads (past_on c.in_ok-expect_word-2.ensures (flat_on (list_alike most_from_tables source_alike) c.in_ok-tables.ensures.reads (then_on (λ m. condition_alike (within_alike c.args.levels m) _) c.in_ok-condition.ensures.reads (flat_on groups_alike c.in_ok-groups.ensures.reads (then_fails c.in_err-having.ensures.reads))))))))
 
 pub query::block-returns-clause-reads : goal.query::block-returns-clause-reads
 unfolding g.BlockOf
@@ -617,7 +614,7 @@ query::select_list-returns-then-eat_symbol-clause-placed i c = seen_as (leaves.o
 
 pub query::select_list-returns-in_err-items-clause-reads : goal.query::select_list-returns-in_err-items-clause-reads
 unfolding g.SelectListOf
-query::select_list-returns-in_err-items-clause-reads i c = answers _ _ (search rules) (misses_on c.if-eat_symbol.ensures (then_fails c.in_err-items.ensures.reads))
+query::select_list-returns-in_err-items-clause-reads i c = stops _ _ c.from_residual.ensures.1 (misses_on c.if-eat_symbol.ensures (then_fails c.in_err-items.ensures.reads))
 
 pub query::select_list-returns-clause-reads : goal.query::select_list-returns-clause-reads
 unfolding g.SelectListOf
@@ -628,11 +625,11 @@ query::select_list-returns-clause-placed i c = seen_as (leaves.of_items _) (on (
 
 pub query::item-returns-in_err-value-clause-reads : goal.query::item-returns-in_err-value-clause-reads
 unfolding g.ItemOf
-query::item-returns-in_err-value-clause-reads i c = answers _ _ (search rules) (then_fails c.in_err-value.ensures.reads)
+query::item-returns-in_err-value-clause-reads i c = stops _ _ c.from_residual.ensures.1 (then_fails c.in_err-value.ensures.reads)
 
 pub query::item-returns-in_err-alias-clause-reads : goal.query::item-returns-in_err-alias-clause-reads
 unfolding g.ItemOf
-query::item-returns-in_err-alias-clause-reads i c = answers _ _ (search rules) (then_on (λ m. expr_alike (within_alike c.args.levels m)) c.in_ok-value.ensures.reads (then_fails (c.in_err-alias.ensures.reads _ _)))
+query::item-returns-in_err-alias-clause-reads i c = stops _ _ c.from_residual-in_err-alias.ensures.1 (then_on (λ m. expr_alike (within_alike c.args.levels m)) c.in_ok-value.ensures.reads (then_fails (c.in_err-alias.ensures.reads _ _)))
 
 pub query::item-returns-clause-reads : goal.query::item-returns-clause-reads
 unfolding g.ItemOf
@@ -650,7 +647,7 @@ query::condition_behind-returns-then-not-eat_word-clause-placed i c = λ h. stay
 
 pub query::condition_behind-returns-in_err-condition-clause-reads : goal.query::condition_behind-returns-in_err-condition-clause-reads
 unfolding g.ConditionOf
-query::condition_behind-returns-in_err-condition-clause-reads i c = answers _ _ (search rules) (if_on c.if-not-eat_word.ensures (then_fails c.in_err-condition.ensures.reads))
+query::condition_behind-returns-in_err-condition-clause-reads i c = stops _ _ c.from_residual.ensures.1 (if_on c.if-not-eat_word.ensures (then_fails c.in_err-condition.ensures.reads))
 
 pub query::condition_behind-returns-clause-reads : goal.query::condition_behind-returns-clause-reads
 unfolding g.ConditionOf

@@ -1,19 +1,20 @@
-use Rattle.std.proofs.Common.{◌∙◌, refl, sym, ap, subst, rules, length, arith, map, [], ◌∷◌, ◌++◌}
+use Rattle.std.proofs.Common.{◌∙◌, refl, sym, ap, subst, length, arith, map, [], ◌∷◌, ◌++◌}
 use Rattle.std.proofs.lemmas.List.{length-map}
-use Rattle.syntax_cursor.proofs.Outcomes.{then_fails, no_memory, answers}
+use Rattle.syntax_cursor.proofs.Outcomes.{then_fails, no_memory}
 use Rattle.syntax_cursor.proofs.Lists.{Lists, list_begins, list_fails, list_ends, fewer}
 use Rattle.syntax_cursor.proofs.Places.{whole, seen_as}
 use Rattle.parse_tree.specs.Lists.{most_of}
 use Rattle.syntax.specs.Places.{all}
 use Rattle.syntax.proofs.Places.{all_push}
 use Rattle.syntax.proofs.KeptLists.{few_kept, some_kept, list_read_on, kept_on, list_ended}
+use Rattle.syntax.proofs.Stops.{stops}
 use Rattle.syntax.proofs.element.comma_list.Goals as goal
 
 pub returns-in_err-first-clause-reads : goal.returns-in_err-first-clause-reads
-returns-in_err-first-clause-reads g c l k = answers _ _ (search rules) (then_fails (then_fails (c.in_err-first.ensures.reads l k)))
+returns-in_err-first-clause-reads g c l k = stops _ _ c.from_residual.ensures.1 (then_fails (then_fails (c.in_err-first.ensures.reads l k)))
 
 pub returns-in_err-push-clause-reads : goal.returns-in_err-push-clause-reads
-returns-in_err-push-clause-reads g c l k = answers _ _ (search rules) (no_memory refl)
+returns-in_err-push-clause-reads g c l k = stops _ _ c.from_residual-in_err-push.ensures.1 (no_memory refl)
 
 pub elements-init : goal.elements-init
 elements-init g c = let first = c.in_ok-push.ensures.items ∙ ap (λ ys. ys ++ c.in_ok-first.first ∷ []) c.new-elements.ensures.items in
@@ -26,7 +27,7 @@ elements-init g c = let first = c.in_ok-push.ensures.items ∙ ap (λ ys. ys ++ 
     }
 
 pub returns-in_err-element-clause-reads : goal.returns-in_err-element-clause-reads
-returns-in_err-element-clause-reads g c l k = answers _ _ (search rules) (list_fails (λ m. g.T.Element.rule) (most_of c.args.place.kind) l k (λ m. g.T.Element.reads_one_way) c.args.cursor.now c.elements.cursor c.eat_symbol.new.self c.read-in-elements.new.cursor (map g.T.Element.tree_of c.elements.elements.items) _ (c.elements.invariant.reads l k) c.if-not-eat_symbol.ensures (c.in_err-element.ensures.reads l k))
+returns-in_err-element-clause-reads g c l k = stops _ _ c.from_residual-in_err-element.ensures.1 (list_fails (λ m. g.T.Element.rule) (most_of c.args.place.kind) l k (λ m. g.T.Element.reads_one_way) c.args.cursor.now c.elements.cursor c.eat_symbol.new.self c.read-in-elements.new.cursor (map g.T.Element.tree_of c.elements.elements.items) _ (c.elements.invariant.reads l k) c.if-not-eat_symbol.ensures (c.in_err-element.ensures.reads l k))
 
 pub elements-smaller : goal.elements-smaller
 elements-smaller g c = fewer (λ m. g.T.Element.rule) 0 0 c.elements.cursor c.eat_symbol.new.self c.read-in-elements.new.cursor _ _ g.T.Element.reads_one_way c.if-not-eat_symbol.ensures (c.in_ok-element.ensures.reads 0 0)
@@ -41,10 +42,10 @@ elements-preserved g c = record {
 }
 
 pub returns-in_err-keep-clause-reads : goal.returns-in_err-keep-clause-reads
-returns-in_err-keep-clause-reads g c l k = answers _ _ (search rules) (no_memory c.in_err-keep.ensures.memory)
+returns-in_err-keep-clause-reads g c l k = stops _ _ c.from_residual-in_err-keep.ensures.1 (no_memory c.in_err-keep.ensures.memory)
 
 pub returns-in_err-end_list-clause-reads : goal.returns-in_err-end_list-clause-reads
-returns-in_err-end_list-clause-reads g c l k = answers _ _ (search rules) (no_memory c.in_err-end_list.ensures.memory)
+returns-in_err-end_list-clause-reads g c l k = stops _ _ c.from_residual-in_err-end_list.ensures.1 (no_memory c.in_err-end_list.ensures.memory)
 
 pub returns-clause-reads : goal.returns-clause-reads
 returns-clause-reads g c l k = list_ends (λ m. g.T.Element.rule) (most_of c.args.place.kind) l k (λ m. g.T.Element.reads_one_way) c.args.cursor.now c.elements.cursor c.eat_symbol.new.self c.end_list.new.self (map g.T.Element.tree_of c.elements.elements.items) c.len.result

@@ -1,21 +1,22 @@
-use Rattle.std.proofs.Common.{ap, refl, rules, ◌∙◌}
+use Rattle.std.proofs.Common.{ap, refl, ◌∙◌}
 use Rattle.parse_tree.proofs.Views.{of_like}
 use Rattle.definitions.specs.Statement as tree
 use Rattle.parse_tree.specs.Trees.{expr_of, text_of}
 use Rattle.definitions.specs.Grammar as g
 use Rattle.definitions.proofs.Grammar.{string_alike}
-use Rattle.syntax_cursor.proofs.Outcomes.{gives_as, flat_on, then_fails, answers}
+use Rattle.syntax_cursor.proofs.Outcomes.{gives_as, flat_on, then_fails}
 use Rattle.syntax_cursor.proofs.Places.{on, seen_as}
 use Rattle.syntax.proofs.Places as leaves
 use Rattle.syntax_cursor.specs.Places.{Reserved, one, string_leaves}
 use Rattle.syntax.specs.Places.{expr_leaves}
 use Rattle.definitions.specs.Word as words
 use Rattle.std.proofs.Common.{◌++◌}
+use Rattle.syntax.proofs.Stops.{stops}
 use Rattle.syntax.proofs.expr.like.Goals as goal
 
 pub returns-in_err-pattern-clause-reads : goal.returns-in_err-pattern-clause-reads
 unfolding g.LikeOf
-returns-in_err-pattern-clause-reads c l k = answers _ _ (search rules) (then_fails (c.in_err-pattern.ensures.reads l k))
+returns-in_err-pattern-clause-reads c l k = stops _ _ c.from_residual.ensures.1 (then_fails (c.in_err-pattern.ensures.reads l k))
 
 pub returns-clause-reads : goal.returns-clause-reads
 unfolding g.LikeOf

@@ -1,4 +1,4 @@
-use Rattle.std.proofs.Common.{sym, ap, refl, rules, subst, ◌∙◌}
+use Rattle.std.proofs.Common.{sym, ap, refl, subst, ◌∙◌}
 use Rattle.std.proofs.Common.{map}
 use Rattle.parse_tree.specs.Trees.{statement_of}
 use Rattle.syntax_cursor.proofs.Lists.{map_push}
@@ -6,6 +6,7 @@ use Rattle.syntax.proofs.Scripts.{Scripts, script_begins, script_goes_on, script
 use Rattle.syntax_cursor.proofs.Places.{here, on, seen_as}
 use Rattle.syntax.proofs.Places as leaves
 use Rattle.syntax.specs.Places.{all, statement_leaves}
+use Rattle.syntax.proofs.Stops.{passed}
 use Rattle.syntax.proofs.parser.script.Goals as goal
 
 pub statements-init : goal.statements-init
@@ -30,7 +31,7 @@ pub statements-smaller : goal.statements-smaller
 statements-smaller c = fewer c.statements.cursor c.ended_statement.new.cursor (statement_of c.in_ok-statement.statement) c.statements-test.ensures.before c.in_ok-statement.ensures.reads
 
 pub returns-in_err-statement-clause-reads : goal.returns-in_err-statement-clause-reads
-returns-in_err-statement-clause-reads c = answered c.args.cursor.now _ _ _ (search rules) (script_fails_at c.args.cursor.now c.statements.cursor _ _ c.statements.invariant.reads c.in_err-statement.ensures.reads)
+returns-in_err-statement-clause-reads c = answered c.args.cursor.now _ _ _ (passed _ c.from_residual.ensures.1) (script_fails_at c.args.cursor.now c.statements.cursor _ _ c.statements.invariant.reads c.in_err-statement.ensures.reads)
 
 pub returns-in_err-push-clause-reads : goal.returns-in_err-push-clause-reads
-returns-in_err-push-clause-reads c = answered c.args.cursor.now _ _ _ (search rules) (for_memory c.args.cursor.now _ refl)
+returns-in_err-push-clause-reads c = answered c.args.cursor.now _ _ _ (passed _ c.from_residual-in_err-push.ensures.1) (for_memory c.args.cursor.now _ refl)

@@ -1,6 +1,7 @@
-use Rattle.std.proofs.Common.{rules, [], ◌∷◌, ◌++◌}
+use Rattle.std.proofs.Common.{[], ◌∷◌, ◌++◌}
 use Rattle.parse_tree.specs.Trees.{statement_of}
 use Rattle.syntax.proofs.Scripts.{script_begins, script_goes_on, script_ends, script_fails_at, fewer, skim_answered}
+use Rattle.syntax.proofs.Stops.{passed}
 use Rattle.syntax.proofs.parser.skim.Goals as goal
 
 pub statements-init : goal.statements-init
@@ -17,4 +18,4 @@ pub statements-smaller : goal.statements-smaller
 statements-smaller c = fewer c.statements.cursor c.ended_statement.new.cursor (statement_of c.in_ok-statement.statement) c.statements-test.ensures.before c.in_ok-statement.ensures.reads
 
 pub returns-in_err-statement : goal.returns-in_err-statement
-returns-in_err-statement c = skim_answered c.args.cursor.now _ _ (search rules) (script_fails_at c.args.cursor.now c.statements.cursor _ _ c.statements.invariant.1 c.in_err-statement.ensures.reads)
+returns-in_err-statement c = skim_answered c.args.cursor.now _ _ (passed _ c.from_residual.ensures.1) (script_fails_at c.args.cursor.now c.statements.cursor _ _ c.statements.invariant.1 c.in_err-statement.ensures.reads)

@@ -1,10 +1,10 @@
-use Rattle.std.proofs.Common.{rules}
 use Rattle.definitions.specs.Grammar as g
 use Rattle.definitions.proofs.Grammar.{count_alike}
-use Rattle.syntax_cursor.proofs.Outcomes.{flat_on, past_on, misses_on, if_on, gives, past_fails, then_fails, answers}
+use Rattle.syntax_cursor.proofs.Outcomes.{flat_on, past_on, misses_on, if_on, gives, past_fails, then_fails}
 use Rattle.syntax_cursor.proofs.Places.{here, stays, no_more, past}
 use Rattle.syntax.proofs.Places as leaves
 use Rattle.std.proofs.Common.{refl}
+use Rattle.syntax.proofs.Stops.{stops}
 use Rattle.syntax.proofs.statement.char_length.Goals as goal
 
 pub returns-then-not-eat_symbol-clause-reads : goal.returns-then-not-eat_symbol-clause-reads
@@ -16,11 +16,11 @@ returns-then-not-eat_symbol-clause-placed c = stays here c.if-not-eat_symbol.ens
 
 pub returns-in_err-length-clause-reads : goal.returns-in_err-length-clause-reads
 unfolding g.LengthAt
-returns-in_err-length-clause-reads c l k = answers _ _ (search rules) (if_on c.if-not-eat_symbol.ensures (then_fails (c.in_err-length.ensures.reads l k)))
+returns-in_err-length-clause-reads c l k = stops _ _ c.from_residual.ensures.1 (if_on c.if-not-eat_symbol.ensures (then_fails (c.in_err-length.ensures.reads l k)))
 
 pub returns-in_err-expect_symbol-clause-reads : goal.returns-in_err-expect_symbol-clause-reads
 unfolding g.LengthAt
-returns-in_err-expect_symbol-clause-reads c l k = answers _ _ (search rules) (if_on c.if-not-eat_symbol.ensures (flat_on count_alike c.in_ok-length.ensures.reads (past_fails c.in_err-expect_symbol.ensures)))
+returns-in_err-expect_symbol-clause-reads c l k = stops _ _ c.from_residual-in_err-expect_symbol.ensures.1 (if_on c.if-not-eat_symbol.ensures (flat_on count_alike c.in_ok-length.ensures.reads (past_fails c.in_err-expect_symbol.ensures)))
 
 pub returns-clause-reads : goal.returns-clause-reads
 unfolding g.LengthAt

@@ -1,9 +1,9 @@
-use Rattle.std.proofs.Common.{rules}
 use Rattle.definitions.specs.Grammar as g
 use Rattle.definitions.proofs.Grammar.{within_alike, select_alike}
-use Rattle.syntax_cursor.proofs.Outcomes.{then_on, misses_on, if_on, gives, then_fails, answers}
+use Rattle.syntax_cursor.proofs.Outcomes.{then_on, misses_on, if_on, gives, then_fails}
 use Rattle.syntax_cursor.proofs.Places.{ok_then, here, on, stays, past}
 use Rattle.std.proofs.Common.{refl}
+use Rattle.syntax.proofs.Stops.{stops}
 use Rattle.syntax.proofs.statement.statement.Goals as goal
 
 pub returns-then-eat_word-clause-reads : goal.returns-then-eat_word-clause-reads
@@ -29,7 +29,7 @@ returns-then-eat_word-3-clause-placed c = ok_then _ c.set_statistics.ensures.pla
 
 pub returns-in_err-select-clause-reads : goal.returns-in_err-select-clause-reads
 unfolding g.StatementOf
-returns-in_err-select-clause-reads c = answers _ _ (search rules) (misses_on c.if-eat_word.ensures (misses_on c.if-eat_word-2.ensures (misses_on c.if-eat_word-3.ensures (if_on c.if-eat_word-4.ensures (then_fails c.in_err-select.ensures.reads)))))
+returns-in_err-select-clause-reads c = stops _ _ c.from_residual.ensures.1 (misses_on c.if-eat_word.ensures (misses_on c.if-eat_word-2.ensures (misses_on c.if-eat_word-3.ensures (if_on c.if-eat_word-4.ensures (then_fails c.in_err-select.ensures.reads)))))
 
 pub returns-in_ok-select-clause-reads : goal.returns-in_ok-select-clause-reads
 unfolding g.StatementOf
@@ -40,7 +40,7 @@ returns-in_ok-select-clause-placed c = on (past refl (stays (stays (stays here c
 
 pub returns-in_err-select-2-clause-reads : goal.returns-in_err-select-2-clause-reads
 unfolding g.StatementOf
-returns-in_err-select-2-clause-reads c = answers _ _ (search rules) (misses_on c.if-eat_word.ensures (misses_on c.if-eat_word-2.ensures (misses_on c.if-eat_word-3.ensures (misses_on c.if-eat_word-4.ensures (then_fails c.in_err-select-2.ensures.reads)))))
+returns-in_err-select-2-clause-reads c = stops _ _ c.from_residual-in_err-select-2.ensures.1 (misses_on c.if-eat_word.ensures (misses_on c.if-eat_word-2.ensures (misses_on c.if-eat_word-3.ensures (misses_on c.if-eat_word-4.ensures (then_fails c.in_err-select-2.ensures.reads)))))
 
 pub returns-in_ok-select-2-clause-reads : goal.returns-in_ok-select-2-clause-reads
 unfolding g.StatementOf

@@ -1,13 +1,13 @@
-use Rattle.std.proofs.Common.{rules}
 use Rattle.definitions.specs.Grammar as g
 use Rattle.definitions.proofs.Grammar.{key_name_alike, direction_alike}
-use Rattle.syntax_cursor.proofs.Outcomes.{flat_on, gives, then_fails, answers}
+use Rattle.syntax_cursor.proofs.Outcomes.{flat_on, gives, then_fails}
 use Rattle.syntax_cursor.proofs.Places.{no_more}
+use Rattle.syntax.proofs.Stops.{stops}
 use Rattle.syntax.proofs.query.KeyElement.read.Goals as goal
 
 pub returns-in_err-name-clause-reads : goal.returns-in_err-name-clause-reads
 unfolding g.KeyAt
-returns-in_err-name-clause-reads c l k = answers _ _ (search rules) (then_fails (c.in_err-name.ensures.reads l k))
+returns-in_err-name-clause-reads c l k = stops _ _ c.from_residual.ensures.1 (then_fails (c.in_err-name.ensures.reads l k))
 
 pub returns-clause-reads : goal.returns-clause-reads
 unfolding g.KeyAt

@@ -1,18 +1,18 @@
-use Rattle.std.proofs.Common.{rules}
 use Rattle.parse_tree.specs.Trees.{name_of}
 use Rattle.definitions.specs.Grammar as g
 use Rattle.definitions.proofs.Grammar.{name_alike}
-use Rattle.syntax_cursor.proofs.Outcomes.{maybe_says, flat_on, then_fails, no_memory, answers}
+use Rattle.syntax_cursor.proofs.Outcomes.{maybe_says, flat_on, then_fails, no_memory}
 use Rattle.syntax_cursor.proofs.Places.{on}
+use Rattle.syntax.proofs.Stops.{stops}
 use Rattle.syntax.proofs.query.SourceElement.read.Goals as goal
 
 pub returns-in_err-table-clause-reads : goal.returns-in_err-table-clause-reads
 unfolding g.SourceAt
-returns-in_err-table-clause-reads c l k = answers _ _ (search rules) (then_fails (c.in_err-table.ensures.reads l k))
+returns-in_err-table-clause-reads c l k = stops _ _ c.from_residual.ensures.1 (then_fails (c.in_err-table.ensures.reads l k))
 
 pub returns-in_err-correlation-clause-reads : goal.returns-in_err-correlation-clause-reads
 unfolding g.SourceAt
-returns-in_err-correlation-clause-reads c l k = answers _ _ (search rules) (no_memory c.in_err-correlation.ensures.memory)
+returns-in_err-correlation-clause-reads c l k = stops _ _ c.from_residual-in_err-correlation.ensures.1 (no_memory c.in_err-correlation.ensures.memory)
 
 pub returns-clause-reads : goal.returns-clause-reads
 unfolding g.SourceAt
