@@ -56,6 +56,11 @@ pub is_refused : {X : Type 0} (result : Result X BindFault) (q : QueryFault) →
 is_refused (Err e) q h = ap Err h.1
 is_refused (Ok x) q h = absurd cc
 
+-- a fault that a question mark passes on
+pub is_passed : {X : Type 0} {fault : BindFault} (result : Result X BindFault) → IsErrAnd result (λ e. e ≡ fault) → result ≡ Err fault
+is_passed (Err e) h = ap Err h
+is_passed (Ok x) h = absurd h
+
 pub value_err : (c : Clause) (old new : Progress) (e : Expr) (result : Result Typed BindFault) (fault : BindFault) → result ≡ Err fault → IfSome (bind_refusal fault) (RefusesValue c.database.now c.scopes.now (place_of c.place) old e) → ValueAnswer c old new e result
 value_err c old new e result fault is h = subst (ValueAnswer c old new e) (sym is) h
 

@@ -21,6 +21,7 @@ use query_rules::{
 };
 use query_tree::{Aggregate, Block, Condition, Item, ValueType};
 use std::alloc::Global;
+use std::mem;
 
 /// How many blocks a query may have (own).
 pub const MAX_BLOCKS: usize = 32;
@@ -77,7 +78,7 @@ fn put(blocks: &mut Vec<Block>, number: usize, block: Block)
     requires { number < length blocks.old.items }
     ensures { map block_of blocks.new.items ≡ slice_set (map block_of blocks.old.items) number (block_of block) }
 {
-    blocks[number] = block;
+    drop(mem::replace(&mut blocks[number], block));
 }
 
 /// A block whose parts are not bound yet: blocks inside it are numbered behind it.

@@ -219,6 +219,7 @@ fn like<'d, 'q: 'd>(
         (progress_of blocks.new.items functions.new.items) (Like negated (expr_of operand.now)
         (text_of pattern.now)) result }
 {
+    let pattern = String::from_str(clause.alloc, pattern.text.as_str())?;
     let typed = value(clause, blocks, functions, operand)?;
     if let ValueType::Number { .. } = typed.value_type {
         return Err(BindFault::Refused(QueryFault::NumberForText(operand)));
@@ -226,7 +227,7 @@ fn like<'d, 'q: 'd>(
     Ok(Condition::Like {
         negated,
         value: typed.value,
-        pattern: String::from_str(clause.alloc, pattern.text.as_str())?,
+        pattern,
     })
 }
 
@@ -371,8 +372,8 @@ fn bound_members<'d, 'q: 'd>(
         match member {
             Some(expr) => {
                 let typed = value(clause, blocks, functions, expr)?;
-                judge_kinds(value_type, typed.value_type, expr)?;
                 bound.push(Some(typed.value))?;
+                judge_kinds(value_type, typed.value_type, expr)?;
             }
             None => bound.push(None)?,
         }

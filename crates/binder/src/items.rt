@@ -46,8 +46,8 @@ pub(crate) fn result_columns<'d, 'q: 'd>(
     let mut items = Vec::new(clause.alloc);
     let mut only = None;
     'items: for item in list {
-        let typed = value(clause, blocks, functions, &item.value)?;
         let name = header_name(clause.alloc, item, items.len() + 1)?;
+        let typed = value(clause, blocks, functions, &item.value)?;
         only = if items.is_empty() {
             Some(typed.value_type)
         } else {

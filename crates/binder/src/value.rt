@@ -40,11 +40,12 @@ pub(crate) fn value<'d, 'q: 'd>(
         Expr::String(literal) => Ok(string(clause.alloc, literal)?),
         Expr::Signed { minus, operand, .. } => {
             let typed = value(clause, blocks, functions, operand)?;
+            let signed = Box::new(clause.alloc, typed.value)?;
             let scale = number_scale(typed.value_type, operand)?;
             Ok(Typed {
                 value: ValueExpr::Signed {
                     minus: *minus,
-                    operand: Box::new(clause.alloc, typed.value)?,
+                    operand: signed,
                 },
                 value_type: ValueType::Number { scale },
             })
@@ -97,22 +98,22 @@ fn chain<'d, 'q: 'd>(
         unreachable!()
     };
     let typed = value(clause, blocks, functions, first)?;
+    let head = Box::new(clause.alloc, typed.value)?;
     let mut scale = number_scale(typed.value_type, first)?;
-    let first = Box::new(clause.alloc, typed.value)?;
     let mut joined = Vec::new(clause.alloc);
     'operands: for operand in others {
         let typed = value(clause, blocks, functions, &operand.value)?;
-        let right = number_scale(typed.value_type, &operand.value)?;
-        scale = joined_scale(scale, operand, right)?;
         joined.push(BoundOperand {
             operator: operator(operand.operator),
             start: operand.start,
             value: typed.value,
         })?;
+        let right = number_scale(typed.value_type, &operand.value)?;
+        scale = joined_scale(scale, operand, right)?;
     }
     Ok(Typed {
         value: ValueExpr::Chain {
-            first,
+            first: head,
             others: joined,
         },
         value_type: ValueType::Number { scale },

@@ -15,13 +15,13 @@ use Rattle.binder.proofs.SetFunctions.{count_rows_misplaced, binds_count_rows, f
 use Rattle.query_rules.specs.Meaning.{place_of, query_refusal, bind_refusal}
 use Rattle.binder.specs.Meaning.{progress_of, IsLine, IsList}
 use Rattle.query_rules.proofs.Refused.{if_some}
-use Rattle.binder.proofs.Answering.{is_refused, value_err, value_refused, few_blocks, few_items, numeral_refused, column_answer, next_tree, no_tree, pushed_operand, condition_err, condition_refused, members_err, members_refused, column_err, query_err, line_is, is_text, next_member_tree, no_member_tree, as_many_members, pushed_member, pushed_condition, pushed_function, as_many_functions, nothing_more, connected_and, connected_or, others_there}
+use Rattle.binder.proofs.Answering.{is_refused, is_passed, value_err, value_refused, few_blocks, few_items, numeral_refused, column_answer, next_tree, no_tree, pushed_operand, condition_err, condition_refused, members_err, members_refused, column_err, query_err, line_is, is_text, next_member_tree, no_member_tree, as_many_members, pushed_member, pushed_condition, pushed_function, as_many_functions, nothing_more, connected_and, connected_or, others_there}
 use Rattle.binder.proofs.Lines.{OperandsLeft, begin_operands, past_operand, fault_at_operand, text_at_operand, great_at_operand, end_operands, binds_chain, chain_first, chain_text, chain_operands, PartsLeft, begin_parts, past_part, fault_at_part, end_parts, binds_logical, logical_first, logical_parts}
 use Rattle.binder.proofs.Nodes.{binds_numeral, binds_string, binds_signed, signed_operand, signed_text, binds_compare, compare_left, compare_right, compare_mixed, few_after}
 use Rattle.std.proofs.lemmas.List.{take_all, append_assoc}
 use Rattle.binder.specs.Blocks.{BindsList, BindsOption, IsOnly, RefusesList}
 use Rattle.query_rules.specs.Groups.{shown_in}
-use Rattle.binder.proofs.+binding.Goals.{items::result_columns-then-is_empty, items::result_columns-else-is_empty, condition::bound_members-in-Some+in_ok-typed-in-Some+in_ok-judge_kinds-in-Some+in_ok-push-in-Some, condition::bound_members-in-None+in_ok-push-in-None}
+use Rattle.binder.proofs.+binding.Goals.{items::result_columns-then-is_empty, items::result_columns-else-is_empty, condition::bound_members-in-Some+in_ok-typed-in-Some+in_ok-push-in-Some+in_ok-judge_kinds-in-Some, condition::bound_members-in-None+in_ok-push-in-None}
 use Rattle.binder.specs.Clauses.{clauses_of, BindsClauses, RefusesClauses}
 use Rattle.binder.proofs.Bundles.{length_of_both}
 use Rattle.binder.proofs.StarItems.{pushed_item, as_many_items}
@@ -51,7 +51,7 @@ block::block-returns-in_err-judge_limits t c =
 pub block::block-returns-in_err-groups : goal.block::block-returns-in_err-groups
 block::block-returns-in_err-groups t c =
     let f = c.in_err-groups.field-0.0 in
-    block_err c.args.database.now c.args.outer.now (map block_of c.args.blocks.now.items) (map block_of c.args.blocks.now.items) _ _ f (search rules)
+    block_err c.args.database.now c.args.outer.now (map block_of c.args.blocks.now.items) (map block_of c.args.blocks.now.items) _ _ f (is_passed _ c.from_residual-in_err-groups.ensures.1)
     (if_some (bind_refusal f) _ _ (groups_refused c.args.database.now c.args.outer.now c.in_ok-scopes.scopes (map block_of c.args.blocks.now.items) c.args.query.now (rw c.deref.ensures.value at c.in_ok-scopes.ensures.ok) c.in_ok-scopes.ensures.all_there) (rw c.deref-2.ensures.value at c.in_err-groups.ensures.refused))
 
 pub block::block-bound_clauses-requires : goal.block::block-bound_clauses-requires
@@ -72,7 +72,7 @@ block::block-returns-in_err-items t c =
     let first : map block_of c.push.new.self.items ≡ map block_of c.args.blocks.now.items ++ block_of c.empty.result ∷ [] = ap (map block_of) c.in_ok-push.ensures.items ∙ pushed_block c.args.blocks.now.items c.empty.result in
     let count : length (map block_of c.push.new.self.items) ≡ length (map block_of c.args.blocks.now.items) + 1 = ap length first ∙ length_of_both (map block_of c.args.blocks.now.items) (block_of c.empty.result ∷ []) in
     let inner : IfSome (bind_refusal f) (RefusesClauses c.args.database.now c.in_ok-scopes.scopes (shown_in c.is_grouped-grouped.result (map block_column_of c.in_ok-groups.groups.items)) (length (map block_of c.push.new.self.items)) (query_of c.args.query.now)) = rw place at c.in_err-items.ensures in
-    block_err c.args.database.now c.args.outer.now (map block_of c.args.blocks.now.items) _ _ _ f (search rules) (if_some (bind_refusal f) _ _ (refused_in c.args.database.now c.args.outer.now c.in_ok-scopes.scopes c.args.query.now c.is_grouped-grouped.result (map block_column_of c.in_ok-groups.groups.items) known inside (map block_of c.args.blocks.now.items) (map block_of c.push.new.self.items) count) inner)
+    block_err c.args.database.now c.args.outer.now (map block_of c.args.blocks.now.items) _ _ _ f (is_passed _ c.from_residual-in_err-items.ensures.1) (if_some (bind_refusal f) _ _ (refused_in c.args.database.now c.args.outer.now c.in_ok-scopes.scopes c.args.query.now c.is_grouped-grouped.result (map block_column_of c.in_ok-groups.groups.items) known inside (map block_of c.args.blocks.now.items) (map block_of c.push.new.self.items) count) inner)
 
 pub block::block-put-requires : goal.block::block-put-requires
 block::block-put-requires t c =
@@ -101,7 +101,7 @@ pub block::bound_clauses-returns-in_err-items : goal.block::bound_clauses-return
 block::bound_clauses-returns-in_err-items t c =
     let f = c.in_err-items.field-0.0 in
     let inner : IfSome (bind_refusal f) (RefusesList c.args.database.now c.args.scopes.now (place_of c.args.place) (record { blocks = map block_of c.args.blocks.now.items; functions = [] }) (list_of c.args.query.now.list)) = rw c.new-functions.ensures.items at c.in_err-items.ensures in
-    clauses_err c.args.database.now c.args.scopes.now (place_of c.args.place) (map block_of c.args.blocks.now.items) _ _ _ f (search rules) (if_some (bind_refusal f) _ _ (list_refused_in c.args.database.now c.args.scopes.now (place_of c.args.place) (map block_of c.args.blocks.now.items) c.args.query.now) inner)
+    clauses_err c.args.database.now c.args.scopes.now (place_of c.args.place) (map block_of c.args.blocks.now.items) _ _ _ f (is_passed _ c.from_residual.ensures.1) (if_some (bind_refusal f) _ _ (list_refused_in c.args.database.now c.args.scopes.now (place_of c.args.place) (map block_of c.args.blocks.now.items) c.args.query.now) inner)
 
 pub block::bound_clauses-optional_condition-requires : goal.block::bound_clauses-optional_condition-requires
 block::bound_clauses-optional_condition-requires t c =
@@ -114,7 +114,7 @@ pub block::bound_clauses-returns-in_err-condition : goal.block::bound_clauses-re
 block::bound_clauses-returns-in_err-condition t c =
     let f = c.in_err-condition.field-0.0 in
     let listed : BindsList c.args.database.now c.args.scopes.now (place_of c.args.place) (record { blocks = map block_of c.args.blocks.now.items; functions = [] }) (progress_of c.result_columns.new.blocks.items c.result_columns.new.functions.items) (list_of c.args.query.now.list) (map item_of c.in_ok-items.field-0.items.items) (option_map value_type_of c.in_ok-items.field-0.only) = rw c.new-functions.ensures.items at c.in_ok-items.ensures in
-    clauses_err c.args.database.now c.args.scopes.now (place_of c.args.place) (map block_of c.args.blocks.now.items) _ _ _ f (search rules)
+    clauses_err c.args.database.now c.args.scopes.now (place_of c.args.place) (map block_of c.args.blocks.now.items) _ _ _ f (is_passed _ c.from_residual-in_err-condition.ensures.1)
     (if_some (bind_refusal f) _ _ (λ r x. where_refused_in c.args.database.now c.args.scopes.now (place_of c.args.place) (map block_of c.args.blocks.now.items) (progress_of c.result_columns.new.blocks.items c.result_columns.new.functions.items) c.args.query.now r c.requires.shown listed.adds x) c.in_err-condition.ensures)
 
 pub block::bound_clauses-optional_condition-requires-2 : goal.block::bound_clauses-optional_condition-requires-2
@@ -129,7 +129,7 @@ block::bound_clauses-returns-in_err-having t c =
     let f = c.in_err-having.field-0.0 in
     let listed : BindsList c.args.database.now c.args.scopes.now (place_of c.args.place) (record { blocks = map block_of c.args.blocks.now.items; functions = [] }) (progress_of c.result_columns.new.blocks.items c.result_columns.new.functions.items) (list_of c.args.query.now.list) (map item_of c.in_ok-items.field-0.items.items) (option_map value_type_of c.in_ok-items.field-0.only) = rw c.new-functions.ensures.items at c.in_ok-items.ensures in
     let kept : BindsOption c.args.database.now c.args.scopes.now InWhere (progress_of c.result_columns.new.blocks.items c.result_columns.new.functions.items) (progress_of c.optional_condition.new.blocks.items c.optional_condition.new.functions.items) (condition_of c.args.query.now.condition) (option_map bound_condition_of c.in_ok-condition.condition) = c.in_ok-condition.ensures in
-    clauses_err c.args.database.now c.args.scopes.now (place_of c.args.place) (map block_of c.args.blocks.now.items) _ _ _ f (search rules)
+    clauses_err c.args.database.now c.args.scopes.now (place_of c.args.place) (map block_of c.args.blocks.now.items) _ _ _ f (is_passed _ c.from_residual-in_err-having.ensures.1)
     (if_some (bind_refusal f) _ _ (λ r x. having_refused_in c.args.database.now c.args.scopes.now (place_of c.args.place) (map block_of c.args.blocks.now.items) (progress_of c.result_columns.new.blocks.items c.result_columns.new.functions.items) (progress_of c.optional_condition.new.blocks.items c.optional_condition.new.functions.items) c.args.query.now r listed.adds kept.adds x) c.in_err-having.ensures)
 
 pub block::bound_clauses-returns : goal.block::bound_clauses-returns
@@ -142,7 +142,7 @@ pub block::optional_condition-returns-in_err-condition-in-Some :
 block::optional_condition-returns-in_err-condition-in-Some t c =
     let tree = ap condition_of c.in-Some.is in
     let f = c.in_err-condition-in-Some.field-0.0 in
-    option_err c.args.clause.now (progress_of c.args.blocks.now.items c.args.functions.now.items) _ _ _ f (search rules) (rw tree (if_some (bind_refusal f) _ _ (present_refused c.args.clause.now.database.now c.args.clause.now.scopes.now (place_of c.args.clause.now.place) (progress_of c.args.blocks.now.items c.args.functions.now.items) (expr_of c.in-Some.expr)) c.in_err-condition-in-Some.ensures))
+    option_err c.args.clause.now (progress_of c.args.blocks.now.items c.args.functions.now.items) _ _ _ f (is_passed _ c.from_residual.ensures.1) (rw tree (if_some (bind_refusal f) _ _ (present_refused c.args.clause.now.database.now c.args.clause.now.scopes.now (place_of c.args.clause.now.place) (progress_of c.args.blocks.now.items c.args.functions.now.items) (expr_of c.in-Some.expr)) c.in_err-condition-in-Some.ensures))
 
 pub block::optional_condition-returns-in_ok-condition-in-Some :
     goal.block::optional_condition-returns-in_ok-condition-in-Some
@@ -176,7 +176,7 @@ items::result_columns-returns-in_err-typed t c =
     let f = c.in_err-typed.field-0.0 in
     let x = c.item-item.result in
     let left = rw (next_item_tree c.deref-item-items.result.now c.items.item-index x c.items-test.true c.item-item.is) at c.items.invariant.2 in
-    list_err c.args.clause.now (progress_of c.args.blocks.now.items c.args.functions.now.items) _ _ _ f (search rules)
+    list_err c.args.clause.now (progress_of c.args.blocks.now.items c.args.functions.now.items) _ _ _ f (is_passed _ c.from_residual-in_err-typed.ensures.1)
     (rw tree (if_some (bind_refusal f) _ _ (λ r x'. fault_at_item c.args.clause.now.database.now c.args.clause.now.scopes.now (place_of c.args.clause.now.place) (progress_of c.args.blocks.now.items c.args.functions.now.items) (items (map listed_item_of c.deref-item-items.result.now)) (progress_of c.items.blocks.items c.items.functions.items) (map item_of c.items.items.items) (expr_of x.value) _ _ r left x') c.in_err-typed.ensures))
 
 pub items::result_columns-items-preserved : goal.items::result_columns-items-preserved
@@ -222,7 +222,7 @@ condition::bound_members-returns-in_err-typed-in-Some t c =
     let tree = ap expr_of c.in-InList.is ∙ of_in_list c.in-InList.start c.in-InList.negated c.in-InList.value c.in-InList.members ∙ ap (λ xs. spec.InList c.in-InList.negated (expr_of c.in-InList.value.value) (member_list (map member_of xs))) (sym c.deref-member-items.ensures.value) in
     let left : MembersLeft c.args.clause.now.database.now c.args.clause.now.scopes.now (place_of c.args.clause.now.place) (progress_of c.args.blocks.now.items c.args.functions.now.items) (value_type_of c.args.value_type) (member_list (map member_of c.deref-member-items.result.now)) (progress_of c.members.blocks.items c.members.functions.items) (map bound_member_of c.members.bound.items) (spec.Member (expr_of c.in-Some.expr) (member_list (map member_of (drop (c.members.member-index + 1) c.deref-member-items.result.now)))) = rw (next_member_tree c.deref-member-items.result.now c.members.member-index c.member-item.result c.members-test.true c.member-item.is, c.in-Some.is) at c.members.invariant in
     let f = c.in_err-typed-in-Some.field-0.0 in
-    members_err c.args.clause.now (progress_of c.args.blocks.now.items c.args.functions.now.items) _ c.args.value_type _ _ f (search rules) (rw tree (if_some (bind_refusal f) _ _ (λ r e. fault_at_value c.args.clause.now.database.now c.args.clause.now.scopes.now (place_of c.args.clause.now.place) (progress_of c.args.blocks.now.items c.args.functions.now.items) (value_type_of c.args.value_type) (member_list (map member_of c.deref-member-items.result.now)) (progress_of c.members.blocks.items c.members.functions.items) (map bound_member_of c.members.bound.items) (expr_of c.in-Some.expr) (member_list (map member_of (drop (c.members.member-index + 1) c.deref-member-items.result.now))) r left e) c.in_err-typed-in-Some.ensures))
+    members_err c.args.clause.now (progress_of c.args.blocks.now.items c.args.functions.now.items) _ c.args.value_type _ _ f (is_passed _ c.from_residual.ensures.1) (rw tree (if_some (bind_refusal f) _ _ (λ r e. fault_at_value c.args.clause.now.database.now c.args.clause.now.scopes.now (place_of c.args.clause.now.place) (progress_of c.args.blocks.now.items c.args.functions.now.items) (value_type_of c.args.value_type) (member_list (map member_of c.deref-member-items.result.now)) (progress_of c.members.blocks.items c.members.functions.items) (map bound_member_of c.members.bound.items) (expr_of c.in-Some.expr) (member_list (map member_of (drop (c.members.member-index + 1) c.deref-member-items.result.now))) r left e) c.in_err-typed-in-Some.ensures))
 
 -- src/condition.rt:205:17
 pub condition::bound_members-returns-in_err-judge_kinds-in-Some :
@@ -238,7 +238,7 @@ condition::bound_members-returns-in_err-judge_kinds-in-Some t c =
 pub condition::bound_members-members-preserved : goal.condition::bound_members-members-preserved
 condition::bound_members-members-preserved t c =
     elim c.match-member.branch [
-      | condition::bound_members-in-Some+in_ok-typed-in-Some+in_ok-judge_kinds-in-Some+in_ok-push-in-Some w ↦ let left : MembersLeft c.args.clause.now.database.now c.args.clause.now.scopes.now (place_of c.args.clause.now.place) (progress_of c.args.blocks.now.items c.args.functions.now.items) (value_type_of c.args.value_type) (member_list (map member_of c.deref-member-items.result.now)) (progress_of c.members.blocks.items c.members.functions.items) (map bound_member_of c.members.bound.items) (spec.Member (expr_of w.in-Some.expr) (member_list (map member_of (drop (c.members.member-index + 1) c.deref-member-items.result.now)))) = rw (next_member_tree c.deref-member-items.result.now c.members.member-index c.member-item.result c.members-test.true c.member-item.is, w.in-Some.is) at c.members.invariant in
+      | condition::bound_members-in-Some+in_ok-typed-in-Some+in_ok-push-in-Some+in_ok-judge_kinds-in-Some w ↦ let left : MembersLeft c.args.clause.now.database.now c.args.clause.now.scopes.now (place_of c.args.clause.now.place) (progress_of c.args.blocks.now.items c.args.functions.now.items) (value_type_of c.args.value_type) (member_list (map member_of c.deref-member-items.result.now)) (progress_of c.members.blocks.items c.members.functions.items) (map bound_member_of c.members.bound.items) (spec.Member (expr_of w.in-Some.expr) (member_list (map member_of (drop (c.members.member-index + 1) c.deref-member-items.result.now)))) = rw (next_member_tree c.deref-member-items.result.now c.members.member-index c.member-item.result c.members-test.true c.member-item.is, w.in-Some.is) at c.members.invariant in
           rw (w.blocks-is, w.functions-is, w.bound-is, w.in_ok-push-in-Some.ensures.items, pushed_member c.members.bound.items (Some w.in_ok-typed-in-Some.typed.value))
           (past_value c.args.clause.now.database.now c.args.clause.now.scopes.now (place_of c.args.clause.now.place) (progress_of c.args.blocks.now.items c.args.functions.now.items) (value_type_of c.args.value_type) (value_type_of w.in_ok-typed-in-Some.typed.value_type) (member_list (map member_of c.deref-member-items.result.now)) (progress_of c.members.blocks.items c.members.functions.items) (progress_of w.value.new.blocks.items w.value.new.functions.items) (map bound_member_of c.members.bound.items) (expr_of w.in-Some.expr) (value_of w.in_ok-typed-in-Some.typed.value) (member_list (map member_of (drop (c.members.member-index + 1) c.deref-member-items.result.now))) left w.in_ok-typed-in-Some.ensures w.in_ok-judge_kinds-in-Some.ensures.alike (few_after c.args.clause.now.database.now c.args.clause.now.scopes.now (place_of c.args.clause.now.place) (progress_of c.members.blocks.items c.members.functions.items) (progress_of w.value.new.blocks.items w.value.new.functions.items) _ _ w.in_ok-typed-in-Some.ensures.adds))
       | condition::bound_members-in-None+in_ok-push-in-None w ↦ let left : MembersLeft c.args.clause.now.database.now c.args.clause.now.scopes.now (place_of c.args.clause.now.place) (progress_of c.args.blocks.now.items c.args.functions.now.items) (value_type_of c.args.value_type) (member_list (map member_of c.deref-member-items.result.now)) (progress_of c.members.blocks.items c.members.functions.items) (map bound_member_of c.members.bound.items) (spec.NullMember (member_list (map member_of (drop (c.members.member-index + 1) c.deref-member-items.result.now)))) = rw (next_member_tree c.deref-member-items.result.now c.members.member-index c.member-item.result c.members-test.true c.member-item.is, w.in-None.is) at c.members.invariant in
@@ -259,7 +259,7 @@ condition::column_of_query-returns-in_err-block t c =
     λ functions.
     let f = c.in_err-block.field-0.0 in
     let inner : IfSome (bind_refusal f) (RefusesQuery c.args.clause.now.database.now c.args.clause.now.scopes.now (place_of c.args.clause.now.place) (record { blocks = map block_of c.args.blocks.now.items; functions = functions }) (query_of c.args.query.now)) = c.in_err-block.ensures functions in
-    column_err c.args.clause.now (record { blocks = map block_of c.args.blocks.now.items; functions = functions }) _ _ _ f (search rules) (if_some (bind_refusal f) _ (RefusesColumn c.args.clause.now.database.now c.args.clause.now.scopes.now (place_of c.args.clause.now.place) (record { blocks = map block_of c.args.blocks.now.items; functions = functions }) (query_of c.args.query.now)) (λ r e. inl e) inner)
+    column_err c.args.clause.now (record { blocks = map block_of c.args.blocks.now.items; functions = functions }) _ _ _ f (is_passed _ c.from_residual.ensures.1) (if_some (bind_refusal f) _ (RefusesColumn c.args.clause.now.database.now c.args.clause.now.scopes.now (place_of c.args.clause.now.place) (record { blocks = map block_of c.args.blocks.now.items; functions = functions }) (query_of c.args.query.now)) (λ r e. inl e) inner)
 
 -- src/condition.rt:215:1
 pub condition::column_of_query-returns-in_default-Some :
@@ -321,7 +321,7 @@ condition::inner_block-returns-in_err-only-in-Where t c =
     λ functions.
     let f = c.in_err-only-in-Where.field-0.0 in
     let inner : IfSome (bind_refusal f) (RefusesBlock c.args.clause.now.database.now c.args.clause.now.scopes.now (map block_of c.args.blocks.now.items) (query_of c.args.query.now)) = c.in_err-only-in-Where.ensures in
-    query_err c.args.clause.now (record { blocks = map block_of c.args.blocks.now.items; functions = functions }) _ _ _ f (search rules) (if_some (bind_refusal f) _ _ (query_refused c.args.clause.now.database.now c.args.clause.now.scopes.now (place_of c.args.clause.now.place) (record { blocks = map block_of c.args.blocks.now.items; functions = functions }) (query_of c.args.query.now)) inner)
+    query_err c.args.clause.now (record { blocks = map block_of c.args.blocks.now.items; functions = functions }) _ _ _ f (is_passed _ c.from_residual.ensures.1) (if_some (bind_refusal f) _ _ (query_refused c.args.clause.now.database.now c.args.clause.now.scopes.now (place_of c.args.clause.now.place) (record { blocks = map block_of c.args.blocks.now.items; functions = functions }) (query_of c.args.query.now)) inner)
 
 -- src/condition.rt:232:1
 pub condition::inner_block-returns-in_ok-only-in-Where :
@@ -341,7 +341,7 @@ condition::logical-returns-in_err-condition t c =
     let kind = line_is c.args.line.now true c.in-Line.first c.in-Line.others c.requires.logical c.in-Line.is in
     let f = c.in_err-condition.field-0.0 in
     let inner : IfSome (bind_refusal f) (RefusesCondition c.args.clause.now.database.now c.args.clause.now.scopes.now (place_of c.args.clause.now.place) (progress_of c.args.blocks.now.items c.args.functions.now.items) (expr_of c.in-Line.first.value)) = rw c.deref.ensures at c.in_err-condition.ensures in
-    condition_err c.args.clause.now (progress_of c.args.blocks.now.items c.args.functions.now.items) _ _ _ f (search rules) (rw tree (if_some (bind_refusal f) _ _ (λ r e. logical_first c.args.clause.now.database.now c.args.clause.now.scopes.now (place_of c.args.clause.now.place) (progress_of c.args.blocks.now.items c.args.functions.now.items) (expr_of c.in-Line.first.value) (operands (map operand_of c.in-Line.others.items)) r kind e) inner))
+    condition_err c.args.clause.now (progress_of c.args.blocks.now.items c.args.functions.now.items) _ _ _ f (is_passed _ c.from_residual.ensures.1) (rw tree (if_some (bind_refusal f) _ _ (λ r e. logical_first c.args.clause.now.database.now c.args.clause.now.scopes.now (place_of c.args.clause.now.place) (progress_of c.args.blocks.now.items c.args.functions.now.items) (expr_of c.in-Line.first.value) (operands (map operand_of c.in-Line.others.items)) r kind e) inner))
 
 -- src/condition.rt:178:5
 pub condition::logical-operands-init : goal.condition::logical-operands-init
@@ -364,7 +364,7 @@ condition::logical-returns-in_err-condition-2 t c =
     let h : BindsCondition c.args.clause.now.database.now c.args.clause.now.scopes.now (place_of c.args.clause.now.place) (progress_of c.args.blocks.now.items c.args.functions.now.items) (progress_of c.condition.new.blocks.items c.condition.new.functions.items) (expr_of c.in-Line.first.value) (bound_condition_of c.in_ok-condition.field-0) = rw c.deref.ensures at c.in_ok-condition.ensures in
     let left : PartsLeft c.args.clause.now.database.now c.args.clause.now.scopes.now (place_of c.args.clause.now.place) (progress_of c.condition.new.blocks.items c.condition.new.functions.items) (operands (map operand_of c.deref-operand-items.result.now)) (progress_of c.operands.blocks.items c.operands.functions.items) c.operands.invariant.0 (spec.Operand (operator_of c.operand-item.result.operator) (expr_of c.operand-item.result.value) (operands (map operand_of (drop (c.operands.operand-index + 1) c.deref-operand-items.result.now)))) = rw (next_tree c.deref-operand-items.result.now c.operands.operand-index c.operand-item.result c.operands-test.true c.operand-item.is) at c.operands.invariant.2 in
     let f = c.in_err-condition-2.field-0.0 in
-    condition_err c.args.clause.now (progress_of c.args.blocks.now.items c.args.functions.now.items) _ _ _ f (search rules) (rw tree (if_some (bind_refusal f) _ _ (λ r e. logical_parts c.args.clause.now.database.now c.args.clause.now.scopes.now (place_of c.args.clause.now.place) (progress_of c.args.blocks.now.items c.args.functions.now.items) (progress_of c.condition.new.blocks.items c.condition.new.functions.items) (expr_of c.in-Line.first.value) (operands (map operand_of c.deref-operand-items.result.now)) (bound_condition_of c.in_ok-condition.field-0) r kind h (fault_at_part c.args.clause.now.database.now c.args.clause.now.scopes.now (place_of c.args.clause.now.place) (progress_of c.condition.new.blocks.items c.condition.new.functions.items) (operands (map operand_of c.deref-operand-items.result.now)) (progress_of c.operands.blocks.items c.operands.functions.items) c.operands.invariant.0 (operator_of c.operand-item.result.operator) (expr_of c.operand-item.result.value) (operands (map operand_of (drop (c.operands.operand-index + 1) c.deref-operand-items.result.now))) r left e)) c.in_err-condition-2.ensures))
+    condition_err c.args.clause.now (progress_of c.args.blocks.now.items c.args.functions.now.items) _ _ _ f (is_passed _ c.from_residual-in_err-condition-2.ensures.1) (rw tree (if_some (bind_refusal f) _ _ (λ r e. logical_parts c.args.clause.now.database.now c.args.clause.now.scopes.now (place_of c.args.clause.now.place) (progress_of c.args.blocks.now.items c.args.functions.now.items) (progress_of c.condition.new.blocks.items c.condition.new.functions.items) (expr_of c.in-Line.first.value) (operands (map operand_of c.deref-operand-items.result.now)) (bound_condition_of c.in_ok-condition.field-0) r kind h (fault_at_part c.args.clause.now.database.now c.args.clause.now.scopes.now (place_of c.args.clause.now.place) (progress_of c.condition.new.blocks.items c.condition.new.functions.items) (operands (map operand_of c.deref-operand-items.result.now)) (progress_of c.operands.blocks.items c.operands.functions.items) c.operands.invariant.0 (operator_of c.operand-item.result.operator) (expr_of c.operand-item.result.value) (operands (map operand_of (drop (c.operands.operand-index + 1) c.deref-operand-items.result.now))) r left e)) c.in_err-condition-2.ensures))
 
 -- src/condition.rt:178:5
 pub condition::logical-operands-preserved : goal.condition::logical-operands-preserved
@@ -391,7 +391,7 @@ value::chain-returns-in_err-typed t c =
     let kind = line_is c.args.line.now false c.in-Line.first c.in-Line.others c.requires.arithmetic c.in-Line.is in
     let f = c.in_err-typed.field-0.0 in
     let inner : IfSome (bind_refusal f) (RefusesValue c.args.clause.now.database.now c.args.clause.now.scopes.now (place_of c.args.clause.now.place) (progress_of c.args.blocks.now.items c.args.functions.now.items) (expr_of c.in-Line.first.value)) = rw c.deref.ensures at c.in_err-typed.ensures in
-    value_err c.args.clause.now (progress_of c.args.blocks.now.items c.args.functions.now.items) _ _ _ f (search rules) (rw tree (if_some (bind_refusal f) _ _ (λ r e. chain_first c.args.clause.now.database.now c.args.clause.now.scopes.now (place_of c.args.clause.now.place) (progress_of c.args.blocks.now.items c.args.functions.now.items) (expr_of c.in-Line.first.value) (operands (map operand_of c.in-Line.others.items)) r kind e) inner))
+    value_err c.args.clause.now (progress_of c.args.blocks.now.items c.args.functions.now.items) _ _ _ f (is_passed _ c.from_residual.ensures.1) (rw tree (if_some (bind_refusal f) _ _ (λ r e. chain_first c.args.clause.now.database.now c.args.clause.now.scopes.now (place_of c.args.clause.now.place) (progress_of c.args.blocks.now.items c.args.functions.now.items) (expr_of c.in-Line.first.value) (operands (map operand_of c.in-Line.others.items)) r kind e) inner))
 
 -- src/value.rt:95:21
 pub value::chain-returns-in_err-scale : goal.value::chain-returns-in_err-scale
@@ -424,7 +424,7 @@ value::chain-returns-in_err-typed-2 t c =
     let left : OperandsLeft c.args.clause.now.database.now c.args.clause.now.scopes.now (place_of c.args.clause.now.place) (progress_of c.value.new.blocks.items c.value.new.functions.items) c.in_ok-scale.scale (operands (map operand_of c.deref-operand-items.result.now)) (progress_of c.operands.blocks.items c.operands.functions.items) c.operands.scale (map bound_operand_of c.operands.joined.items) (spec.Operand (operator_of x.operator) (expr_of x.value) (operands (map operand_of (drop (c.operands.operand-index + 1) c.deref-operand-items.result.now)))) =
     rw (next_tree c.deref-operand-items.result.now c.operands.operand-index x c.operands-test.true c.operand-item.is) at c.operands.invariant in
     let f = c.in_err-typed-2.field-0.0 in
-    value_err c.args.clause.now (progress_of c.args.blocks.now.items c.args.functions.now.items) _ _ _ f (search rules)
+    value_err c.args.clause.now (progress_of c.args.blocks.now.items c.args.functions.now.items) _ _ _ f (is_passed _ c.from_residual-in_err-typed-2.ensures.1)
     (rw tree (if_some (bind_refusal f) _ _ (λ r e. chain_operands c.args.clause.now.database.now c.args.clause.now.scopes.now (place_of c.args.clause.now.place) (progress_of c.args.blocks.now.items c.args.functions.now.items) (progress_of c.value.new.blocks.items c.value.new.functions.items) (expr_of c.in-Line.first.value) (operands (map operand_of c.deref-operand-items.result.now)) _ c.in_ok-scale.scale r kind h (fault_at_operand c.args.clause.now.database.now c.args.clause.now.scopes.now (place_of c.args.clause.now.place) (progress_of c.value.new.blocks.items c.value.new.functions.items) c.in_ok-scale.scale (operands (map operand_of c.deref-operand-items.result.now)) (progress_of c.operands.blocks.items c.operands.functions.items) c.operands.scale (map bound_operand_of c.operands.joined.items) (operator_of x.operator) (expr_of x.value) (operands (map operand_of (drop (c.operands.operand-index + 1) c.deref-operand-items.result.now))) r left e)) c.in_err-typed-2.ensures))
 
 -- src/value.rt:100:21
@@ -480,7 +480,7 @@ value::chain-returns t c =
     let kind : is_logical (operands (map operand_of c.deref-operand-items.result.now)) ≡ false = rw c.deref-operand-items.ensures.value (line_is c.args.line.now false c.in-Line.first c.in-Line.others c.requires.arithmetic c.in-Line.is) in
     let h : BindsValue c.args.clause.now.database.now c.args.clause.now.scopes.now (place_of c.args.clause.now.place) (progress_of c.args.blocks.now.items c.args.functions.now.items) (progress_of c.value.new.blocks.items c.value.new.functions.items) (expr_of c.in-Line.first.value) (value_of c.in_ok-typed.typed.value) (NumberType c.in_ok-scale.scale) = rw (c.deref.ensures, c.in_ok-scale.ensures.ok) at c.in_ok-typed.ensures in
     let left : OperandsLeft c.args.clause.now.database.now c.args.clause.now.scopes.now (place_of c.args.clause.now.place) (progress_of c.value.new.blocks.items c.value.new.functions.items) c.in_ok-scale.scale (operands (map operand_of c.deref-operand-items.result.now)) (progress_of c.operands.blocks.items c.operands.functions.items) c.operands.scale (map bound_operand_of c.operands.joined.items) spec.NoOperand = rw (no_tree c.deref-operand-items.result.now c.operands.operand-index c.operands-test.false) at c.operands.invariant in
-    rw (tree, bound_chain c.in_ok-first.first c.operands.joined, c.in_ok-first.ensures.ok)
+    rw (tree, bound_chain c.in_ok-head.head c.operands.joined, c.in_ok-head.ensures.ok)
     (binds_chain c.args.clause.now.database.now c.args.clause.now.scopes.now (place_of c.args.clause.now.place) (progress_of c.args.blocks.now.items c.args.functions.now.items) (progress_of c.value.new.blocks.items c.value.new.functions.items) (progress_of c.operands.blocks.items c.operands.functions.items) (expr_of c.in-Line.first.value) (operands (map operand_of c.deref-operand-items.result.now)) _ c.in_ok-scale.scale c.operands.scale (map bound_operand_of c.operands.joined.items) kind h (end_operands c.args.clause.now.database.now c.args.clause.now.scopes.now (place_of c.args.clause.now.place) (progress_of c.value.new.blocks.items c.value.new.functions.items) c.in_ok-scale.scale (operands (map operand_of c.deref-operand-items.result.now)) (progress_of c.operands.blocks.items c.operands.functions.items) c.operands.scale (map bound_operand_of c.operands.joined.items) left))
 
 -- src/value.rt:135:17
@@ -489,7 +489,7 @@ value::set_function-returns-in_err-typed t c =
     λ bound few.
     let f = c.in_err-typed.field-0.0 in
     let inner : IfSome (bind_refusal f) (RefusesValue c.args.clause.now.database.now c.args.clause.now.scopes.now InArgument nothing_bound (expr_of c.args.argument.now)) = rw (c.new-no_blocks.ensures.items, c.new-no_functions.ensures.items) at c.in_err-typed.ensures in
-    value_err c.args.clause.now (record { blocks = bound; functions = map bound_function_of c.args.functions.now.items }) _ _ _ f (search rules) (if_some (bind_refusal f) _ _ (λ r e. function_argument c.args.clause.now.database.now c.args.clause.now.scopes.now (place_of c.args.clause.now.place) (record { blocks = bound; functions = map bound_function_of c.args.functions.now.items }) (function_of c.args.function) c.args.distinct (expr_of c.args.argument.now) r c.requires.shown e) inner)
+    value_err c.args.clause.now (record { blocks = bound; functions = map bound_function_of c.args.functions.now.items }) _ _ _ f (is_passed _ c.from_residual.ensures.1) (if_some (bind_refusal f) _ _ (λ r e. function_argument c.args.clause.now.database.now c.args.clause.now.scopes.now (place_of c.args.clause.now.place) (record { blocks = bound; functions = map bound_function_of c.args.functions.now.items }) (function_of c.args.function) c.args.distinct (expr_of c.args.argument.now) r c.requires.shown e) inner)
 
 -- src/value.rt:136:22
 pub value::set_function-returns-in_err-value_type :
@@ -525,7 +525,7 @@ value::value-returns-in_err-typed-in-Signed t c =
     let tree = ap expr_of c.in-Signed.is ∙ of_signed c.in-Signed.start c.in-Signed.minus c.in-Signed.operand in
     let f = c.in_err-typed-in-Signed.field-0.0 in
     let inner : IfSome (bind_refusal f) (RefusesValue c.args.clause.now.database.now c.args.clause.now.scopes.now (place_of c.args.clause.now.place) (progress_of c.args.blocks.now.items c.args.functions.now.items) (expr_of c.in-Signed.operand.value)) = rw c.deref.ensures at c.in_err-typed-in-Signed.ensures in
-    value_err c.args.clause.now (progress_of c.args.blocks.now.items c.args.functions.now.items) _ _ _ f (search rules) (rw tree (if_some (bind_refusal f) _ _ (signed_operand c.args.clause.now.database.now c.args.clause.now.scopes.now (place_of c.args.clause.now.place) (progress_of c.args.blocks.now.items c.args.functions.now.items) c.in-Signed.minus (expr_of c.in-Signed.operand.value)) inner))
+    value_err c.args.clause.now (progress_of c.args.blocks.now.items c.args.functions.now.items) _ _ _ f (is_passed _ c.from_residual-in_err-typed-in-Signed.ensures.1) (rw tree (if_some (bind_refusal f) _ _ (signed_operand c.args.clause.now.database.now c.args.clause.now.scopes.now (place_of c.args.clause.now.place) (progress_of c.args.blocks.now.items c.args.functions.now.items) c.in-Signed.minus (expr_of c.in-Signed.operand.value)) inner))
 
 -- src/value.rt:43:25
 pub value::value-returns-in_err-scale-in-Signed : goal.value::value-returns-in_err-scale-in-Signed
@@ -543,7 +543,7 @@ value::value-returns-in_err-block-in-Scalar t c =
     let tree = ap expr_of c.in-Scalar.is ∙ of_scalar c.in-Scalar.start c.in-Scalar.query in
     let f = c.in_err-block-in-Scalar.field-0.0 in
     let inner : IfSome (bind_refusal f) (RefusesColumn c.args.clause.now.database.now c.args.clause.now.scopes.now (place_of c.args.clause.now.place) (progress_of c.args.blocks.now.items c.args.functions.now.items) (query_of c.in-Scalar.query.value)) = rw c.deref-in-Scalar.ensures at (c.in_err-block-in-Scalar.ensures (map bound_function_of c.args.functions.now.items)) in
-    value_err c.args.clause.now (progress_of c.args.blocks.now.items c.args.functions.now.items) _ _ _ f (search rules) (rw tree (if_some (bind_refusal f) _ _ (scalar_query c.args.clause.now.database.now c.args.clause.now.scopes.now (place_of c.args.clause.now.place) (progress_of c.args.blocks.now.items c.args.functions.now.items) (query_of c.in-Scalar.query.value)) inner))
+    value_err c.args.clause.now (progress_of c.args.blocks.now.items c.args.functions.now.items) _ _ _ f (is_passed _ c.from_residual-in_err-block-in-Scalar.ensures.1) (rw tree (if_some (bind_refusal f) _ _ (scalar_query c.args.clause.now.database.now c.args.clause.now.scopes.now (place_of c.args.clause.now.place) (progress_of c.args.blocks.now.items c.args.functions.now.items) (query_of c.in-Scalar.query.value)) inner))
 
 -- src/value.rt:63:13
 pub value::value-returns-in_err-judge_function-in-CountRows :
@@ -584,12 +584,12 @@ value::value-returns-in_ok-string-in-String t c =
     rw tree (binds_string c.args.clause.now.database.now c.args.clause.now.scopes.now (place_of c.args.clause.now.place) _ (text_of c.in-String.literal) _ _ (few_blocks c.args.blocks.now.items c.requires.few) (c.in_ok-string-in-String.ensures c.args.clause.now.database.now c.args.clause.now.scopes.now (place_of c.args.clause.now.place)))
 
 -- src/value.rt:26:1
-pub value::value-returns-in_ok-new-in-Signed : goal.value::value-returns-in_ok-new-in-Signed
-value::value-returns-in_ok-new-in-Signed t c =
+pub value::value-returns-in_ok-scale-in-Signed : goal.value::value-returns-in_ok-scale-in-Signed
+value::value-returns-in_ok-scale-in-Signed t c =
     let tree = ap expr_of c.in-Signed.is ∙ of_signed c.in-Signed.start c.in-Signed.minus c.in-Signed.operand in
     let operand : BindsValue c.args.clause.now.database.now c.args.clause.now.scopes.now (place_of c.args.clause.now.place) (progress_of c.args.blocks.now.items c.args.functions.now.items) (progress_of c.value.new.blocks.items c.value.new.functions.items) (expr_of c.in-Signed.operand.value) (value_of c.in_ok-typed-in-Signed.typed.value) (NumberType c.in_ok-scale-in-Signed.scale) =
     rw (c.deref.ensures, c.in_ok-scale-in-Signed.ensures.ok) at c.in_ok-typed-in-Signed.ensures in
-    rw (tree, bound_signed c.in-Signed.minus c.in_ok-new-in-Signed.field-0, c.in_ok-new-in-Signed.ensures.ok)
+    rw (tree, bound_signed c.in-Signed.minus c.in_ok-signed-in-Signed.signed, c.in_ok-signed-in-Signed.ensures.ok)
     (binds_signed c.args.clause.now.database.now c.args.clause.now.scopes.now (place_of c.args.clause.now.place) (progress_of c.args.blocks.now.items c.args.functions.now.items) (progress_of c.value.new.blocks.items c.value.new.functions.items) c.in-Signed.minus (expr_of c.in-Signed.operand.value) _ c.in_ok-scale-in-Signed.scale operand)
 
 -- src/value.rt:26:1
@@ -640,7 +640,7 @@ pub condition::negation-returns-in_err-operand :
 condition::negation-returns-in_err-operand t c =
     let f = c.in_err-operand.field-0.0 in
     let inner : IfSome (bind_refusal f) (RefusesCondition c.args.clause.now.database.now c.args.clause.now.scopes.now (place_of c.args.clause.now.place) (progress_of c.args.blocks.now.items c.args.functions.now.items) (expr_of c.args.operand.now)) = c.in_err-operand.ensures in
-    condition_err c.args.clause.now (progress_of c.args.blocks.now.items c.args.functions.now.items) _ _ _ f (search rules) ((if_some (bind_refusal f) _ _ (not_operand c.args.clause.now.database.now c.args.clause.now.scopes.now (place_of c.args.clause.now.place) (progress_of c.args.blocks.now.items c.args.functions.now.items) (expr_of c.args.operand.now)) inner))
+    condition_err c.args.clause.now (progress_of c.args.blocks.now.items c.args.functions.now.items) _ _ _ f (is_passed _ c.from_residual.ensures.1) ((if_some (bind_refusal f) _ _ (not_operand c.args.clause.now.database.now c.args.clause.now.scopes.now (place_of c.args.clause.now.place) (progress_of c.args.blocks.now.items c.args.functions.now.items) (expr_of c.args.operand.now)) inner))
 
 pub condition::negation-returns :
     goal.condition::negation-returns
@@ -655,7 +655,7 @@ condition::comparison-returns-in_err-left t c =
     let tree = ap expr_of c.in-Compare.is ∙ of_compare c.in-Compare.start c.in-Compare.op c.in-Compare.left c.in-Compare.other in
     let f = c.in_err-left.field-0.0 in
     let inner : IfSome (bind_refusal f) (RefusesValue c.args.clause.now.database.now c.args.clause.now.scopes.now (place_of c.args.clause.now.place) (progress_of c.args.blocks.now.items c.args.functions.now.items) (expr_of c.in-Compare.left.value)) = rw c.deref.ensures at c.in_err-left.ensures in
-    condition_err c.args.clause.now (progress_of c.args.blocks.now.items c.args.functions.now.items) _ _ _ f (search rules) (rw tree (if_some (bind_refusal f) _ _ (compare_left c.args.clause.now.database.now c.args.clause.now.scopes.now (place_of c.args.clause.now.place) (progress_of c.args.blocks.now.items c.args.functions.now.items) (op_of c.in-Compare.op) (expr_of c.in-Compare.left.value) (expr_of c.in-Compare.other.value)) inner))
+    condition_err c.args.clause.now (progress_of c.args.blocks.now.items c.args.functions.now.items) _ _ _ f (is_passed _ c.from_residual.ensures.1) (rw tree (if_some (bind_refusal f) _ _ (compare_left c.args.clause.now.database.now c.args.clause.now.scopes.now (place_of c.args.clause.now.place) (progress_of c.args.blocks.now.items c.args.functions.now.items) (op_of c.in-Compare.op) (expr_of c.in-Compare.left.value) (expr_of c.in-Compare.other.value)) inner))
 
 pub condition::comparison-value-requires-2 :
     goal.condition::comparison-value-requires-2
@@ -670,7 +670,7 @@ condition::comparison-returns-in_err-right t c =
     let first : BindsValue c.args.clause.now.database.now c.args.clause.now.scopes.now (place_of c.args.clause.now.place) (progress_of c.args.blocks.now.items c.args.functions.now.items) (progress_of c.value.new.blocks.items c.value.new.functions.items) (expr_of c.in-Compare.left.value) (value_of c.in_ok-left.left.value) (value_type_of c.in_ok-left.left.value_type) = rw c.deref.ensures at c.in_ok-left.ensures in
     let f = c.in_err-right.field-0.0 in
     let inner : IfSome (bind_refusal f) (RefusesValue c.args.clause.now.database.now c.args.clause.now.scopes.now (place_of c.args.clause.now.place) (progress_of c.value.new.blocks.items c.value.new.functions.items) (expr_of c.in-Compare.other.value)) = rw c.deref-2.ensures at c.in_err-right.ensures in
-    condition_err c.args.clause.now (progress_of c.args.blocks.now.items c.args.functions.now.items) _ _ _ f (search rules) (rw tree (if_some (bind_refusal f) _ _ (λ r e. compare_right c.args.clause.now.database.now c.args.clause.now.scopes.now (place_of c.args.clause.now.place) (progress_of c.args.blocks.now.items c.args.functions.now.items) (progress_of c.value.new.blocks.items c.value.new.functions.items) (op_of c.in-Compare.op) (expr_of c.in-Compare.left.value) (expr_of c.in-Compare.other.value) (value_of c.in_ok-left.left.value) (value_type_of c.in_ok-left.left.value_type) r first e) inner))
+    condition_err c.args.clause.now (progress_of c.args.blocks.now.items c.args.functions.now.items) _ _ _ f (is_passed _ c.from_residual-in_err-right.ensures.1) (rw tree (if_some (bind_refusal f) _ _ (λ r e. compare_right c.args.clause.now.database.now c.args.clause.now.scopes.now (place_of c.args.clause.now.place) (progress_of c.args.blocks.now.items c.args.functions.now.items) (progress_of c.value.new.blocks.items c.value.new.functions.items) (op_of c.in-Compare.op) (expr_of c.in-Compare.left.value) (expr_of c.in-Compare.other.value) (value_of c.in_ok-left.left.value) (value_type_of c.in_ok-left.left.value_type) r first e) inner))
 
 pub condition::comparison-returns-in_err-judge_kinds :
     goal.condition::comparison-returns-in_err-judge_kinds
@@ -697,7 +697,7 @@ condition::quantified_comparison-returns-in_err-left t c =
     let tree = ap expr_of c.in-CompareAll.is ∙ of_compare_all c.in-CompareAll.start c.in-CompareAll.op c.in-CompareAll.quantifier c.in-CompareAll.left c.in-CompareAll.query in
     let f = c.in_err-left.field-0.0 in
     let inner : IfSome (bind_refusal f) (RefusesValue c.args.clause.now.database.now c.args.clause.now.scopes.now (place_of c.args.clause.now.place) (progress_of c.args.blocks.now.items c.args.functions.now.items) (expr_of c.in-CompareAll.left.value)) = rw c.deref.ensures at c.in_err-left.ensures in
-    condition_err c.args.clause.now (progress_of c.args.blocks.now.items c.args.functions.now.items) _ _ _ f (search rules) (rw tree (if_some (bind_refusal f) _ _ (λ r e. test_operand c.args.clause.now.database.now c.args.clause.now.scopes.now (place_of c.args.clause.now.place) (progress_of c.args.blocks.now.items c.args.functions.now.items) (spec.CompareAll (op_of c.in-CompareAll.op) (quantifier_of c.in-CompareAll.quantifier) (expr_of c.in-CompareAll.left.value) (query_of c.in-CompareAll.query.value)) (expr_of c.in-CompareAll.left.value) (query_of c.in-CompareAll.query.value) (b.Quantified (op_of c.in-CompareAll.op) (quantifier_of c.in-CompareAll.quantifier)) r (compare_all (op_of c.in-CompareAll.op) (quantifier_of c.in-CompareAll.quantifier)) e) inner))
+    condition_err c.args.clause.now (progress_of c.args.blocks.now.items c.args.functions.now.items) _ _ _ f (is_passed _ c.from_residual.ensures.1) (rw tree (if_some (bind_refusal f) _ _ (λ r e. test_operand c.args.clause.now.database.now c.args.clause.now.scopes.now (place_of c.args.clause.now.place) (progress_of c.args.blocks.now.items c.args.functions.now.items) (spec.CompareAll (op_of c.in-CompareAll.op) (quantifier_of c.in-CompareAll.quantifier) (expr_of c.in-CompareAll.left.value) (query_of c.in-CompareAll.query.value)) (expr_of c.in-CompareAll.left.value) (query_of c.in-CompareAll.query.value) (b.Quantified (op_of c.in-CompareAll.op) (quantifier_of c.in-CompareAll.quantifier)) r (compare_all (op_of c.in-CompareAll.op) (quantifier_of c.in-CompareAll.quantifier)) e) inner))
 
 pub condition::quantified_comparison-column_of_query-requires :
     goal.condition::quantified_comparison-column_of_query-requires
@@ -712,7 +712,7 @@ condition::quantified_comparison-returns-in_err-block t c =
     let first : BindsValue c.args.clause.now.database.now c.args.clause.now.scopes.now (place_of c.args.clause.now.place) (progress_of c.args.blocks.now.items c.args.functions.now.items) (progress_of c.value.new.blocks.items c.value.new.functions.items) (expr_of c.in-CompareAll.left.value) (value_of c.in_ok-left.left.value) (value_type_of c.in_ok-left.left.value_type) = rw c.deref.ensures at c.in_ok-left.ensures in
     let f = c.in_err-block.field-0.0 in
     let inner : IfSome (bind_refusal f) (RefusesColumn c.args.clause.now.database.now c.args.clause.now.scopes.now (place_of c.args.clause.now.place) (progress_of c.value.new.blocks.items c.value.new.functions.items) (query_of c.in-CompareAll.query.value)) = rw c.deref-2.ensures at (c.in_err-block.ensures (map bound_function_of c.value.new.functions.items)) in
-    condition_err c.args.clause.now (progress_of c.args.blocks.now.items c.args.functions.now.items) _ _ _ f (search rules) (rw tree (if_some (bind_refusal f) _ _ (λ r e. test_query c.args.clause.now.database.now c.args.clause.now.scopes.now (place_of c.args.clause.now.place) (progress_of c.args.blocks.now.items c.args.functions.now.items) (progress_of c.value.new.blocks.items c.value.new.functions.items) (spec.CompareAll (op_of c.in-CompareAll.op) (quantifier_of c.in-CompareAll.quantifier) (expr_of c.in-CompareAll.left.value) (query_of c.in-CompareAll.query.value)) (expr_of c.in-CompareAll.left.value) (query_of c.in-CompareAll.query.value) (b.Quantified (op_of c.in-CompareAll.op) (quantifier_of c.in-CompareAll.quantifier)) (value_of c.in_ok-left.left.value) (value_type_of c.in_ok-left.left.value_type) r (compare_all (op_of c.in-CompareAll.op) (quantifier_of c.in-CompareAll.quantifier)) first e) inner))
+    condition_err c.args.clause.now (progress_of c.args.blocks.now.items c.args.functions.now.items) _ _ _ f (is_passed _ c.from_residual-in_err-block.ensures.1) (rw tree (if_some (bind_refusal f) _ _ (λ r e. test_query c.args.clause.now.database.now c.args.clause.now.scopes.now (place_of c.args.clause.now.place) (progress_of c.args.blocks.now.items c.args.functions.now.items) (progress_of c.value.new.blocks.items c.value.new.functions.items) (spec.CompareAll (op_of c.in-CompareAll.op) (quantifier_of c.in-CompareAll.quantifier) (expr_of c.in-CompareAll.left.value) (query_of c.in-CompareAll.query.value)) (expr_of c.in-CompareAll.left.value) (query_of c.in-CompareAll.query.value) (b.Quantified (op_of c.in-CompareAll.op) (quantifier_of c.in-CompareAll.quantifier)) (value_of c.in_ok-left.left.value) (value_type_of c.in_ok-left.left.value_type) r (compare_all (op_of c.in-CompareAll.op) (quantifier_of c.in-CompareAll.quantifier)) first e) inner))
 
 pub condition::quantified_comparison-returns-in_err-judge_kinds :
     goal.condition::quantified_comparison-returns-in_err-judge_kinds
@@ -738,7 +738,7 @@ pub condition::null_test-returns-in_err-typed :
 condition::null_test-returns-in_err-typed t c =
     let f = c.in_err-typed.field-0.0 in
     let inner : IfSome (bind_refusal f) (RefusesValue c.args.clause.now.database.now c.args.clause.now.scopes.now (place_of c.args.clause.now.place) (progress_of c.args.blocks.now.items c.args.functions.now.items) (expr_of c.args.operand.now)) = c.in_err-typed.ensures in
-    condition_err c.args.clause.now (progress_of c.args.blocks.now.items c.args.functions.now.items) _ _ _ f (search rules) ((if_some (bind_refusal f) _ _ (is_null_operand c.args.clause.now.database.now c.args.clause.now.scopes.now (place_of c.args.clause.now.place) (progress_of c.args.blocks.now.items c.args.functions.now.items) c.args.negated (expr_of c.args.operand.now)) inner))
+    condition_err c.args.clause.now (progress_of c.args.blocks.now.items c.args.functions.now.items) _ _ _ f (is_passed _ c.from_residual.ensures.1) ((if_some (bind_refusal f) _ _ (is_null_operand c.args.clause.now.database.now c.args.clause.now.scopes.now (place_of c.args.clause.now.place) (progress_of c.args.blocks.now.items c.args.functions.now.items) c.args.negated (expr_of c.args.operand.now)) inner))
 
 pub condition::null_test-returns :
     goal.condition::null_test-returns
@@ -752,7 +752,7 @@ condition::between-returns-in_err-typed t c =
     let tree = ap expr_of c.in-Between.is ∙ of_between c.in-Between.start c.in-Between.negated c.in-Between.operand c.in-Between.least c.in-Between.greatest in
     let f = c.in_err-typed.field-0.0 in
     let inner : IfSome (bind_refusal f) (RefusesValue c.args.clause.now.database.now c.args.clause.now.scopes.now (place_of c.args.clause.now.place) (progress_of c.args.blocks.now.items c.args.functions.now.items) (expr_of c.in-Between.operand.value)) = rw c.deref.ensures at c.in_err-typed.ensures in
-    condition_err c.args.clause.now (progress_of c.args.blocks.now.items c.args.functions.now.items) _ _ _ f (search rules) (rw tree (if_some (bind_refusal f) _ _ (between_operand c.args.clause.now.database.now c.args.clause.now.scopes.now (place_of c.args.clause.now.place) (progress_of c.args.blocks.now.items c.args.functions.now.items) c.in-Between.negated (expr_of c.in-Between.operand.value) (expr_of c.in-Between.least.value) (expr_of c.in-Between.greatest.value)) inner))
+    condition_err c.args.clause.now (progress_of c.args.blocks.now.items c.args.functions.now.items) _ _ _ f (is_passed _ c.from_residual.ensures.1) (rw tree (if_some (bind_refusal f) _ _ (between_operand c.args.clause.now.database.now c.args.clause.now.scopes.now (place_of c.args.clause.now.place) (progress_of c.args.blocks.now.items c.args.functions.now.items) c.in-Between.negated (expr_of c.in-Between.operand.value) (expr_of c.in-Between.least.value) (expr_of c.in-Between.greatest.value)) inner))
 
 pub condition::between-value-requires-2 :
     goal.condition::between-value-requires-2
@@ -767,7 +767,7 @@ condition::between-returns-in_err-low t c =
     let first : BindsValue c.args.clause.now.database.now c.args.clause.now.scopes.now (place_of c.args.clause.now.place) (progress_of c.args.blocks.now.items c.args.functions.now.items) (progress_of c.value.new.blocks.items c.value.new.functions.items) (expr_of c.in-Between.operand.value) (value_of c.in_ok-typed.typed.value) (value_type_of c.in_ok-typed.typed.value_type) = rw c.deref.ensures at c.in_ok-typed.ensures in
     let f = c.in_err-low.field-0.0 in
     let inner : IfSome (bind_refusal f) (RefusesValue c.args.clause.now.database.now c.args.clause.now.scopes.now (place_of c.args.clause.now.place) (progress_of c.value.new.blocks.items c.value.new.functions.items) (expr_of c.in-Between.least.value)) = rw c.deref-2.ensures at c.in_err-low.ensures in
-    condition_err c.args.clause.now (progress_of c.args.blocks.now.items c.args.functions.now.items) _ _ _ f (search rules) (rw tree (if_some (bind_refusal f) _ _ (λ r x. between_low c.args.clause.now.database.now c.args.clause.now.scopes.now (place_of c.args.clause.now.place) (progress_of c.args.blocks.now.items c.args.functions.now.items) (progress_of c.value.new.blocks.items c.value.new.functions.items) c.in-Between.negated (expr_of c.in-Between.operand.value) (expr_of c.in-Between.least.value) (expr_of c.in-Between.greatest.value) (value_of c.in_ok-typed.typed.value) (value_type_of c.in_ok-typed.typed.value_type) r first x) inner))
+    condition_err c.args.clause.now (progress_of c.args.blocks.now.items c.args.functions.now.items) _ _ _ f (is_passed _ c.from_residual-in_err-low.ensures.1) (rw tree (if_some (bind_refusal f) _ _ (λ r x. between_low c.args.clause.now.database.now c.args.clause.now.scopes.now (place_of c.args.clause.now.place) (progress_of c.args.blocks.now.items c.args.functions.now.items) (progress_of c.value.new.blocks.items c.value.new.functions.items) c.in-Between.negated (expr_of c.in-Between.operand.value) (expr_of c.in-Between.least.value) (expr_of c.in-Between.greatest.value) (value_of c.in_ok-typed.typed.value) (value_type_of c.in_ok-typed.typed.value_type) r first x) inner))
 
 pub condition::between-value-requires-3 :
     goal.condition::between-value-requires-3
@@ -783,7 +783,7 @@ condition::between-returns-in_err-high t c =
     let second : BindsValue c.args.clause.now.database.now c.args.clause.now.scopes.now (place_of c.args.clause.now.place) (progress_of c.value.new.blocks.items c.value.new.functions.items) (progress_of c.value-2.new.blocks.items c.value-2.new.functions.items) (expr_of c.in-Between.least.value) (value_of c.in_ok-low.low.value) (value_type_of c.in_ok-low.low.value_type) = rw c.deref-2.ensures at c.in_ok-low.ensures in
     let f = c.in_err-high.field-0.0 in
     let inner : IfSome (bind_refusal f) (RefusesValue c.args.clause.now.database.now c.args.clause.now.scopes.now (place_of c.args.clause.now.place) (progress_of c.value-2.new.blocks.items c.value-2.new.functions.items) (expr_of c.in-Between.greatest.value)) = rw c.deref-3.ensures at c.in_err-high.ensures in
-    condition_err c.args.clause.now (progress_of c.args.blocks.now.items c.args.functions.now.items) _ _ _ f (search rules) (rw tree (if_some (bind_refusal f) _ _ (λ r x. between_high c.args.clause.now.database.now c.args.clause.now.scopes.now (place_of c.args.clause.now.place) (progress_of c.args.blocks.now.items c.args.functions.now.items) (progress_of c.value.new.blocks.items c.value.new.functions.items) (progress_of c.value-2.new.blocks.items c.value-2.new.functions.items) c.in-Between.negated (expr_of c.in-Between.operand.value) (expr_of c.in-Between.least.value) (expr_of c.in-Between.greatest.value) (value_of c.in_ok-typed.typed.value) (value_of c.in_ok-low.low.value) (value_type_of c.in_ok-typed.typed.value_type) (value_type_of c.in_ok-low.low.value_type) r first second x) inner))
+    condition_err c.args.clause.now (progress_of c.args.blocks.now.items c.args.functions.now.items) _ _ _ f (is_passed _ c.from_residual-in_err-high.ensures.1) (rw tree (if_some (bind_refusal f) _ _ (λ r x. between_high c.args.clause.now.database.now c.args.clause.now.scopes.now (place_of c.args.clause.now.place) (progress_of c.args.blocks.now.items c.args.functions.now.items) (progress_of c.value.new.blocks.items c.value.new.functions.items) (progress_of c.value-2.new.blocks.items c.value-2.new.functions.items) c.in-Between.negated (expr_of c.in-Between.operand.value) (expr_of c.in-Between.least.value) (expr_of c.in-Between.greatest.value) (value_of c.in_ok-typed.typed.value) (value_of c.in_ok-low.low.value) (value_type_of c.in_ok-typed.typed.value_type) (value_type_of c.in_ok-low.low.value_type) r first second x) inner))
 
 pub condition::between-returns-in_err-judge_kinds :
     goal.condition::between-returns-in_err-judge_kinds
@@ -820,7 +820,7 @@ pub condition::like-returns-in_err-typed :
 condition::like-returns-in_err-typed t c =
     let f = c.in_err-typed.field-0.0 in
     let inner : IfSome (bind_refusal f) (RefusesValue c.args.clause.now.database.now c.args.clause.now.scopes.now (place_of c.args.clause.now.place) (progress_of c.args.blocks.now.items c.args.functions.now.items) (expr_of c.args.operand.now)) = c.in_err-typed.ensures in
-    condition_err c.args.clause.now (progress_of c.args.blocks.now.items c.args.functions.now.items) _ _ _ f (search rules) ((if_some (bind_refusal f) _ _ (like_operand c.args.clause.now.database.now c.args.clause.now.scopes.now (place_of c.args.clause.now.place) (progress_of c.args.blocks.now.items c.args.functions.now.items) c.args.negated (expr_of c.args.operand.now) (text_of c.args.pattern.now)) inner))
+    condition_err c.args.clause.now (progress_of c.args.blocks.now.items c.args.functions.now.items) _ _ _ f (is_passed _ c.from_residual-in_err-typed.ensures.1) ((if_some (bind_refusal f) _ _ (like_operand c.args.clause.now.database.now c.args.clause.now.scopes.now (place_of c.args.clause.now.place) (progress_of c.args.blocks.now.items c.args.functions.now.items) c.args.negated (expr_of c.args.operand.now) (text_of c.args.pattern.now)) inner))
 
 pub condition::like-returns-in-Number : goal.condition::like-returns-in-Number
 condition::like-returns-in-Number t c =
@@ -832,7 +832,7 @@ pub condition::like-returns :
 condition::like-returns t c =
     let first : BindsValue c.args.clause.now.database.now c.args.clause.now.scopes.now (place_of c.args.clause.now.place) (progress_of c.args.blocks.now.items c.args.functions.now.items) (progress_of c.value.new.blocks.items c.value.new.functions.items) (expr_of c.args.operand.now) (value_of c.in_ok-typed.typed.value) (value_type_of c.in_ok-typed.typed.value_type) = c.in_ok-typed.ensures in
     let text : BindsValue c.args.clause.now.database.now c.args.clause.now.scopes.now (place_of c.args.clause.now.place) (progress_of c.args.blocks.now.items c.args.functions.now.items) (progress_of c.value.new.blocks.items c.value.new.functions.items) (expr_of c.args.operand.now) (value_of c.in_ok-typed.typed.value) TextType = rw (is_text c.in_ok-typed.typed.value_type c.in_default.not-Number) at first in
-    rw (bound_like c.args.negated c.in_ok-typed.typed.value c.in_ok-from_str.field-0, c.in_ok-from_str.ensures.ok, c.as_str.ensures.value)
+    rw (bound_like c.args.negated c.in_ok-typed.typed.value c.in_ok-pattern.pattern, c.in_ok-pattern.ensures.ok, c.as_str.ensures.value)
     (binds_like c.args.clause.now.database.now c.args.clause.now.scopes.now (place_of c.args.clause.now.place) (progress_of c.args.blocks.now.items c.args.functions.now.items) (progress_of c.value.new.blocks.items c.value.new.functions.items) c.args.negated (expr_of c.args.operand.now) (text_of c.args.pattern.now) (value_of c.in_ok-typed.typed.value) text)
 
 pub condition::in_list-returns-then-len-gt-MAX_MEMBERS :
@@ -848,7 +848,7 @@ condition::in_list-returns-in_err-typed t c =
     let tree = ap expr_of c.in-InList.is ∙ of_in_list c.in-InList.start c.in-InList.negated c.in-InList.operand c.in-InList.members in
     let f = c.in_err-typed.field-0.0 in
     let inner : IfSome (bind_refusal f) (RefusesValue c.args.clause.now.database.now c.args.clause.now.scopes.now (place_of c.args.clause.now.place) (progress_of c.args.blocks.now.items c.args.functions.now.items) (expr_of c.in-InList.operand.value)) = rw c.deref.ensures at c.in_err-typed.ensures in
-    condition_err c.args.clause.now (progress_of c.args.blocks.now.items c.args.functions.now.items) _ _ _ f (search rules) (rw tree (if_some (bind_refusal f) _ _ (in_list_operand c.args.clause.now.database.now c.args.clause.now.scopes.now (place_of c.args.clause.now.place) (progress_of c.args.blocks.now.items c.args.functions.now.items) c.in-InList.negated (expr_of c.in-InList.operand.value) (member_list (map member_of c.in-InList.members.items))) inner))
+    condition_err c.args.clause.now (progress_of c.args.blocks.now.items c.args.functions.now.items) _ _ _ f (is_passed _ c.from_residual.ensures.1) (rw tree (if_some (bind_refusal f) _ _ (in_list_operand c.args.clause.now.database.now c.args.clause.now.scopes.now (place_of c.args.clause.now.place) (progress_of c.args.blocks.now.items c.args.functions.now.items) c.in-InList.negated (expr_of c.in-InList.operand.value) (member_list (map member_of c.in-InList.members.items))) inner))
 
 pub condition::in_list-bound_members-requires : goal.condition::in_list-bound_members-requires
 condition::in_list-bound_members-requires t c =
@@ -862,7 +862,7 @@ condition::in_list-returns-in_err-members t c =
     let first : BindsValue c.args.clause.now.database.now c.args.clause.now.scopes.now (place_of c.args.clause.now.place) (progress_of c.args.blocks.now.items c.args.functions.now.items) (progress_of c.value.new.blocks.items c.value.new.functions.items) (expr_of c.in-InList.operand.value) (value_of c.in_ok-typed.typed.value) (value_type_of c.in_ok-typed.typed.value_type) = rw c.deref.ensures at c.in_ok-typed.ensures in
     let f = c.in_err-members.field-0.0 in
     let inner : IfSome (bind_refusal f) (RefusesMembers c.args.clause.now.database.now c.args.clause.now.scopes.now (place_of c.args.clause.now.place) (progress_of c.value.new.blocks.items c.value.new.functions.items) (value_type_of c.in_ok-typed.typed.value_type) (member_list (map member_of c.in-InList.members.items))) = rw tree at c.in_err-members.ensures in
-    condition_err c.args.clause.now (progress_of c.args.blocks.now.items c.args.functions.now.items) _ _ _ f (search rules) (rw tree (if_some (bind_refusal f) _ _ (λ r x. in_list_members c.args.clause.now.database.now c.args.clause.now.scopes.now (place_of c.args.clause.now.place) (progress_of c.args.blocks.now.items c.args.functions.now.items) (progress_of c.value.new.blocks.items c.value.new.functions.items) c.in-InList.negated (expr_of c.in-InList.operand.value) (member_list (map member_of c.in-InList.members.items)) (value_of c.in_ok-typed.typed.value) (value_type_of c.in_ok-typed.typed.value_type) r first x) inner))
+    condition_err c.args.clause.now (progress_of c.args.blocks.now.items c.args.functions.now.items) _ _ _ f (is_passed _ c.from_residual-in_err-members.ensures.1) (rw tree (if_some (bind_refusal f) _ _ (λ r x. in_list_members c.args.clause.now.database.now c.args.clause.now.scopes.now (place_of c.args.clause.now.place) (progress_of c.args.blocks.now.items c.args.functions.now.items) (progress_of c.value.new.blocks.items c.value.new.functions.items) c.in-InList.negated (expr_of c.in-InList.operand.value) (member_list (map member_of c.in-InList.members.items)) (value_of c.in_ok-typed.typed.value) (value_type_of c.in_ok-typed.typed.value_type) r first x) inner))
 
 pub condition::in_list-returns :
     goal.condition::in_list-returns
@@ -880,7 +880,7 @@ condition::in_query-returns-in_err-typed t c =
     let tree = ap expr_of c.in-InQuery.is ∙ of_in_query c.in-InQuery.start c.in-InQuery.negated c.in-InQuery.operand c.in-InQuery.query in
     let f = c.in_err-typed.field-0.0 in
     let inner : IfSome (bind_refusal f) (RefusesValue c.args.clause.now.database.now c.args.clause.now.scopes.now (place_of c.args.clause.now.place) (progress_of c.args.blocks.now.items c.args.functions.now.items) (expr_of c.in-InQuery.operand.value)) = rw c.deref.ensures at c.in_err-typed.ensures in
-    condition_err c.args.clause.now (progress_of c.args.blocks.now.items c.args.functions.now.items) _ _ _ f (search rules) (rw tree (if_some (bind_refusal f) _ _ (λ r e. test_operand c.args.clause.now.database.now c.args.clause.now.scopes.now (place_of c.args.clause.now.place) (progress_of c.args.blocks.now.items c.args.functions.now.items) (spec.InQuery c.in-InQuery.negated (expr_of c.in-InQuery.operand.value) (query_of c.in-InQuery.query.value)) (expr_of c.in-InQuery.operand.value) (query_of c.in-InQuery.query.value) (b.InQuery c.in-InQuery.negated) r (in_query c.in-InQuery.negated) e) inner))
+    condition_err c.args.clause.now (progress_of c.args.blocks.now.items c.args.functions.now.items) _ _ _ f (is_passed _ c.from_residual.ensures.1) (rw tree (if_some (bind_refusal f) _ _ (λ r e. test_operand c.args.clause.now.database.now c.args.clause.now.scopes.now (place_of c.args.clause.now.place) (progress_of c.args.blocks.now.items c.args.functions.now.items) (spec.InQuery c.in-InQuery.negated (expr_of c.in-InQuery.operand.value) (query_of c.in-InQuery.query.value)) (expr_of c.in-InQuery.operand.value) (query_of c.in-InQuery.query.value) (b.InQuery c.in-InQuery.negated) r (in_query c.in-InQuery.negated) e) inner))
 
 pub condition::in_query-column_of_query-requires :
     goal.condition::in_query-column_of_query-requires
@@ -895,7 +895,7 @@ condition::in_query-returns-in_err-block t c =
     let first : BindsValue c.args.clause.now.database.now c.args.clause.now.scopes.now (place_of c.args.clause.now.place) (progress_of c.args.blocks.now.items c.args.functions.now.items) (progress_of c.value.new.blocks.items c.value.new.functions.items) (expr_of c.in-InQuery.operand.value) (value_of c.in_ok-typed.typed.value) (value_type_of c.in_ok-typed.typed.value_type) = rw c.deref.ensures at c.in_ok-typed.ensures in
     let f = c.in_err-block.field-0.0 in
     let inner : IfSome (bind_refusal f) (RefusesColumn c.args.clause.now.database.now c.args.clause.now.scopes.now (place_of c.args.clause.now.place) (progress_of c.value.new.blocks.items c.value.new.functions.items) (query_of c.in-InQuery.query.value)) = rw c.deref-2.ensures at (c.in_err-block.ensures (map bound_function_of c.value.new.functions.items)) in
-    condition_err c.args.clause.now (progress_of c.args.blocks.now.items c.args.functions.now.items) _ _ _ f (search rules) (rw tree (if_some (bind_refusal f) _ _ (λ r e. test_query c.args.clause.now.database.now c.args.clause.now.scopes.now (place_of c.args.clause.now.place) (progress_of c.args.blocks.now.items c.args.functions.now.items) (progress_of c.value.new.blocks.items c.value.new.functions.items) (spec.InQuery c.in-InQuery.negated (expr_of c.in-InQuery.operand.value) (query_of c.in-InQuery.query.value)) (expr_of c.in-InQuery.operand.value) (query_of c.in-InQuery.query.value) (b.InQuery c.in-InQuery.negated) (value_of c.in_ok-typed.typed.value) (value_type_of c.in_ok-typed.typed.value_type) r (in_query c.in-InQuery.negated) first e) inner))
+    condition_err c.args.clause.now (progress_of c.args.blocks.now.items c.args.functions.now.items) _ _ _ f (is_passed _ c.from_residual-in_err-block.ensures.1) (rw tree (if_some (bind_refusal f) _ _ (λ r e. test_query c.args.clause.now.database.now c.args.clause.now.scopes.now (place_of c.args.clause.now.place) (progress_of c.args.blocks.now.items c.args.functions.now.items) (progress_of c.value.new.blocks.items c.value.new.functions.items) (spec.InQuery c.in-InQuery.negated (expr_of c.in-InQuery.operand.value) (query_of c.in-InQuery.query.value)) (expr_of c.in-InQuery.operand.value) (query_of c.in-InQuery.query.value) (b.InQuery c.in-InQuery.negated) (value_of c.in_ok-typed.typed.value) (value_type_of c.in_ok-typed.typed.value_type) r (in_query c.in-InQuery.negated) first e) inner))
 
 pub condition::in_query-returns-in_err-judge_kinds :
     goal.condition::in_query-returns-in_err-judge_kinds
@@ -921,7 +921,7 @@ pub condition::exists-returns-in_err-block :
 condition::exists-returns-in_err-block t c =
     let f = c.in_err-block.field-0.0 in
     let inner : IfSome (bind_refusal f) (RefusesQuery c.args.clause.now.database.now c.args.clause.now.scopes.now (place_of c.args.clause.now.place) (progress_of c.args.blocks.now.items c.args.functions.now.items) (query_of c.args.query.now)) = (c.in_err-block.ensures (map bound_function_of c.args.functions.now.items)) in
-    condition_err c.args.clause.now (progress_of c.args.blocks.now.items c.args.functions.now.items) _ _ _ f (search rules) ((if_some (bind_refusal f) _ _ (exists_query c.args.clause.now.database.now c.args.clause.now.scopes.now (place_of c.args.clause.now.place) (progress_of c.args.blocks.now.items c.args.functions.now.items) (query_of c.args.query.now)) inner))
+    condition_err c.args.clause.now (progress_of c.args.blocks.now.items c.args.functions.now.items) _ _ _ f (is_passed _ c.from_residual.ensures.1) ((if_some (bind_refusal f) _ _ (exists_query c.args.clause.now.database.now c.args.clause.now.scopes.now (place_of c.args.clause.now.place) (progress_of c.args.blocks.now.items c.args.functions.now.items) (query_of c.args.query.now)) inner))
 
 pub condition::exists-returns :
     goal.condition::exists-returns

@@ -12,6 +12,7 @@ use Rattle.query_rules.specs.Judging.{BindsBlock, RefusesBlock}
 use Rattle.query_rules.specs.Keys.{names_by, bound_keys, SomeKeyIsUnknown, RefusesOrder}
 use Rattle.query_rules.specs.Meaning.{bind_refusal}
 use Rattle.query_rules.proofs.Refused.{if_some}
+use Rattle.binder.proofs.Answering.{is_passed}
 use Rattle.binder.proofs.Queries.{answer_err, names_in, few_items, refused_block, refused_keys, accepted, first_of, with_keys, as_many_keys}
 use Rattle.binder.proofs.query.bind.Goals as goal
 
@@ -20,7 +21,7 @@ pub returns-in_err-block-clause-refused : goal.returns-in_err-block-clause-refus
 returns-in_err-block-clause-refused c =
     let f = c.in_err-block.field-0.0 in
     let inner : IfSome (bind_refusal f) (RefusesBlock c.args.database.now [] [] (query_of c.args.query.now.block)) = rw (c.outside.ensures, c.new-blocks.ensures.items) at c.in_err-block.ensures in
-    answer_err _ f _ (search rules) (if_some (bind_refusal f) _ _ (refused_block c.args.database.now (select_of c.args.query.now)) inner)
+    answer_err _ f _ (is_passed _ c.from_residual.ensures.1) (if_some (bind_refusal f) _ _ (refused_block c.args.database.now (select_of c.args.query.now)) inner)
 
 -- src/query.rt:34:23
 pub returns-in_err-blocks-clause-refused : goal.returns-in_err-blocks-clause-refused
@@ -29,7 +30,7 @@ returns-in_err-blocks-clause-refused c =
     let same : (names_by (list_of c.args.query.now.block.list) (map item_of c.deref.result.now)) ≡ names_in c.args.database.now (query_of c.args.query.now.block) = ap₂ names_by (sym (ap spec_list_of (of_block c.args.query.now.block))) (ap (map item_of) c.deref.ensures.value) ∙ first_of c.args.database.now (query_of c.args.query.now.block) c.block-2.new.blocks.items c.index.result.now c.index.ensures h.are in
     let f = c.in_err-blocks.field-0.0 in
     let inner : IfSome (bind_refusal f) (RefusesOrder (names_by (list_of c.args.query.now.block.list) (map item_of c.deref.result.now)) (map tree_key_of c.args.query.now.order.items)) = rw c.deref-2.ensures.value at c.in_err-blocks.ensures.refused in
-    answer_err _ f _ (search rules) (if_some (bind_refusal f) _ _ (λ r e. refused_keys c.args.database.now (select_of c.args.query.now) (names_by (list_of c.args.query.now.block.list) (map item_of c.deref.result.now)) r same h.there (few_items c.args.database.now (query_of c.args.query.now.block) h.accepted) e) inner)
+    answer_err _ f _ (is_passed _ c.from_residual-in_err-blocks.ensures.1) (if_some (bind_refusal f) _ _ (λ r e. refused_keys c.args.database.now (select_of c.args.query.now) (names_by (list_of c.args.query.now.block.list) (map item_of c.deref.result.now)) r same h.there (few_items c.args.database.now (query_of c.args.query.now.block) h.accepted) e) inner)
 
 -- src/query.rt:22:1
 pub returns-clause-bound : goal.returns-clause-bound
