@@ -3,7 +3,7 @@
 use thiserror::Error;
 
 /// Why a script has no tokens: its leftmost lexical fault, and the byte that it stands at, or want of memory.
-#[derive(Clone, Copy, Debug, PartialEq, Eq, Error)]
+#[derive(Clone, Copy, Debug, Error)]
 pub enum LexFault {
     #[error("a character that begins no token, at byte {offset}")]
     StrayCharacter { offset: usize, place: StrayPlace },
@@ -19,7 +19,7 @@ pub enum LexFault {
 }
 
 /// Where a character stands that begins no token.
-#[derive(Clone, Copy, Debug, PartialEq, Eq)]
+#[derive(Clone, Copy, Debug)]
 pub enum StrayPlace {
     /// Apart from the tokens before it.
     Apart,
@@ -30,7 +30,7 @@ pub enum StrayPlace {
 }
 
 /// A literal that is too long, and how long.
-#[derive(Clone, Copy, Debug, PartialEq, Eq)]
+#[derive(Clone, Copy, Debug)]
 pub enum LongLiteral {
     Number { digits: usize },
     String { characters: usize },

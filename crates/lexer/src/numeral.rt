@@ -5,7 +5,7 @@ ghost use Rattle.definitions.specs.Binding.Formed.{IsWrittenNumeral};
 ghost use Rattle.definitions.specs.Limits.{most_digits};
 
 /// An unsigned number (ISO/IEC 9075:1992, 5.3).
-#[derive(Clone, Copy, Debug, PartialEq, Eq)]
+#[derive(Clone, Copy)]
 pub struct Numeral {
     /// What its digits write without the point.
     pub units: u128,

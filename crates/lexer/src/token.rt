@@ -6,7 +6,7 @@ ghost use Rattle.lexer.specs.Within.{IsNumberWithin, IsStringWithin};
 use crate::word::Word;
 
 /// A symbol (ISO/IEC 9075:1992, 5.1 and 5.2).
-#[derive(Clone, Copy, Debug, PartialEq, Eq)]
+#[derive(Clone, Copy, PartialEq, Eq)]
 pub enum Symbol {
     OpenParen,
     CloseParen,
@@ -26,7 +26,7 @@ pub enum Symbol {
 }
 
 /// What a token is, wherever it stands; a name and a string are in its text.
-#[derive(Clone, Copy, Debug, PartialEq, Eq)]
+#[derive(Clone, Copy, PartialEq, Eq)]
 pub enum TokenKind {
     Reserved(Word),
     /// An identifier that is no reserved word.
@@ -39,7 +39,7 @@ pub enum TokenKind {
 }
 
 /// A token of a script.
-#[derive(Clone, Copy, PartialEq, Eq)]
+#[derive(Clone, Copy)]
 pub struct Token<'a> {
     pub kind: TokenKind,
     /// Its slice of the script.

@@ -8,7 +8,7 @@ ghost use Rattle.lexer.specs.Meaning.{word_of};
 ghost use Rattle.lexer.specs.Words.{all_words, spelling};
 
 /// A reserved word (ISO/IEC 9075:1992, 5.2; the list is own).
-#[derive(Clone, Copy, Debug, PartialEq, Eq)]
+#[derive(Clone, Copy, PartialEq, Eq)]
 pub enum Word {
     All,
     And,
