@@ -15,3 +15,10 @@ any_of_both test (x ∷ xs) ys = step (test x) _ _ _ (any_of_both test xs ys)
 
 pub members_left : (negated : Bool) (e : Expr) (ms : Members) (x : Bool) → false ≡ list_any is_function (parts e) → x ≡ list_any is_function (member_parts ms) → x ≡ list_any is_function (parts (InList negated e ms))
 members_left negated e ms x h k = k ∙ ap (λ b. b || list_any is_function (member_parts ms)) h ∙ sym (any_of_both is_function (parts e) (member_parts ms))
+
+-- among parts behind others
+pub in_first : (xs ys : List Expr) (x : Bool) → x ≡ true → x ≡ list_any is_function xs → x ≡ list_any is_function (xs ++ ys)
+in_first xs ys x e h = e ∙ sym (any_of_both is_function xs ys ∙ ap (λ b. b || list_any is_function ys) (sym h ∙ e))
+
+pub in_rest : (xs ys : List Expr) (x y : Bool) → x ≡ false → x ≡ list_any is_function xs → y ≡ list_any is_function ys → y ≡ list_any is_function (xs ++ ys)
+in_rest xs ys x y e h k = k ∙ sym (any_of_both is_function xs ys ∙ ap (λ b. b || list_any is_function ys) (sym h ∙ e))
