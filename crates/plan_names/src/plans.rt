@@ -13,51 +13,50 @@ pub struct PathText<'n, 'a> {
 
 impl Display for PathText<'_, '_> {
     fn fmt<W: fmt::Write>(&self, f: &mut Formatter<W>) -> fmt::Result {
-        let names = self.names;
         match self.path {
-            Path::Segment { table } => write!(f, "all of {}", names.table(*table)),
+            Path::Segment { table } => write!(f, "all of {}", self.names.table(*table)),
             Path::Index {
-                table,
                 index,
                 backward,
-            } => write!(
-                f,
-                "all of {} by {}{}",
-                names.table(*table),
-                names.index(*table, *index),
-                direction(*backward)
-            ),
+                ..
+            } => self.write_by_index(f, "all of ", *index, &[], *backward),
             Path::Match {
-                table,
                 index,
                 conjuncts,
                 backward,
-            } => write!(
-                f,
-                "{} by {} on {}{}",
-                names.table(*table),
-                names.index(*table, *index),
-                Numbers(conjuncts.as_slice()),
-                direction(*backward)
-            ),
+                ..
+            } => self.write_by_index(f, "", *index, conjuncts.as_slice(), *backward),
         }
     }
 }
 
-fn direction(backward: bool) -> &'static str {
-    if backward { " back" } else { "" }
+impl PathText<'_, '_> {
+    /// `all of C by (CITY) back`, or `C by (CITY) on 3`.
+    fn write_by_index<W: fmt::Write>(
+        &self,
+        f: &mut Formatter<W>,
+        before: &str,
+        index: usize,
+        conjuncts: &[usize],
+        backward: bool,
+    ) -> fmt::Result {
+        let table = self.path.table();
+        let (name, columns) = (self.names.table(table), self.names.index(table, index));
+        let back = if backward { " back" } else { "" };
+        write!(f, "{before}{name} by {columns}{}{back}", Matched(conjuncts))
+    }
 }
 
-/// Numbers that count from 0, counted from 1: `1, 3`.
+/// The conjuncts that an index is matched by, counted from 1, if there are any: ` on 1, 3`.
 #[derive(Clone, Copy)]
-struct Numbers<'n>(&'n [usize]);
+struct Matched<'n>(&'n [usize]);
 
-impl Display for Numbers<'_> {
+impl Display for Matched<'_> {
     fn fmt<W: fmt::Write>(&self, f: &mut Formatter<W>) -> fmt::Result {
-        let mut separator = "";
+        let mut before = " on ";
         for number in self.0 {
-            write!(f, "{separator}{}", number.saturating_add(1))?;
-            separator = ", ";
+            write!(f, "{before}{}", number.saturating_add(1))?;
+            before = ", ";
         }
         Ok(())
     }

@@ -37,19 +37,20 @@ pub struct StepText<'n, 'a> {
 impl Display for StepText<'_, '_> {
     fn fmt<W: fmt::Write>(&self, f: &mut Formatter<W>) -> fmt::Result {
         let names = self.names;
-        match self.step {
-            PlanStep::Access(path) => write!(f, "the access {}", names.path(path)),
-            PlanStep::Loop(path) => write!(f, "a loop over {}", names.path(path)),
+        let (words, path) = match self.step {
+            PlanStep::Access(path) => ("the access ", path),
+            PlanStep::Loop(path) => ("a loop over ", path),
             PlanStep::Merge {
                 conjunct,
                 path,
                 sorted,
-            } => write_merge(f, names, conjunct, path, sorted),
+            } => return write_merge(f, names, conjunct, path, sorted),
             PlanStep::Sort { order } => {
                 let keys = keys_of(self.orders, order);
-                write!(f, "a sort by {}", names.order(keys))
+                return write!(f, "a sort by {}", names.order(keys));
             }
-        }
+        };
+        write!(f, "{words}{}", names.path(path))
     }
 }
 
