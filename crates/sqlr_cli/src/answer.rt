@@ -17,13 +17,22 @@ impl<'t> Answer<'t> {
     /// that of no other statement does: `5 rows loaded` goes on.
     pub fn read(text: &'t str) -> Option<Answer<'t>> {
         let (lines, count) = text.strip_suffix('\n')?.rsplit_once('\n')?;
-        let number = count.strip_suffix(" rows")?;
-        if number.is_empty() || !number.bytes().all(|digit| digit.is_ascii_digit()) {
+        if !is_number(count.strip_suffix(" rows")?) {
             return None;
         }
         let (names, rows) = lines.split_once('\n').unwrap_or((lines, ""));
         Some(Answer { names, rows, count })
     }
+}
+
+/// Whether a text is of digits alone, and has one.
+fn is_number(text: &str) -> bool {
+    for byte in text.as_bytes() {
+        if !byte.is_ascii_digit() {
+            return false;
+        }
+    }
+    !text.is_empty()
 }
 
 /// What a field of a row says.
