@@ -79,10 +79,10 @@ impl<'n, 'a, 't> PlanReader<'n, 'a, 't> {
             return Err(expected(Expectation::Access));
         }
         let wanted = self.access()?;
-        if let Some(path) = wanted.only_path()? {
-            return Ok(path);
+        match wanted.only_path() {
+            Some(path) => Ok(path.clone()?),
+            None => found_path(cheapest_access(&self.own.space, &wanted)),
         }
-        found_path(cheapest_access(&self.own.space, &wanted))
     }
 
     /// The next step on top of a plan; none at the end.
@@ -112,20 +112,19 @@ impl<'n, 'a, 't> PlanReader<'n, 'a, 't> {
 
     fn loop_step(&mut self, plan: &Plan) -> Result<Step, PlanTextFault> {
         let wanted = self.access()?;
-        if let Some(path) = wanted.only_path()? {
-            return Ok(Step::Loop(path));
-        }
-        let found = cheapest_loop(&self.own.space, tables_of(plan), &wanted);
-        Ok(Step::Loop(found_path(found)?))
+        let path = match wanted.only_path() {
+            Some(path) => path.clone()?,
+            None => found_path(cheapest_loop(&self.own.space, tables_of(plan), &wanted))?,
+        };
+        Ok(Step::Loop(path))
     }
 
     fn merge_step(&mut self, plan: &Plan) -> Result<Step, PlanTextFault> {
         let conjunct = self.merge_conjunct()?;
         let sorted = self.take_word("sorted");
         let access = self.access()?;
-        if let (Some(conjunct), Some(path)) = (conjunct, access.only_path()?) {
-            let inner = Inner { path, sorted };
-            return Ok(Step::Merge { conjunct, inner });
+        if let (Some(conjunct), Some(path)) = (conjunct, access.only_path()) {
+            return merge_by(conjunct, path, sorted);
         }
         let wanted = WantedMerge {
             conjunct,
@@ -152,13 +151,7 @@ impl<'n, 'a, 't> PlanReader<'n, 'a, 't> {
             None => None,
         };
         match allowed.or(cheapest_merge(space, tables, None, wanted)) {
-            Some(merge) => Ok(Step::Merge {
-                conjunct: merge.conjunct,
-                inner: Inner {
-                    path: merge.path.clone()?,
-                    sorted: merge.sorted,
-                },
-            }),
+            Some(merge) => merge_by(merge.conjunct, merge.path, merge.sorted),
             None => Err(fault(NameProblem::NoMerge)),
         }
     }
@@ -386,6 +379,12 @@ fn found_path(found: Option<&Path>) -> Result<Path, PlanTextFault> {
         Some(path) => Ok(path.clone()?),
         None => Err(fault(NameProblem::NoPath)),
     }
+}
+
+fn merge_by(conjunct: usize, path: &Path, sorted: bool) -> Result<Step, PlanTextFault> {
+    let path = path.clone()?;
+    let inner = Inner { path, sorted };
+    Ok(Step::Merge { conjunct, inner })
 }
 
 /// A plan with one more step on top.

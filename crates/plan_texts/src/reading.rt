@@ -26,9 +26,11 @@ pub fn read_plan<'n, 'a>(
     }
 }
 
+static SPELLED_STEPS: [&str; 4] = ["ACCESS(", "LOOP(", "MERGE(", "SORT("];
+
 /// Whether a text begins as a plan does in EXPLAIN's spelling.
 fn is_spelled(text: &str) -> bool {
-    for word in ["ACCESS(", "LOOP(", "MERGE(", "SORT("] {
+    for word in &SPELLED_STEPS {
         if text.starts_with(word) {
             return true;
         }

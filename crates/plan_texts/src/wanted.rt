@@ -2,7 +2,6 @@
 
 use arrayvec::ArrayVec;
 use plan_tree::{MAX_MATCHED, Path};
-use std::alloc::AllocError;
 
 /// An access as a text has it, to a table of the block.
 #[derive(Drop)]
@@ -35,11 +34,11 @@ impl WantedAccess {
         }
     }
 
-    /// The one path that is as the text has it, in the plan space or not; none where more than one may be. An `Err` is want of memory.
-    pub fn only_path(&self) -> Result<Option<Path>, AllocError> {
+    /// The one path that is as the text has it, in the plan space or not; none where more than one may be.
+    pub fn only_path(&self) -> Option<&Path> {
         match &self.way {
-            Way::Any | Way::ByIndex { .. } => Ok(None),
-            Way::Only(path) => Ok(Some(path.clone()?)),
+            Way::Any | Way::ByIndex { .. } => None,
+            Way::Only(path) => Some(path),
         }
     }
 }
