@@ -78,6 +78,7 @@ fn put(blocks: &mut Vec<Block>, number: usize, block: Block)
     requires { number < length blocks.old.items }
     ensures { map block_of blocks.new.items ≡ slice_set (map block_of blocks.old.items) number (block_of block) }
 {
+    // The block that stood there is dropped as a whole.
     drop(mem::replace(&mut blocks[number], block));
 }
 
