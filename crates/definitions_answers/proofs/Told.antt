@@ -13,11 +13,11 @@ use Rattle.definitions.specs.Truth.{and, opposite, all_true, any_true, compared,
 use Rattle.definitions.specs.Pattern.{like}
 use Rattle.definitions.specs.Queries.BoundBlock as b
 use Rattle.definitions.specs.Queries.BoundBlock.{ValueExpr, Operands, Condition, Conditions}
-use Rattle.definitions.specs.Queries.Conjuncts.{member_values, values_of, values_of_parts, tested_blocks, tested_blocks_of_parts, blocks_in, operand_blocks, blocks_of}
+use Rattle.definitions.specs.Queries.Conjuncts.{member_values, values_of, values_of_parts, tested_blocks, tested_blocks_of_parts, blocks_in, operand_blocks, blocks_of, compared_blocks, compared_blocks_of_parts}
 use Rattle.definitions.specs.Queries.Evaluation.{Environment, value, chained, truth, truths, member, in_order, only_value, column_values, quantified, operation, signed, and_then, and_then_two, on_one, on_two}
 use Rattle.definitions.specs.Queries.Telling.{StandsFor}
 use Rattle.definitions.proofs.QueryTheory.Lemmas.{order_says_nothing}
-use Rattle.definitions_answers.specs.Seen.{compared_blocks, compared_blocks_of_parts, seen_blocks}
+use Rattle.definitions_answers.specs.Seen.{seen_blocks}
 use Rattle.definitions_answers.specs.Told.{Tells, TellsAsked, TellsRows, meaning_told, values_asked, ConditionsSeeWhatIsTold}
 use Rattle.definitions_answers.proofs.Elements.{all_both, all_first, all_flat, all_joined, all_weaker}
 

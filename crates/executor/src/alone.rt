@@ -25,7 +25,7 @@ ghost use Rattle.block_answers.specs.Telling.{context_with};
 ghost use Rattle.executor.specs.ReadyBlocks.{IsReadyIn};
 
 use crate::ready_block::ReadyBlock;
-use crate::running::run_plan;
+use crate::running::run_block;
 use block_answers::KeptRows;
 use filters::OuterRows;
 use operators::Pipeline;
@@ -51,11 +51,13 @@ pub(crate) fn evaluate_alone<'s, A: OuterRows>(
         (space_of current_version ready.now.source.database (block_in ready.now.source))
         (stored_in ready.now.source (A.combinations around.now)) (plan_of ready.now.plan))) }
 {
-    let mut pipeline = run_plan(
+    let mut pipeline = run_block(
         alloc,
         &ready.source,
+        ready.block,
         ready.space.orders(),
         &ready.plan,
+        None,
         around,
     )?;
     let mut rows = KeptRows::new(alloc, ready.block, existence)?;

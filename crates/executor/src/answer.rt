@@ -16,7 +16,7 @@ ghost use Rattle.plan_space.specs.BlockPlans.{AreLeastOf};
 ghost use Rattle.executor.specs.ReadyBlocks.{blocks_in, database_in, total_at, AreReady, AreRight};
 
 use crate::ready_block::{ReadyBlock, ready_blocks};
-use crate::running::run_plan;
+use crate::running::run_block;
 use crate::taking::take_rows;
 use crate::watch::{QueryWatch, WorkCount};
 use block_answers::BlockRows;
@@ -75,11 +75,13 @@ pub fn run_select<'s, W: QueryWatch>(
     let mut frames = Frames::new(alloc, WorkCount::new(watch));
     let mut kept = no_results(alloc, query)?;
     let results = kept.as_mut_slice();
-    let mut pipeline = run_plan(
+    let mut pipeline = run_block(
         alloc,
         &first.source,
+        first.block,
         first.space.orders(),
         &first.plan,
+        None,
         &frames,
     )?;
     let mut rows = BlockRows::to_print(alloc, first.block)?;

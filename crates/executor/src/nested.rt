@@ -25,7 +25,7 @@ ghost use Rattle.executor.specs.SortedColumns.{AreSorted};
 
 use crate::alone::evaluate_alone;
 use crate::ready_block::ReadyBlock;
-use crate::running::run_sorted;
+use crate::running::run_block;
 use crate::sorted_columns::sorted_column;
 use automatic_indexes::SortedColumn;
 use block_answers::{KeptRows, row_at, try_all};
@@ -103,9 +103,10 @@ fn evaluate_block<'s, W: WorkWatch>(
     if ready.late.is_empty() && ready.parameters.is_empty() {
         return evaluate_alone(alloc, ready, existence, &*frames);
     }
-    let mut pipeline = run_sorted(
+    let mut pipeline = run_block(
         alloc,
         &ready.source,
+        ready.block,
         ready.space.orders(),
         &ready.plan,
         sorted_column(sorted, number),
@@ -190,7 +191,7 @@ pub(crate) fn ask_at<'s, W: WorkWatch>(
     let ready = &query[number];
     // A look at the first table tells what holds of the database.
     let _table = ready.source.table(0);
-    frames.enter(&ready.source, *composite)?;
+    frames.enter(alloc, &ready.source, composite)?;
     let work = ask_subqueries(alloc, query, number, frames, results, sorted)?;
     frames.leave();
     Ok(work)

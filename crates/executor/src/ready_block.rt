@@ -1,20 +1,24 @@
 //! Blocks of a statement that are ready to be evaluated.
 
-ghost use Rattle.std.specs.Prelude.{◌≡◌, ℕ, IfOk, Some, map, nat_eq, slice_get};
+ghost use Rattle.std.specs.Prelude.{◌≡◌, ℕ, IfOk, IsPermutation, Some, flat_map, map, nat_eq, slice_get};
 ghost use Rattle.std.specs.List.{list_any, AllByRecursion};
 ghost use Rattle.definitions.specs.Binding.Answerable.{IsAnswerable};
 ghost use Rattle.definitions.specs.Binding.Formed.{IsFormedSomewhere};
 ghost use Rattle.definitions.specs.Estimates.BlockSpace.{space_of};
 ghost use Rattle.definitions.specs.Estimates.Version.{current_version};
 ghost use Rattle.definitions.specs.Plans.PlanSpace.{GivesRequired, InSpace};
-ghost use Rattle.definitions.specs.Queries.BoundBlock.{Blocks};
+ghost use Rattle.definitions.specs.Queries.BoundBlock.{Blocks, Block as BoundBlock};
+ghost use Rattle.definitions.specs.Queries.Conjuncts.{blocks_of, late_conjuncts};
 ghost use Rattle.definitions_answers.specs.Parameters.{parameters as parameters_of};
+ghost use Rattle.definitions_answers.specs.Seen.{seen_blocks};
 ghost use Rattle.query_tree.specs.Bound.{block_of};
 ghost use Rattle.plan_space.specs.BlockPlans.{AreLeastOf};
 ghost use Rattle.plan_space.specs.Parts.{AreConjunctsOf};
 ghost use Rattle.plan_space.specs.Planned.{space_in};
 ghost use Rattle.plan_tree.specs.Plans.{plan_of};
 ghost use Rattle.filters.specs.Sources.{block_in};
+ghost use Rattle.block_answers.specs.Views.{conditions_of};
+ghost use Rattle.subqueries.specs.BlockText.{Rising};
 ghost use Rattle.subqueries.specs.OuterColumns.{outer_columns_of};
 ghost use Rattle.executor.specs.declared.ready_block.ReadyBlock.{ReadyBlock as Ready};
 ghost use Rattle.executor.specs.ReadyBlocks.{blocks_in, HasLeast, IsReadyIn};
@@ -24,6 +28,7 @@ use catalog::Database;
 use filters::BlockSource;
 use plan_space::{BlockPlan, Space};
 use plan_tree::Plan;
+use predicates::Conjunct;
 use query_tree::{Block, Condition};
 use std::alloc::{AllocError, Global};
 use subqueries::{OuterColumn, block_parameters, blocks_asked, blocks_seen};
@@ -40,6 +45,42 @@ pub struct ReadyBlock<'s> {
     pub subqueries: Vec<usize>,
     pub seen: Vec<usize>,
     pub parameters: Vec<OuterColumn>,
+}
+
+/// What a block asks of the blocks within it, and what it takes from those around it.
+#[derive(Drop)]
+struct BlockAsks<'s> {
+    late: Vec<&'s Condition>,
+    subqueries: Vec<usize>,
+    seen: Vec<usize>,
+    parameters: Vec<OuterColumn>,
+}
+
+/// What a block of these conjuncts asks, whose parameters are given. It fails where memory runs out.
+fn asks_of<'s>(
+    alloc: Global,
+    conjuncts: &[Conjunct<'s>],
+    parameters: &[OuterColumn],
+) -> Result<BlockAsks<'s>, AllocError>
+    ensures late { IfOk result (λ asks. (own : BoundBlock) → AreConjunctsOf own conjuncts.now →
+        conditions_of asks.late.items ≡ late_conjuncts own) }
+    ensures asked { IfOk result (λ asks. IsPermutation (flat_map blocks_of (conditions_of asks.late.items))
+        asks.subqueries.items) }
+    ensures rising { IfOk result (λ asks. Rising asks.subqueries.items) }
+    ensures seen { IfOk result (λ asks. asks.seen.items ≡ flat_map seen_blocks (conditions_of asks.late.items)) }
+    ensures parameters { IfOk result (λ asks. asks.parameters.items ≡ parameters.now) }
+{
+    let late = late_conditions(alloc, conjuncts)?;
+    let subqueries = blocks_asked(alloc, &late)?;
+    let seen = blocks_seen(alloc, &late)?;
+    let mut own = Vec::new(alloc);
+    own.extend_from_slice(parameters)?;
+    Ok(BlockAsks {
+        late,
+        subqueries,
+        seen,
+        parameters: own,
+    })
 }
 
 impl<'s> ReadyBlock<'s> {
@@ -70,12 +111,13 @@ impl<'s> ReadyBlock<'s> {
             space,
             plan,
         } = chosen;
-        let late = late_conditions(alloc, &conjuncts)?;
+        let BlockAsks {
+            late,
+            subqueries,
+            seen,
+            parameters,
+        } = asks_of(alloc, &conjuncts, parameters)?;
         let source = BlockSource::new(alloc, database, block, conjuncts)?;
-        let subqueries = blocks_asked(alloc, &late)?;
-        let seen = blocks_seen(alloc, &late)?;
-        let mut own = Vec::new(alloc);
-        own.extend_from_slice(parameters)?;
         Ok(ReadyBlock {
             source,
             block,
@@ -84,7 +126,7 @@ impl<'s> ReadyBlock<'s> {
             late,
             subqueries,
             seen,
-            parameters: own,
+            parameters,
         })
     }
 }

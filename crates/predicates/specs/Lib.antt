@@ -3,6 +3,7 @@ pub mod Parts
 pub mod Naming
 pub mod Columns
 pub mod Terms
+pub mod Membership
 pub mod Views
 pub mod Known
 pub mod TermSets

@@ -6,11 +6,13 @@ ghost use Rattle.definitions.specs.Queries.Conjuncts.{condition_tables, is_late}
 ghost use Rattle.query_tree.specs.Bound.{condition_of};
 ghost use Rattle.plan_tree.specs.Sets.{set_of};
 ghost use Rattle.predicates.specs.Columns.{pair_of};
+ghost use Rattle.predicates.specs.Membership.{column_membership};
 ghost use Rattle.predicates.specs.Terms.{terms_of};
-ghost use Rattle.predicates.specs.Views.{terms_in};
+ghost use Rattle.predicates.specs.Views.{membership_of, terms_in};
 ghost use Rattle.predicates.specs.TermSets.{terms_set};
 
 use crate::column_term::ColumnTerms;
+use crate::membership::Membership;
 use plan_tree::TableSet;
 use query_tree::{BlockColumn, Condition};
 
@@ -26,8 +28,11 @@ pub struct Conjunct<'a> {
     pub terms: ColumnTerms<'a>,
     /// The two columns, where it is `column = column`.
     pub equated: Option<(BlockColumn, BlockColumn)>,
+    /// What it says of a column, where it is `column IN (subquery)` or `column NOT IN (subquery)`.
+    pub membership: Option<Membership>,
     pub ghost judged: { late ≡ is_late (condition_of condition.now) },
     pub ghost named: { set_of tables ≡ condition_tables (condition_of condition.now) },
     pub ghost said: { terms_in terms ≡ terms_of (condition_of condition.now) } by { terms_set _ _ },
     pub ghost equal: { option_map pair_of equated ≡ plans.equated_columns (condition_of condition.now) },
+    pub ghost belongs: { option_map membership_of membership ≡ column_membership (condition_of condition.now) },
 }

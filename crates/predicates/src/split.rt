@@ -13,6 +13,7 @@ ghost use Rattle.predicates.specs.Parts.{condition_in, AreConjunctsOf};
 
 use crate::conjunct::Conjunct;
 use crate::equated::equated_columns;
+use crate::membership::column_membership;
 use crate::tables::tables_of;
 use crate::terms::column_terms;
 use expr::can_raise;
@@ -60,6 +61,7 @@ fn taken_apart<'a>(alloc: Global, condition: &'a Condition) -> Result<Conjunct<'
         tables,
         terms: column_terms(condition),
         equated: equated_columns(condition),
+        membership: column_membership(condition),
     })
 }
 

@@ -1,7 +1,7 @@
 -- The parts of conditions and values, as code keeps them.
 use Rattle.std.proofs.Common.{◌≡◌, ◌∙◌, refl, sym, subst, ℕ, List, [], ◌∷◌, Option, map}
 use Rattle.definitions.specs.Queries.BoundBlock as b
-use Rattle.definitions.specs.Queries.Conjuncts.{conjuncts_of, conjuncts_of_parts, operand_blocks, member_values, tested_blocks_of_parts, values_of_parts}
+use Rattle.definitions.specs.Queries.Conjuncts.{compared_blocks_of_parts, conjuncts_of, conjuncts_of_parts, operand_blocks, member_values, tested_blocks_of_parts, values_of_parts}
 use Rattle.query_tree.specs.Bound.{condition_of, conditions, condition_layer, member_of, operand_of, operands}
 use Rattle.query_tree.specs.declared.condition.Condition.{Condition, out-Condition, roll-Condition, roll-out-Condition}
 use Rattle.query_tree.specs.declared.condition.Condition.TheOpen.{Condition-F}
@@ -20,6 +20,9 @@ parts_values cs = values_of_parts (conditions (map condition_of cs))
 
 abbrev pub parts_tested : List Condition → List ℕ
 parts_tested cs = tested_blocks_of_parts (conditions (map condition_of cs))
+
+abbrev pub parts_compared : List Condition → List ℕ
+parts_compared cs = compared_blocks_of_parts (conditions (map condition_of cs))
 
 -- the members of a list
 abbrev pub members_values : List (Option ValueExpr) → List b.ValueExpr

@@ -12,4 +12,4 @@ pub use condition::Condition;
 pub use leaf::{BlockColumn, NumberLiteral, Operator, ValueType};
 pub use parse_tree::{Quantifier, SetFunction};
 pub use value::{Operand, ValueExpr};
-pub use walks::{push_blocks, push_conjuncts, push_tested, push_values};
+pub use walks::{push_blocks, push_compared, push_conjuncts, push_tested, push_values};

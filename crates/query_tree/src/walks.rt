@@ -1,7 +1,7 @@
 //! What stands in conditions and values: the conjuncts of a condition, the values that it speaks of, and the inner blocks that it asks for.
 
 ghost use Rattle.std.specs.Prelude.{◌≡◌, ◌++◌, ◌∷◌, [], OnOk, map};
-ghost use Rattle.definitions.specs.Queries.Conjuncts.{blocks_in, conjuncts_of, member_values, tested_blocks, values_of};
+ghost use Rattle.definitions.specs.Queries.Conjuncts.{blocks_in, compared_blocks, conjuncts_of, member_values, tested_blocks, values_of};
 ghost use Rattle.query_tree.specs.Bound.{condition_of, member_of, value_of};
 ghost use Rattle.query_tree.specs.Walks.{conditions_in, trees_of};
 
@@ -110,6 +110,30 @@ pub fn push_tested(blocks: &mut Vec<usize>, condition: &Condition) -> Result<(),
             Ok(())
         }
         Condition::Compare { .. }
+        | Condition::IsNull { .. }
+        | Condition::Between { .. }
+        | Condition::Like { .. }
+        | Condition::InList { .. } => Ok(()),
+    }
+}
+
+/// Adds the numbers of the inner blocks that a condition compares a value with, by a quantifier or IN, in text order (ISO/IEC 9075:1992, 8.4 and
+/// 8.7). It fails where memory runs out.
+pub fn push_compared(blocks: &mut Vec<usize>, condition: &Condition) -> Result<(), AllocError>
+    ensures { OnOk result (blocks.new.items ≡ blocks.old.items ++ compared_blocks (condition_of condition.now)) }
+{
+    match condition {
+        Condition::Quantified { block, .. } => blocks.extend_from_slice(&[*block]),
+        Condition::InQuery { block, .. } => blocks.extend_from_slice(&[*block]),
+        Condition::Not(operand) => push_compared(blocks, operand),
+        Condition::And(parts) | Condition::Or(parts) => {
+            for part in parts {
+                push_compared(blocks, part)?;
+            }
+            Ok(())
+        }
+        Condition::Exists { .. }
+        | Condition::Compare { .. }
         | Condition::IsNull { .. }
         | Condition::Between { .. }
         | Condition::Like { .. }

@@ -1,16 +1,10 @@
--- The parts of conditions and values, as code keeps them.
-use Rattle.std.proofs.Common.{ℕ, List, map}
+-- The parts of blocks and values, as code keeps them.
+use Rattle.std.proofs.Common.{List, map}
 use Rattle.definitions.specs.Queries.BoundBlock as b
-use Rattle.definitions_answers.specs.Seen.{compared_blocks_of_parts}
 use Rattle.definitions_answers.specs.Parameters.{OuterColumn, arguments_of, operand_parameters}
-use Rattle.query_tree.specs.Bound.{bound_function_of, condition_of, conditions, operand_of, operands}
+use Rattle.query_tree.specs.Bound.{bound_function_of, operand_of, operands}
 use Rattle.query_tree.specs.declared.block.Aggregate.{Aggregate}
-use Rattle.query_tree.specs.declared.condition.Condition.{Condition}
 use Rattle.query_tree.specs.declared.value.Operand.{Operand}
-
--- the operands of AND and OR
-abbrev pub parts_compared : List Condition → List ℕ
-parts_compared cs = compared_blocks_of_parts (conditions (map condition_of cs))
 
 -- the arguments of set functions
 abbrev pub function_arguments : List Aggregate → List b.ValueExpr

@@ -13,7 +13,8 @@ combination_in source composite =
     combination_of source.database (block_in source) (numbers_in (length (block_in source).tables) composite)
 
 abbrev pub frame_combination : Frame → Combination
-frame_combination f = combination_in f.source.now f.composite
+frame_combination f =
+    combination_of f.source.now.database (block_in f.source.now) f.combination.items
 
 -- the nearest first
 abbrev pub combinations_in : {W : Type 0} → Frames W → List Combination

@@ -2,14 +2,15 @@
 
 ghost use Rattle.std.specs.Prelude.{◌≡◌, ◌++◌, ◌∷◌, [], IfOk, IsPermutation, OnOk, flat_map, map, option_map};
 ghost use Rattle.definitions.specs.Queries.Conjuncts.{blocks_in, blocks_of, values_of};
-ghost use Rattle.definitions_answers.specs.Seen.{compared_blocks, seen_blocks};
+ghost use Rattle.definitions_answers.specs.Seen.{seen_blocks};
 ghost use Rattle.definitions_answers.specs.Parameters.{arguments_of, asked_blocks, tested_of_option, values_in_block, values_of_option};
 ghost use Rattle.query_tree.specs.Bound.{block_of, bound_function_of, condition_of};
 ghost use Rattle.query_tree.specs.Walks.{conditions_in, trees_of};
 ghost use Rattle.subqueries.specs.BlockText.{item_values, Rising};
 
 use query_tree::{
-    Aggregate, Block, Condition, Item, ValueExpr, push_blocks, push_tested, push_values,
+    Aggregate, Block, Condition, Item, ValueExpr, push_blocks, push_compared, push_tested,
+    push_values,
 };
 use std::alloc::{AllocError, Global};
 
@@ -160,28 +161,5 @@ fn push_clause_tested(blocks: &mut Vec<usize>, clause: &Option<Condition>) -> Re
     match clause {
         Some(condition) => push_tested(blocks, condition),
         None => Ok(()),
-    }
-}
-
-/// The inner blocks that a condition compares a value with, by a quantifier or IN (ISO/IEC 9075:1992, 8.4 and 8.7).
-fn push_compared(blocks: &mut Vec<usize>, condition: &Condition) -> Result<(), AllocError>
-    ensures { OnOk result (blocks.new.items ≡ blocks.old.items ++ compared_blocks (condition_of condition.now)) }
-{
-    match condition {
-        Condition::Quantified { block, .. } => blocks.extend_from_slice(&[*block]),
-        Condition::InQuery { block, .. } => blocks.extend_from_slice(&[*block]),
-        Condition::Not(operand) => push_compared(blocks, operand),
-        Condition::And(parts) | Condition::Or(parts) => {
-            for part in parts {
-                push_compared(blocks, part)?;
-            }
-            Ok(())
-        }
-        Condition::Exists { .. }
-        | Condition::Compare { .. }
-        | Condition::IsNull { .. }
-        | Condition::Between { .. }
-        | Condition::Like { .. }
-        | Condition::InList { .. } => Ok(()),
     }
 }

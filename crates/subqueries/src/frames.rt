@@ -6,14 +6,18 @@ ghost use Rattle.subqueries.specs.Framed.{combination_in, combinations_in};
 
 use filters::{BlockSource, Composite, OuterRows};
 use query_tree::BlockColumn;
+use smallvec::SmallVec;
 use sqlvalue::Value;
 use std::alloc::{AllocError, Global};
 
-/// A block that is evaluated, and the composite of its rows that is at hand.
-#[derive(Clone, Copy)]
+/// The tables of most blocks: a combination of so many rows takes no memory beside its frame.
+const FEW_TABLES: usize = 4;
+
+/// A block that is evaluated, and the combination of its rows that is at hand, by their numbers.
+#[derive(Drop)]
 struct Frame<'s> {
     source: &'s BlockSource<'s>,
-    composite: Composite,
+    combination: SmallVec<u32, FEW_TABLES>,
 }
 
 /// Is told of the work on a query, for people who wait for it. Nothing is promised of it (own).
@@ -41,8 +45,8 @@ impl<'s, W: WorkWatch> OuterRows for Frames<'s, W> {
             return Value::Null;
         }
         let frame = &self.frames[count - 1 - between];
-        let rows = frame.composite.numbers(frame.source.table_count());
-        frame.source.cell(column, row_number(rows, column.table))
+        let row = row_number(frame.combination.as_slice(), column.table);
+        frame.source.cell(column, row)
     }
 
     fn note_work(&self) {
@@ -69,14 +73,20 @@ impl<'s, W: WorkWatch> Frames<'s, W> {
     /// Goes into a block, at a composite of its rows.
     pub fn enter(
         &mut self,
+        alloc: Global,
         source: &'s BlockSource<'s>,
-        composite: Composite,
+        composite: &Composite,
     ) -> Result<(), AllocError>
         ensures entered { OnOk result (combinations_in self.new
-            ≡ combination_in source.now composite ∷ combinations_in self.old) }
+            ≡ combination_in source.now composite.now ∷ combinations_in self.old) }
         ensures unchanged { OnErr result (combinations_in self.new ≡ combinations_in self.old) }
     {
-        self.frames.push(Frame { source, composite })?;
+        let rows = composite.numbers(source.table_count());
+        let combination = SmallVec::from_slice(alloc, rows)?;
+        self.frames.push(Frame {
+            source,
+            combination,
+        })?;
         Ok(())
     }
 

@@ -4,12 +4,16 @@ use Rattle.std.specs.Ordering.{int_cmp}
 use Rattle.definitions.specs.Arithmetic.{Is, Raise}
 use Rattle.definitions.specs.Statement.{ComparisonOperator, Equals}
 use Rattle.definitions.specs.Truth.{agrees, compared, compared_with_any, is_true, known, or, unless, Unknown}
-use Rattle.definitions.specs.Value.{number_cmp, Null, Number, SqlType, Value}
+use Rattle.definitions.specs.Value.{number_cmp, scale_of, Null, Number, SqlType, Value}
 use Rattle.definitions.specs.Table.{Row}
 use Rattle.definitions.specs.ValueType.{ValueType}
 use Rattle.definitions.specs.Plans.Order as order
 use Rattle.definitions.specs.Estimates.Paths.{turned, ByBounds, ByComparison, ColumnTerm}
+use Rattle.predicates.specs.Membership as spec
+use Rattle.predicates.specs.Membership.{column_membership}
 use Rattle.predicates.specs.Terms.{first_of, listed, side_term, terms_of, SidedTerm}
+use Rattle.predicates.specs.Views.{membership_of}
+use Rattle.predicates.specs.declared.membership.Membership.{Membership}
 use Rattle.told_tests.proofs.Turned.{compared_turned}
 use Rattle.definitions.specs.Queries.BoundBlock.{Between, Column, Compare, Condition, InQuery, Subquery, ValueExpr}
 use Rattle.definitions.specs.Queries.Combinations.{at, is_surely_true, raises_of}
@@ -154,9 +158,9 @@ module _ (told : ℕ → Result (List Value) Raise) (block : ℕ) where
       ap (λ (r : Result (List Value) Raise). on_one (unless negated) (on_two (compared_with_any Equals) (Is (cell env.combination column)) (on_one column_values (meaning_told r)))) e
       ∙ ap (λ vs. Is (unless negated (compared_with_any Equals (cell env.combination column) vs))) (sym (first_values values))
 
-  pub is_list_test : (test : ToldTest) (column : BlockColumn) (own : SqlType) (digits : ℕ) (negated : Bool) (values : List Value) → told block ≡ Ok values → ListsValues column digits negated values test
+  in_query_test : (test : ToldTest) (column : BlockColumn) (own : SqlType) (digits : ℕ) (negated : Bool) (values : List Value) → told block ≡ Ok values → ListsValues column digits negated values test
       → IsTestOf told test (InQuery negated (Column (column_of column) own) block)
-  is_list_test test column own digits negated values e h = record {
+  in_query_test test column own digits negated values e h = record {
     number = λ env unit there.
         let value_is : cell env.combination (column_of column) ≡ Number unit digits = ap (λ c. cell env.combination (column_of c)) (sym h.column) ∙ there ∙ ap (Number unit) h.scale in
         in_means env negated (column_of column) own values e ∙ ap (λ v. Is (unless negated (compared_with_any Equals v values))) value_is ∙ ap Is (h.lists unit);
@@ -166,6 +170,16 @@ module _ (told : ℕ → Result (List Value) Raise) (block : ℕ) where
         ∙ ap Is (still_unknown negated);
     compares = subst (λ asked. IfSome asked (Means (InQuery negated (Column (column_of column) own) block) test)) (sym h.comparison) tt;
   }
+
+-- a condition that is IN or NOT IN of a column and a subquery is as true as that of what the subquery gave
+pub is_list_test : (told : ℕ → Result (List Value) Raise) (test : ToldTest) (asked : Membership) (values : List Value) → told asked.block ≡ Ok values → ListsValues asked.column asked.scale asked.negated values test
+    → (condition : Condition) → Some (membership_of asked) ≡ column_membership condition → IsTestOf told test condition
+is_list_test told test asked values e h (InQuery negated (Column column type) block) is =
+    let own : spec.Membership = record { column = column; scale = scale_of type; negated = negated; block = block } in
+    let same : membership_of asked ≡ own = cc in
+    subst (IsTestOf told test) (ap (λ (m : spec.Membership). InQuery m.negated (Column m.column type) m.block) same)
+    (in_query_test told asked.block test asked.column type asked.scale asked.negated values e h)
+is_list_test told test asked values e h _ is = cc
 
 -- ---- the value in a composite's column
 

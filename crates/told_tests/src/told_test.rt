@@ -1,7 +1,6 @@
 //! Late conjuncts that compare a column with what was told of a subquery, as tests of numbers.
 
 ghost use Rattle.std.specs.Prelude.{ℕ, ◌≡◌, ◌≤◌, ◌^◌, ◌<◌, ◌∷◌, [], All, IfOk, IfSome, Ok, OnSome, filter, get_or, length, map, pos, take};
-ghost use Rattle.definitions.specs.Queries.BoundBlock as spec;
 ghost use Rattle.definitions.specs.Queries.Conjuncts.{is_late, late_conjuncts};
 ghost use Rattle.sqlvalue.specs.Meaning.{number_of};
 ghost use Rattle.sqlvalue.specs.Owned.{owned_value};
@@ -10,7 +9,6 @@ ghost use Rattle.definitions_execution.specs.OfBlock.{rows_in};
 ghost use Rattle.filters.specs.Sources.{block_in};
 ghost use Rattle.columns.specs.Cells.{number_or_null};
 ghost use Rattle.columns.specs.Starts.{value_in};
-ghost use Rattle.query_tree.specs.Bound.{value_of};
 ghost use Rattle.predicates.specs.Parts.{condition_in};
 ghost use Rattle.subqueries.specs.Keeping.{told_by};
 ghost use Rattle.told_tests.specs.ToldTests.{is_unless, passes, passes_at, AreWhereTrue, ComparesWith, IsScaledTo, IsTested, IsTestOf, IsTestOfAll, IsTestedAs, ListsValues, RaisesOnNone, TellsOf};
@@ -20,7 +18,7 @@ use crate::unit_set::UnitSet;
 use columns::NumberColumn;
 use filters::BlockSource;
 use predicates::{ColumnTerm, Conjunct};
-use query_tree::{BlockColumn, Condition, ValueExpr};
+use query_tree::{BlockColumn, ValueExpr};
 use scans::Batch;
 use sqlvalue::{ComparisonOperator, Num, OwnedValue};
 use std::alloc::Global;
@@ -83,13 +81,18 @@ fn conjunct_test(
 ) -> Option<ToldTest>
     ensures { IfSome result (λ test. IsTestOf (told_by results.now) test (condition_in conjunct.now)) }
 {
-    match conjunct.condition {
-        Condition::InQuery {
-            negated,
-            value,
-            block,
-        } => membership_test(alloc, *negated, value, *block, results),
-        _ => comparison_test(conjunct, results),
+    match conjunct.membership {
+        Some(membership) => {
+            let values = told_values(results, membership.block)?;
+            list_test(
+                alloc,
+                membership.column,
+                membership.scale,
+                membership.negated,
+                values,
+            )
+        }
+        None => comparison_test(conjunct, results),
     }
 }
 
@@ -106,25 +109,6 @@ fn comparison_test(conjunct: &Conjunct<'_>, results: &[KeptResults]) -> Option<T
     };
     let number = told_number(results, *block)?;
     number_test(sided.column, sided.scale, op, number)
-}
-
-/// The test of IN or NOT IN of a column and a subquery.
-fn membership_test(
-    alloc: Global,
-    negated: bool,
-    value: &ValueExpr,
-    block: usize,
-    results: &[KeptResults],
-) -> Option<ToldTest>
-    ensures { IfSome result (λ test. IsTestOf (told_by results.now) test
-        (spec.InQuery negated (value_of value.now) block)) }
-{
-    match (value, told_values(results, block)) {
-        (ValueExpr::Column { column, sql_type }, Some(values)) => {
-            list_test(alloc, *column, sql_type.scale(), negated, values)
-        }
-        _ => None,
-    }
 }
 
 /// The number that was told last of a block alone, if there is such a block.

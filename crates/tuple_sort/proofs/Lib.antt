@@ -9,3 +9,5 @@ pub mod PlaceKeysWritten
 pub mod Bits
 pub mod KeyRanks
 pub mod SortedPlaces
+mod Counted
+mod Spread

@@ -7,4 +7,5 @@ pub mod Keys
 pub mod RowKeys
 pub mod KeyRanges
 pub mod PlaceKeys
+pub mod Counting
 pub mod Inside

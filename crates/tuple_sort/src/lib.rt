@@ -2,6 +2,7 @@
 #![tactic(auto)]
 
 mod composite_value;
+mod counting;
 mod key_range;
 mod key_sort;
 mod list;

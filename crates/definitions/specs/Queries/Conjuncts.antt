@@ -60,6 +60,20 @@ abbrev mutual
   tested_blocks_of_parts NoPart = []
   tested_blocks_of_parts (Part part others) = tested_blocks part ++ tested_blocks_of_parts others
 
+-- those with whose values it compares one, by a quantifier or IN
+abbrev mutual
+  pub compared_blocks : Condition → List ℕ
+  compared_blocks (Quantified op quantifier e block) = block ∷ []
+  compared_blocks (InQuery negated e block) = block ∷ []
+  compared_blocks (Not operand) = compared_blocks operand
+  compared_blocks (And parts) = compared_blocks_of_parts parts
+  compared_blocks (Or parts) = compared_blocks_of_parts parts
+  compared_blocks _ = []
+
+  pub compared_blocks_of_parts : Conditions → List ℕ
+  compared_blocks_of_parts NoPart = []
+  compared_blocks_of_parts (Part part others) = compared_blocks part ++ compared_blocks_of_parts others
+
 abbrev pub blocks_of : Condition → List ℕ
 blocks_of c = tested_blocks c ++ flat_map blocks_in (values_of c)
 

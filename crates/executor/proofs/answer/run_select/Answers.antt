@@ -24,28 +24,36 @@ use Rattle.executor.proofs.InnerRows.{can, surrounded, whole}
 use Rattle.executor.proofs.Outermost.{late_allowed, raise_allowed, text_allowed}
 use Rattle.executor.proofs.answer.run_select.Goals as goal
 
-pub run_plan-requires-clause-surrounded : goal.run_plan-requires-clause-surrounded
-run_plan-requires-clause-surrounded g c =
+pub run_block-requires-clause-surrounded : goal.run_block-requires-clause-surrounded
+run_block-requires-clause-surrounded g c =
     let query = c.args.query.now in
     let r : ReadyBlock = c.index-query-0.result in
     let at_block : slice_get query 0 ≡ Some r = slice_get-get_or query 0 r c.requires.outermost ∙ ap Some (sym c.index-query-0.is) in
     subst (IsSurrounded r.source) (sym c.new-frames.ensures) (surrounded query c.requires.query 0 r at_block [] c.requires.stands)
 
-pub run_plan-requires-clause-orders : goal.run_plan-requires-clause-orders
-run_plan-requires-clause-orders g c =
+pub run_block-requires-clause-orders : goal.run_block-requires-clause-orders
+run_block-requires-clause-orders g c =
     let query = c.args.query.now in
     let r : ReadyBlock = c.index-query-0.result in
     let at_block : slice_get query 0 ≡ Some r = slice_get-get_or query 0 r c.requires.outermost ∙ ap Some (sym c.index-query-0.is) in
     let ready : IsReady query 0 r = c.requires.query 0 r at_block in
     c.orders.ensures.exact ∙ ap (λ (s : Space). s.orders) ready.space
 
-pub run_plan-requires-clause-within : goal.run_plan-requires-clause-within
-run_plan-requires-clause-within g c =
+pub run_block-requires-clause-within : goal.run_block-requires-clause-within
+run_block-requires-clause-within g c =
     let query = c.args.query.now in
     let r : ReadyBlock = c.index-query-0.result in
     let at_block : slice_get query 0 ≡ Some r = slice_get-get_or query 0 r c.requires.outermost ∙ ap Some (sym c.index-query-0.is) in
     let ready : IsReady query 0 r = c.requires.query 0 r at_block in
     ready.within
+
+pub run_block-requires-clause-block : goal.run_block-requires-clause-block
+run_block-requires-clause-block g c =
+    let query = c.args.query.now in
+    let r : ReadyBlock = c.index-query-0.result in
+    let at_block : slice_get query 0 ≡ Some r = slice_get-get_or query 0 r c.requires.outermost ∙ ap Some (sym c.index-query-0.is) in
+    let ready : IsReady query 0 r = c.requires.query 0 r at_block in
+    ready.block
 
 pub take_rows-requires : goal.take_rows-requires
 take_rows-requires g c =

@@ -454,8 +454,8 @@ evaluate_block-returns-then-is_empty-2-clause-total g t c =
 
 -- ---- the rows of a block
 
-pub evaluate_block-run_sorted-requires-clause-surrounded : goal.evaluate_block-run_sorted-requires-clause-surrounded
-evaluate_block-run_sorted-requires-clause-surrounded g t c =
+pub evaluate_block-run_block-requires-clause-surrounded : goal.evaluate_block-run_block-requires-clause-surrounded
+evaluate_block-run_block-requires-clause-surrounded g t c =
     let query = c.args.query.now in
     let number = c.args.number in
     let outer = combinations_in c.args.frames.now in
@@ -463,8 +463,17 @@ evaluate_block-run_sorted-requires-clause-surrounded g t c =
     let at_block : slice_get query number ≡ Some r = slice_get-get_or query number r c.requires.number ∙ ap Some (sym c.index-query-number.is) in
     surrounded query c.requires.query number r at_block outer c.requires.stands
 
-pub evaluate_block-run_sorted-requires-clause-orders : goal.evaluate_block-run_sorted-requires-clause-orders
-evaluate_block-run_sorted-requires-clause-orders g t c =
+pub evaluate_block-run_block-requires-clause-block : goal.evaluate_block-run_block-requires-clause-block
+evaluate_block-run_block-requires-clause-block g t c =
+    let query = c.args.query.now in
+    let number = c.args.number in
+    let r : ReadyBlock = c.index-query-number.result in
+    let at_block : slice_get query number ≡ Some r = slice_get-get_or query number r c.requires.number ∙ ap Some (sym c.index-query-number.is) in
+    let ready : IsReady query number r = c.requires.query number r at_block in
+    ready.block
+
+pub evaluate_block-run_block-requires-clause-orders : goal.evaluate_block-run_block-requires-clause-orders
+evaluate_block-run_block-requires-clause-orders g t c =
     let query = c.args.query.now in
     let number = c.args.number in
     let outer = combinations_in c.args.frames.now in
@@ -473,8 +482,8 @@ evaluate_block-run_sorted-requires-clause-orders g t c =
     let ready : IsReady query number r = c.requires.query number r at_block in
     c.orders.ensures.exact ∙ ap (λ (s : Space). s.orders) ready.space
 
-pub evaluate_block-run_sorted-requires-clause-within : goal.evaluate_block-run_sorted-requires-clause-within
-evaluate_block-run_sorted-requires-clause-within g t c =
+pub evaluate_block-run_block-requires-clause-within : goal.evaluate_block-run_block-requires-clause-within
+evaluate_block-run_block-requires-clause-within g t c =
     let query = c.args.query.now in
     let number = c.args.number in
     let outer = combinations_in c.args.frames.now in
@@ -483,8 +492,8 @@ evaluate_block-run_sorted-requires-clause-within g t c =
     let ready : IsReady query number r = c.requires.query number r at_block in
     ready.within
 
-pub evaluate_block-run_sorted-requires-clause-sorted : goal.evaluate_block-run_sorted-requires-clause-sorted
-evaluate_block-run_sorted-requires-clause-sorted g t c =
+pub evaluate_block-run_block-requires-clause-sorted : goal.evaluate_block-run_block-requires-clause-sorted
+evaluate_block-run_block-requires-clause-sorted g t c =
     let query = c.args.query.now in
     let number = c.args.number in
     let r : ReadyBlock = c.index-query-number.result in

@@ -1,8 +1,8 @@
 use Rattle.std.proofs.Common.{◌≡◌, ◌++◌, drop}
-use Rattle.definitions_answers.specs.Seen.{compared_blocks}
+use Rattle.definitions.specs.Queries.Conjuncts.{compared_blocks}
 use Rattle.query_tree.specs.Bound.{condition_of}
-use Rattle.subqueries.proofs.Texts.{parts_compared}
-use Rattle.subqueries.proofs.block_text.+push_compared.Given as goal
+use Rattle.query_tree.proofs.Walked.{parts_compared}
+use Rattle.query_tree.proofs.walks.+push_compared.Given as goal
 
 abbrev pub decreases-push_compared : goal.decreases-push_compared
 decreases-push_compared l = goal.size-push_compared l
